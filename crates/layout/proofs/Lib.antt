@@ -1,0 +1,12 @@
+pub mod Hide
+pub mod Lawful
+pub mod Front
+pub mod Wrapped
+pub mod Ends
+pub mod Parts
+pub mod Nested
+pub mod Leb
+pub mod Derived
+pub mod Theorems
+pub mod Dwarf
+pub mod At

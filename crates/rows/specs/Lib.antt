@@ -1,0 +1,5 @@
+pub mod Utf8
+pub mod Values
+pub mod Checks
+pub mod Rows
+pub mod Proved

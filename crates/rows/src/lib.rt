@@ -1,0 +1,29 @@
+// What rows are made of: the enums behind their code bytes, and the sizes and limits that their layouts cite.
+
+// How a contact was paired.
+pub enum PairingRole {
+    A,
+    B,
+}
+
+pub enum Verification {
+    Unverified,
+    Verified,
+    Compromised,
+}
+
+// The direction of a message chain, named after the sender's Resume role.
+pub enum Dir {
+    I,
+    R,
+}
+
+pub const BLOB_VERSION: u32 = 3;
+
+pub const MODE_TOFU: u8 = 3;
+
+pub const MAX_NAME_LEN: usize = 48;
+
+pub const MLKEM768_ENCAPSULATION_KEY_LEN: usize = 1184;
+
+pub const MAX_SKIPPED: usize = 500;

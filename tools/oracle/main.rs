@@ -1,0 +1,111 @@
+//! The Rust originals, unchanged, and the comparisons with the Rattle inside their crate.
+extern crate alloc;
+extern crate self as cairn_crypto;
+extern crate self as subtle;
+extern crate self as zeroize;
+
+mod cards;
+mod compare;
+mod inputs;
+mod names;
+mod questions;
+mod rattle;
+mod samples;
+mod shims;
+mod tally;
+pub use shims::*;
+
+#[allow(dead_code)]
+#[path = "../../target/oracle/cairn/card.rs"]
+mod card;
+#[allow(dead_code)]
+#[path = "../../target/oracle/cairn/chain.rs"]
+mod chain;
+#[allow(dead_code)]
+#[path = "../../target/oracle/cairn/courier.rs"]
+mod courier;
+#[allow(dead_code)]
+#[path = "../../target/oracle/cairn/data.rs"]
+mod data;
+#[allow(dead_code)]
+#[path = "../../target/oracle/cairn/epoch.rs"]
+mod epoch;
+#[allow(dead_code)]
+#[path = "../../target/oracle/cairn/kdf.rs"]
+mod kdf;
+#[allow(dead_code)]
+#[path = "../../target/oracle/cairn/state.rs"]
+mod state;
+#[allow(dead_code)]
+#[path = "../../target/oracle/cairn/transfer.rs"]
+mod transfer;
+
+pub use epoch::{Epoch, ObjectKind, PairingRole};
+pub use transfer::ProgressRejected;
+
+/// Of core.rs, which leans on modules that are not here: two types, copied.
+#[allow(dead_code)]
+mod core {
+    #[derive(Debug, Clone, Copy, PartialEq, Eq, PartialOrd, Ord)]
+    pub struct ContactId(pub u64);
+
+    #[derive(Debug, Clone, Copy, PartialEq, Eq)]
+    pub enum Verification {
+        Unverified,
+        Verified,
+        Compromised,
+    }
+}
+
+/// Of pairing.rs: one struct, copied (`Contact::new` takes it apart).
+#[allow(dead_code)]
+mod pairing {
+    use crate::{PairingRole, Zeroizing, card::Card};
+
+    pub(crate) struct Paired {
+        pub(crate) role: PairingRole,
+        pub(crate) th: [u8; 48],
+        pub(crate) nonce_b: [u8; 16],
+        pub(crate) peer: Card,
+        pub(crate) pair_id: [u8; 16],
+        pub(crate) chain_key: Zeroizing<[u8; 32]>,
+        pub(crate) door_a_to_b: Zeroizing<[u8; 32]>,
+        pub(crate) door_b_to_a: Zeroizing<[u8; 32]>,
+        pub(crate) route_key: Zeroizing<[u8; 32]>,
+    }
+}
+
+/// resume.rs is not here; `data::Session::new` reads these two fields.
+#[allow(dead_code)]
+mod resume {
+    use crate::Zeroizing;
+
+    pub(crate) struct Keys {
+        pub(crate) i_to_r: Zeroizing<[u8; 32]>,
+        pub(crate) r_to_i: Zeroizing<[u8; 32]>,
+    }
+}
+
+const USAGE: &str = "usage: oracle all|leb128|utf8|card [SEED]\n       oracle samples DIR";
+
+fn main() -> std::process::ExitCode {
+    let words: Vec<String> = std::env::args().skip(1).collect();
+    let words: Vec<&str> = words.iter().map(String::as_str).collect();
+    let same = match words[..] {
+        ["samples", folder] => samples::write(folder.as_ref()).map(|()| true),
+        [name] => compare::run(name, 1),
+        [name, seed] => match seed.parse() {
+            Ok(seed) => compare::run(name, seed),
+            Err(_) => Err(USAGE.into()),
+        },
+        _ => Err(USAGE.into()),
+    };
+    match same {
+        Ok(true) => 0.into(),
+        Ok(false) => 1.into(),
+        Err(message) => {
+            eprintln!("{message}");
+            2.into()
+        }
+    }
+}

@@ -1,0 +1,151 @@
+//! A model of the numbered questions in the terms of document 01, RFC 3629 and DWARF 5. It shares no
+//! code with the Rust or the Rattle, and says which number a refusal has where the Rust only refuses.
+
+/// Field wholly in the row?
+pub const WHOLE: u32 = 4;
+/// Caps bits 2 to 7 clear?
+pub const CAPS: u32 = 7;
+/// Name length at most 48?
+pub const NAME_LENGTH: u32 = 8;
+/// Name UTF-8?
+pub const NAME: u32 = 9;
+/// Card used up?
+pub const USED_UP: u32 = 10;
+/// LEB128 minimal, at most 2^32 - 1?
+pub const LEB128: u32 = 12;
+
+/// The value at the front of `input` and the bytes it takes, or the question's number.
+pub fn read_leb128(input: &[u8]) -> Result<(u32, usize), u32> {
+    let front = &input[..input.len().min(5)];
+    let last = match front.iter().position(|byte| *byte < 0x80) {
+        Some(last) => last,
+        // Without an end: a fifth byte is above 0f; a byte before it goes on to one that is missing.
+        None if front.len() == 5 => return Err(LEB128),
+        None => return Err(WHOLE),
+    };
+    if last == 4 && front[4] > 0x0f || last > 0 && front[last] == 0 {
+        return Err(LEB128);
+    }
+    // DWARF 5, 7.6: seven bits a byte, the lowest first.
+    let value = front[..=last]
+        .iter()
+        .rev()
+        .fold(0u64, |value, byte| value * 128 + u64::from(byte % 128));
+    let value = u32::try_from(value).expect("four groups of seven bits and one of four");
+    Ok((value, last + 1))
+}
+
+/// The fewest groups of seven bits that hold `value`, each but the last marked as followed.
+pub fn leb128(value: u32) -> Vec<u8> {
+    let value = u64::from(value);
+    let size = (1..)
+        .find(|size| value < 128u64.pow(*size))
+        .expect("five groups hold 35 bits");
+    (0..size)
+        .map(|index| {
+            let group = (value / 128u64.pow(index) % 128) as u8;
+            if index + 1 < size { group + 128 } else { group }
+        })
+        .collect()
+}
+
+/// RFC 3629, section 4: the first byte's range, the second's if there is one, and how many tails follow.
+const FORMS: [((u8, u8), Option<(u8, u8)>, usize); 9] = [
+    ((0x00, 0x7f), None, 0),
+    ((0xc2, 0xdf), Some((0x80, 0xbf)), 0),
+    ((0xe0, 0xe0), Some((0xa0, 0xbf)), 1),
+    ((0xe1, 0xec), Some((0x80, 0xbf)), 1),
+    ((0xed, 0xed), Some((0x80, 0x9f)), 1),
+    ((0xee, 0xef), Some((0x80, 0xbf)), 1),
+    ((0xf0, 0xf0), Some((0x90, 0xbf)), 2),
+    ((0xf1, 0xf3), Some((0x80, 0xbf)), 2),
+    ((0xf4, 0xf4), Some((0x80, 0x8f)), 2),
+];
+
+fn within(byte: u8, (low, high): (u8, u8)) -> bool {
+    low <= byte && byte <= high
+}
+
+/// What follows the character at the front of a text that is not empty, if one is there.
+fn after_character(text: &[u8]) -> Option<&[u8]> {
+    let (first, rest) = text.split_first()?;
+    let (_, second, tails) = FORMS.iter().find(|(range, _, _)| within(*first, *range))?;
+    let rest = match second {
+        None => rest,
+        Some(range) => {
+            let (byte, rest) = rest.split_first()?;
+            within(*byte, *range).then_some(rest)?
+        }
+    };
+    let (tail, rest) = rest.split_at_checked(*tails)?;
+    tail.iter()
+        .all(|byte| within(*byte, (0x80, 0xbf)))
+        .then_some(rest)
+}
+
+/// Whether `text` is a sequence of characters in UTF-8.
+pub fn utf8(mut text: &[u8]) -> bool {
+    while !text.is_empty() {
+        match after_character(text) {
+            Some(rest) => text = rest,
+            None => return false,
+        }
+    }
+    true
+}
+
+/// A card's fields, as parts of the row.
+pub struct Card<'a> {
+    caps: u8,
+    beacon_day: u32,
+    beacon_key: &'a [u8],
+    name: &'a [u8],
+    static_key: Option<&'a [u8]>,
+}
+
+/// The next `size` bytes as a field; question 4.
+fn field<'a>(row: &mut &'a [u8], size: usize) -> Result<&'a [u8], u32> {
+    let (field, rest) = row.split_at_checked(size).ok_or(WHOLE)?;
+    *row = rest;
+    Ok(field)
+}
+
+fn ask(number: u32, yes: bool) -> Result<(), u32> {
+    if yes { Ok(()) } else { Err(number) }
+}
+
+/// The card that fills `row`, or the number of the first question whose answer is no.
+pub fn read_card(mut row: &[u8]) -> Result<Card<'_>, u32> {
+    let caps = field(&mut row, 1)?[0];
+    ask(CAPS, caps < 4)?;
+    let day = field(&mut row, 4)?;
+    let beacon_key = field(&mut row, 32)?;
+    let length = field(&mut row, 1)?[0];
+    ask(NAME_LENGTH, length <= 48)?;
+    let name = field(&mut row, length.into())?;
+    ask(NAME, utf8(name))?;
+    let static_key = match caps >= 2 {
+        true => Some(field(&mut row, 1184)?),
+        false => None,
+    };
+    ask(USED_UP, row.is_empty())?;
+    Ok(Card {
+        caps,
+        beacon_day: day.iter().fold(0, |day, byte| day * 256 + u32::from(*byte)),
+        beacon_key,
+        name,
+        static_key,
+    })
+}
+
+/// The row of `card`.
+pub fn card_row(card: &Card<'_>) -> Vec<u8> {
+    let day = [24, 16, 8, 0].map(|shift| (card.beacon_day >> shift) as u8);
+    let mut row = vec![card.caps];
+    row.extend(day);
+    row.extend(card.beacon_key);
+    row.push(card.name.len() as u8);
+    row.extend(card.name);
+    row.extend(card.static_key.unwrap_or_default());
+    row
+}
