@@ -1,6 +1,6 @@
 -- What each answer of a field's reader says: the number of the question for a refusal, the value and the next position otherwise.
 -- Assumes nothing.
-use Prim.Native.Nat.{ℕ}
+use Prim.Native.Nat.{ℕ, _≤_}
 use mathlib.Core.List.{List}
 use mathlib.Core.Bool.{Bool}
 use lib.Seq.{slice}
@@ -34,6 +34,11 @@ use Rattle.fields.specs.declared.DirField.the-variants as dir
 abbrev pub runSays : List ℕ → RunField → Field (List ℕ)
 runSays row (run.Value start next) = takes (slice start next row) next
 runSays row run.Short = refuses FIELD
+
+-- it starts where it ends, or before
+abbrev pub Ordered : RunField → Type 0
+Ordered (run.Value start next) = start ≤ next
+Ordered run.Short = Unit {0}
 
 abbrev pub u8Says : U8Field → Field ℕ
 u8Says (u8.Value x next) = takes x next

@@ -28,6 +28,7 @@ learn says p q = sym p ∙ ap says q
 pub record Took {B : Type 0} (f : Form B) (row : List ℕ) (here : ℕ) (b : B) (next : ℕ) : Type 0 where
   pub reads : f .read (drop here row) ≡ value b (drop next row)
   pub inside : next ≤ length row
+  pub onward : here ≤ length row → here ≤ next
 
 -- a slice of bytes is bytes
 pub typed : (row : List ℕ) → ((i : ℕ) → Fits w8 (getD row i 0)) → Bytes row
@@ -60,7 +61,7 @@ module _ (row : List ℕ) (here : ℕ) where
             let left : drop n (drop here row) ≡ rest = ap (λ (l : List ℕ). drop n l) (sym j) ∙ drop-at (f .print c) rest n refl in
             let place : length row - length rest ≡ next = cc in
             let same : c ≡ b = cc in
-            record { reads = rw (h, same, ← place, left-at n rest long left); inside = omega arith }
+            record { reads = rw (h, same, ← place, left-at n rest long left); inside = omega arith; onward = λ l. omega arith }
         go (refused q) h e = absurd (takes≢refuses (sym e))
 
     -- and the value fits

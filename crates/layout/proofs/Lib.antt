@@ -10,3 +10,4 @@ pub mod Derived
 pub mod Theorems
 pub mod Dwarf
 pub mod At
+pub mod Steps

@@ -5,4 +5,5 @@ pub mod Form
 pub mod Layout
 pub mod Field
 pub mod RowLaws
+pub mod Write
 pub mod Dwarf

@@ -1,2 +1,5 @@
+pub mod Scalars
 pub mod Lawful
 pub mod Rows
+pub mod Cases
+pub mod Samples

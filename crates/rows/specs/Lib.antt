@@ -1,5 +1,7 @@
 pub mod Utf8
+pub mod Scalars
 pub mod Values
 pub mod Checks
 pub mod Rows
 pub mod Proved
+pub mod Cases

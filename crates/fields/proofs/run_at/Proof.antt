@@ -11,16 +11,16 @@ add-t8 : tie.Need-add-t8
 add-t8 c = search needs
 
 returns : tie.Need-returns
-returns c = sym (run-in _ _ _ plain (omega arith))
+returns c = (sym (run-in _ _ _ plain (omega arith)), omega arith)
 
 returns-2 : tie.Need-returns-2
-returns-2 c = sym (bytes-out _ _ _ plain (omega arith) (omega arith))
+returns-2 c = (sym (bytes-out _ _ _ plain (omega arith) (omega arith)), tt)
 
 returns-3 : tie.Need-returns-3
-returns-3 c = rw (c .if3 .taken) (sym (run-none _ _ plain (omega arith)))
+returns-3 c = (rw (c .if3 .taken) (sym (run-none _ _ plain (omega arith))), omega arith)
 
 returns-4 : tie.Need-returns-4
-returns-4 c = sym (bytes-out _ _ _ plain (omega arith) (omega arith))
+returns-4 c = (sym (bytes-out _ _ _ plain (omega arith) (omega arith)), tt)
 
 pub run-at-spec : {M : Type 1} → statement M
 run-at-spec = tie.close (tie.spec add-t8 returns returns-2 returns-3 returns-4)

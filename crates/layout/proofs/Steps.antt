@@ -1,0 +1,80 @@
+-- How far a reader has come: what is left of the layout, and where. A reader's proof takes one of these steps for each field and question.
+-- Assumes nothing.
+use Prim.Native.Nat.{ℕ, suc, _+_, _≤_, _<_}
+use mathlib.Core.List.{List, [], _∷_}
+use mathlib.Core.Bool.{Bool, true, false, cond}
+use mathlib.Core.Option.{Option, none, some}
+use mathlib.Core.Path.{_≡_, refl, ap, _∙_}
+use native.Mathlib.Omega.{arith}
+use lib.ListN.{length, getD, drop, drop-of-length-le}
+use lib.Seq.{drop-cons}
+use Rattle.layout.specs.Read.{Read, value, refused, andThen}
+use Rattle.layout.specs.Form.{Form, noMore, onlyIf}
+use Rattle.layout.specs.Layout.{Layout, done, field, ask, end, parse}
+use Rattle.layout.proofs.At.{Took}
+
+-- reading l at `from` is reading `rest` at `here`
+pub record Came {A : Type 0} (l : Layout A) (row : List ℕ) (from : ℕ) (rest : Layout A) (here : ℕ) : Type 0 where
+  pub same : parse l (drop from row) ≡ parse rest (drop here row)
+
+pub record Reached {A : Type 0} (l : Layout A) (row : List ℕ) (from : ℕ) : Type 1 where
+  pub rest : Layout A
+  pub here : ℕ
+  pub so : Came l row from rest here
+
+abbrev pub start : {A : Type 0} {l : Layout A} {row : List ℕ} {from : ℕ} → Reached l row from
+start {l = l} {from = from} = record { rest = l; here = from; so = record { same = refl } }
+
+-- ---- one node of a layout
+module _ {A : Type 0} (row : List ℕ) where
+  pub field-is : {B : Type 0} (f : Form B) (get : A → B) (k : B → Layout A) (x : Read B) → f .read row ≡ x → parse (field f get k) row ≡ andThen x (λ b rest. parse (k b) rest)
+  unfolding parse
+  field-is {B} f get k x e = ap (λ (y : Read B). andThen y (λ b rest. parse (k b) rest)) e
+
+  pub ask-is : (q : ℕ) (t u : Bool) (k : Layout A) → t ≡ u → parse (ask q t k) row ≡ cond u (parse k row) (refused q)
+  unfolding parse
+  ask-is q t u k e = ap (λ (b : Bool). cond b (parse k row) (refused q)) e
+
+  done-is : (a : A) → parse (done a) row ≡ value a row
+  unfolding parse
+  done-is a = refl
+
+-- ---- the steps: on, or to the refusal
+module _ {A : Type 0} {l : Layout A} {row : List ℕ} {from here : ℕ} where
+  module _ {B : Type 0} {f : Form B} {get : A → B} {k : B → Layout A} (so : Came l row from (field f get k) here) where
+    abbrev pub field-yes : {b : B} {next : ℕ} → Took f row here b next → Reached l row from
+    field-yes {b} {next} t = record { rest = k b; here = next; so = record { same = so .same ∙ field-is (drop here row) f get k (value b (drop next row)) (t .reads) } }
+
+    pub field-no : {q : ℕ} → f .read (drop here row) ≡ refused q → parse l (drop from row) ≡ refused q
+    field-no {q} e = so .same ∙ field-is (drop here row) f get k (refused q) e
+
+  module _ {q : ℕ} {t : Bool} {k : Layout A} (so : Came l row from (ask q t k) here) where
+    abbrev pub ask-yes : t ≡ true → Reached l row from
+    ask-yes e = record { rest = k; here = here; so = record { same = so .same ∙ ask-is (drop here row) q t true k e } }
+
+    pub ask-no : t ≡ false → parse l (drop from row) ≡ refused q
+    ask-no e = so .same ∙ ask-is (drop here row) q t false k e
+
+  module _ {q : ℕ} {k : Layout A} (so : Came l row from (end q k) here) where
+    abbrev pub end-yes : length row ≤ here → Reached l row from
+    end-yes e = record { rest = k; here = here; so = record { same = so .same ∙ ended (drop-of-length-le row e) } }
+      where
+        ended : drop here row ≡ [] → parse (end q k) (drop here row) ≡ parse k (drop here row)
+        ended h = rw h (field-is [] (noMore q) (λ v. tt) (λ u. k) (value tt []) refl)
+
+    pub end-no : here < length row → parse l (drop from row) ≡ refused q
+    end-no e = so .same ∙ rw (drop-cons row here 0 e) (field-is (getD row here 0 ∷ drop (suc here) row) (noMore q) (λ v. tt) (λ u. k) (refused q) refl)
+
+  pub done-yes : {a : A} → Came l row from (done a) here → parse l (drop from row) ≡ value a (drop here row)
+  done-yes {a} so = so .same ∙ done-is (drop here row) a
+
+-- ---- a part that is there or not
+module _ {B : Type 0} (f : Form B) (row : List ℕ) (here : ℕ) (t : Bool) where
+  pub if-yes : {b : B} {next : ℕ} → t ≡ true → Took f row here b next → Took (onlyIf f t) row here (some b) next
+  if-yes h u = record { reads = rw (h, u .reads); inside = u .inside; onward = u .onward }
+
+  pub if-not : t ≡ false → here ≤ length row → Took (onlyIf f t) row here none here
+  if-not h i = record { reads = rw h; inside = i; onward = λ l. omega arith }
+
+  pub if-no : {q : ℕ} → t ≡ true → f .read (drop here row) ≡ refused q → (onlyIf f t) .read (drop here row) ≡ refused q
+  if-no h e = rw (h, e)
