@@ -1,20 +1,19 @@
 // Contact cards, as card.rs has them: decode and encode.
 use fields::RunField;
-use fields::U32Field;
 use fields::U8Field;
+use fields::U32Field;
 use layout::question;
 ghost use mathlib.Core.Path.{_≡_};
-ghost use mathlib.Core.Bool.{true, false};
 ghost use Prim.Native.Nat.{_+_, _≤_};
 ghost use lib.ListN.{length, take, drop};
 ghost use Rattle.layout.specs.Veil.{plain};
 ghost use Rattle.layout.specs.Form.{bytes, onlyIf};
 ghost use Rattle.layout.specs.Field.{readAt};
-ghost use Rattle.layout.specs.Layout.{readRow};
+ghost use Rattle.layout.specs.Layout.{group, readRow};
 ghost use Rattle.layout.specs.Write.{writes};
 ghost use Rattle.rows.specs.Checks.{kci};
-ghost use Rattle.rows.specs.Rows.{cardRow};
-ghost use Rattle.card.specs.Card.{keySays, checkSays, cardFrom, decoded, image, leaves};
+ghost use Rattle.rows.specs.Rows.{card, cardRow};
+ghost use Rattle.card.specs.Card.{keySays, KeyPlaced, fieldSays, FieldPlaced, fieldRefusal, checkSays, Placed, checkRefusal};
 
 // A card. name_len says how much of name is a value, and bit 1 of caps (KCI) whether static_ek is one: what is left out is 0.
 pub struct Card {
@@ -36,6 +35,11 @@ pub struct CardAt {
     pub name_len: u8,
 }
 
+enum CardField {
+    Value(CardAt, usize),
+    Refused(u8),
+}
+
 pub enum CardCheck {
     Fields(CardAt),
     Refused(u8),
@@ -55,4 +59,97 @@ pub struct Decoded {
 pub enum Written {
     Length(usize),
     Refused(u8),
+}
+
+impl CardCheck {
+    // The question that refused; 0 where none did.
+    fn refusal(self) -> u8
+        ensures { λ r. ⌜ r ≡ checkRefusal self ⌝ }
+    {
+        match self {
+            CardCheck::Refused(q) => q,
+            CardCheck::Fields(_) => 0,
+        }
+    }
+}
+
+impl CardField {
+    // The question that refused; 0 where none did.
+    fn refusal(self) -> u8
+        ensures { λ r. ⌜ r ≡ fieldRefusal self ⌝ }
+    {
+        match self {
+            CardField::Refused(q) => q,
+            CardField::Value(_, _) => 0,
+        }
+    }
+}
+
+// The key, where caps calls for one; no bytes where it does not.
+fn static_ek_at(input: &[u8], at: usize, caps: u8) -> RunField
+    requires { ⌜ at ≤ length (now input) ⌝ }
+    ensures { λ r. ⌜ (keySays caps (now (input .entry)) r ≡ readAt (onlyIf (bytes plain 1184) (kci caps)) (now (input .entry)) at) × KeyPlaced caps (now (input .entry)) r ⌝ }
+{
+    if caps / 2 % 2 == 1 {
+        return fields::run_at(input, at, rows::MLKEM768_ENCAPSULATION_KEY_LEN);
+    }
+    RunField::Value(at, at)
+}
+
+// The card's fields, and the position after them.
+fn card_at(input: &[u8]) -> CardField
+    ensures { λ r. ⌜ (fieldSays (now (input .entry)) r ≡ readAt (group card) (now (input .entry)) 0) × FieldPlaced (now (input .entry)) r ⌝ }
+{
+    let U8Field::Value(caps, at1) = fields::byte_at(input, 0) else {
+        return CardField::Refused(question::FIELD);
+    };
+    if 4 <= caps {
+        return CardField::Refused(question::CAPS);
+    }
+    let U32Field::Value(beacon_day, at2) = fields::u32_at(input, at1) else {
+        return CardField::Refused(question::FIELD);
+    };
+    let RunField::Value(beacon_key, at3) = fields::run_at(input, at2, 32) else {
+        return CardField::Refused(question::FIELD);
+    };
+    let U8Field::Value(name_len, at4) = fields::byte_at(input, at3) else {
+        return CardField::Refused(question::FIELD);
+    };
+    if rows::MAX_NAME_LEN < name_len as usize {
+        return CardField::Refused(question::NAME_LENGTH);
+    }
+    let RunField::Value(name, at5) = fields::run_at(input, at4, name_len as usize) else {
+        return CardField::Refused(question::FIELD);
+    };
+    if !names::is_utf8(&input[name..at5]) {
+        return CardField::Refused(question::NAME_UTF8);
+    }
+    let RunField::Value(static_ek, at6) = static_ek_at(input, at5, caps) else {
+        return CardField::Refused(question::FIELD);
+    };
+    CardField::Value(
+        CardAt {
+            beacon_key,
+            name,
+            static_ek,
+            beacon_day,
+            caps,
+            name_len,
+        },
+        at6,
+    )
+}
+
+// The questions of a card that stands alone; nothing is copied.
+pub fn check_card(input: &[u8]) -> CardCheck
+    ensures { λ r. ⌜ (checkSays (now (input .entry)) r ≡ readRow cardRow (now (input .entry))) × Placed (now (input .entry)) r ⌝ }
+{
+    let card = card_at(input);
+    let CardField::Value(at, next) = card else {
+        return CardCheck::Refused(card.refusal());
+    };
+    if next < input.len() {
+        return CardCheck::Refused(question::CARD_END);
+    }
+    CardCheck::Fields(at)
 }

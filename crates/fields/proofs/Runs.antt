@@ -3,8 +3,7 @@
 use Prim.Native.Nat.{ℕ}
 use mathlib.Core.List.{List}
 use mathlib.Core.Path.{_≡_}
-use lib.ListN.{drop}
-use lib.Seq.{slice}
+use lib.ListN.{take, drop}
 use Rattle.layout.specs.Questions.{FIELD}
 use Rattle.layout.specs.Read.{refused}
 use Rattle.layout.specs.Veil.{Sensitivity, plain}
@@ -17,11 +16,11 @@ use Rattle.fields.specs.Says.{runSays}
 use Rattle.fields.specs.declared.RunField.{RunField}
 use Rattle.fields.specs.declared.RunField.the-variants.{Value, Short}
 
-module _ (row : List ℕ) (here : ℕ) (s : Sensitivity) (n : ℕ) {r : RunField} (answer : runSays row r ≡ readAt (bytes plain n) row here) where
-  pub run-took : Bytes row → {start next : ℕ} → r ≡ Value start next → Took (bytes s n) row here (slice start next row) next
+module _ (row : List ℕ) (here : ℕ) (s : Sensitivity) (n : ℕ) {r : RunField} (answer : runSays n row r ≡ readAt (bytes plain n) row here) where
+  pub run-took : Bytes row → {start next : ℕ} → r ≡ Value start next → Took (bytes s n) row here (take n (drop start row)) next
   run-took by known =
-      let t = took row here (bytes plain n) (bytes-lawful plain n) by (learn (runSays row) answer known) in
+      let t = took row here (bytes plain n) (bytes-lawful plain n) by (learn (runSays n row) answer known) in
       record { reads = t .reads; inside = t .inside; onward = t .onward }
 
   pub run-short : r ≡ Short → (bytes s n) .read (drop here row) ≡ refused FIELD
-  run-short known = refused-at row here (bytes plain n) (learn (runSays row) answer known)
+  run-short known = refused-at row here (bytes plain n) (learn (runSays n row) answer known)

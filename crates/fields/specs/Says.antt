@@ -1,9 +1,10 @@
 -- What each answer of a field's reader says: the number of the question for a refusal, the value and the next position otherwise.
 -- Assumes nothing.
-use Prim.Native.Nat.{ℕ, _≤_}
+use Prim.Native.Nat.{ℕ, _+_}
 use mathlib.Core.List.{List}
 use mathlib.Core.Bool.{Bool}
-use lib.Seq.{slice}
+use mathlib.Core.Path.{_≡_}
+use lib.ListN.{take, drop}
 use Rattle.layout.specs.Questions.{FIELD}
 use Rattle.layout.specs.Field.{Field, takes, refuses}
 use Rattle.rows.specs.declared.PairingRole.{PairingRole}
@@ -30,15 +31,14 @@ use Rattle.fields.specs.declared.VerificationField.the-variants as verif
 use Rattle.fields.specs.declared.DirField.{DirField}
 use Rattle.fields.specs.declared.DirField.the-variants as dir
 
--- a run is what stands from its start up to its end
-abbrev pub runSays : List ℕ → RunField → Field (List ℕ)
-runSays row (run.Value start next) = takes (slice start next row) next
-runSays row run.Short = refuses FIELD
+-- a run of n bytes: those from its start on
+abbrev pub runSays : ℕ → List ℕ → RunField → Field (List ℕ)
+runSays n row (run.Value start next) = takes (take n (drop start row)) next
+runSays n row run.Short = refuses FIELD
 
--- it starts where it ends, or before
-abbrev pub Ordered : RunField → Type 0
-Ordered (run.Value start next) = start ≤ next
-Ordered run.Short = Unit {0}
+abbrev pub Ends : ℕ → RunField → Type 0
+Ends n (run.Value start next) = next ≡ start + n
+Ends n run.Short = Unit {0}
 
 abbrev pub u8Says : U8Field → Field ℕ
 u8Says (u8.Value x next) = takes x next

@@ -10,7 +10,7 @@ ghost use Rattle.layout.specs.Veil.{plain};
 ghost use Rattle.layout.specs.Form.{bigEndian, bytes, number, u8, u16, u32, u64, flag};
 ghost use Rattle.layout.specs.Field.{readAt};
 ghost use Rattle.rows.specs.Rows.{role, mode, verification, dir};
-ghost use Rattle.fields.specs.Says.{runSays, Ordered, u8Says, u16Says, u32Says, u64Says, flagSays, roleSays, modeSays, verificationSays, dirSays};
+ghost use Rattle.fields.specs.Says.{runSays, Ends, u8Says, u16Says, u32Says, u64Says, flagSays, roleSays, modeSays, verificationSays, dirSays};
 
 // Where a run of bytes starts, and where it ends: the next position. Short: it is not wholly in the row.
 pub enum RunField {
@@ -66,7 +66,7 @@ pub enum DirField {
 
 // The n bytes at a position. Past the row's end there is nothing, which is enough for no bytes.
 pub fn run_at(row: &[u8], at: usize, n: usize) -> RunField
-    ensures { λ r. ⌜ (runSays (now (row .entry)) r ≡ readAt (bytes plain n) (now (row .entry)) at) × Ordered r ⌝ }
+    ensures { λ r. ⌜ (runSays n (now (row .entry)) r ≡ readAt (bytes plain n) (now (row .entry)) at) × Ends n r ⌝ }
 {
     let len = row.len();
     if at <= len {

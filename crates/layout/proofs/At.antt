@@ -6,9 +6,9 @@ use mathlib.Core.Bool.{Bool, true, false, cond}
 use mathlib.Core.Option.{Option, none, some}
 use mathlib.Core.Path.{_≡_, refl, sym, ap, _∙_}
 use native.Mathlib.Omega.{arith}
-use native.Mathlib.Nat.{zero-mul, zero-add, add-zero, suc-add}
+use native.Mathlib.Nat.{zero-mul, zero-add, add-zero}
 use lib.ListN.{length, getD, take, drop, length-append, length-drop, drop-of-length-le}
-use lib.Seq.{getD-take, getD-drop, drop-drop, drop-cons, drop-at, take-nil, slice, slice-empty}
+use lib.Seq.{getD-take, getD-drop, drop-drop, drop-cons, drop-at}
 use mir.Val.{Fits}
 use mir.Syntax.{w8}
 use borrow.Author.Tests.{le-leb, lt-leb}
@@ -86,11 +86,6 @@ module _ (row : List ℕ) (here : ℕ) where
     refuses-at e = rw e
 
 -- ---- fields of n bytes: they lie in the row, or do not
-pub slice-part : (from n : ℕ) (row : List ℕ) → slice from (from + n) row ≡ take n (drop from row)
-slice-part zero n row = rw zero-add
-slice-part (suc from) n [] = rw (suc-add, take-nil)
-slice-part (suc from) n (x ∷ xs) = rw suc-add (slice-part from n xs)
-
 module _ (row : List ℕ) (here n : ℕ) where
   room : here + n ≤ length row → n ≤ length (drop here row)
   room h = rw length-drop (omega arith)
@@ -104,10 +99,6 @@ module _ (row : List ℕ) (here n : ℕ) where
   pub bytes-out : (s : Sensitivity) → length row < here + n → 0 < n → readAt (bytes s n) row here ≡ refuses FIELD
   bytes-out s h z = refuses-at row here (bytes s n) (rw (lt-leb n (length (drop here row)) (short h z)))
 
-  -- as the part of the row from `here` up to `here + n`
-  pub run-in : (s : Sensitivity) → here + n ≤ length row → readAt (bytes s n) row here ≡ takes (slice here (here + n) row) (here + n)
-  run-in s h = rw (slice-part here n row) (bytes-in s h)
-
   module _ {B : Type 0} (q : ℕ) (of : List ℕ → Option B) (to : B → List ℕ) (ok : B → Type 0) where
     pub code-in : {b : B} → here + n ≤ length row → of (take n (drop here row)) ≡ some b → readAt (code n q of to ok) row here ≡ takes b (here + n)
     code-in h e = takes-at row here (code n q of to ok) (rw (le-leb n (length (drop here row)) (room h), e, drop-drop n here row)) h
@@ -119,9 +110,8 @@ module _ (row : List ℕ) (here n : ℕ) where
     code-out h z = refuses-at row here (code n q of to ok) (rw (lt-leb n (length (drop here row)) (short h z)))
 
 -- no bytes, past the row's end
-pub run-none : (row : List ℕ) (here : ℕ) (s : Sensitivity) → length row ≤ here → readAt (bytes s 0) row here ≡ takes (slice (length row) (length row) row) (length row)
-run-none row here s h =
-    takes-at row here (bytes s 0) (rw (slice-empty (length row) row, drop-of-length-le row {i = here} h, drop-of-length-le row {i = length row} (omega arith))) (omega arith)
+pub bytes-none : (row : List ℕ) (here : ℕ) (s : Sensitivity) → length row ≤ here → readAt (bytes s 0) row here ≡ takes [] (length row)
+bytes-none row here s h = takes-at row here (bytes s 0) (rw (drop-of-length-le row {i = here} h, drop-of-length-le row {i = length row} (omega arith))) (omega arith)
 
 -- ---- numbers of w bytes
 big-take : (w n : ℕ) (bs : List ℕ) → w ≤ n → bigEndian w (take n bs) ≡ bigEndian w bs

@@ -30,5 +30,13 @@ module _ {A : Type 0} where
   judged (accepted v) row out = stored row out
   judged (refusedBy q) row out = record { answer = refuses q; out = out }
 
+  -- what is asked before the output: the row's length, or the refusal
+  abbrev pub sized : Answer A → ℕ → Written
+  sized (accepted v) n = wrote n
+  sized (refusedBy q) n = refuses q
+
+  unfoldable pub asked : Layout A → List ℕ → Written
+  asked l row = sized (readRow l row) (length row)
+
   unfoldable pub writes : Layout A → List ℕ → List ℕ → Left
   writes l row out = judged (readRow l row) row out
