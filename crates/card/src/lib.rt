@@ -4,16 +4,17 @@ use fields::U8Field;
 use fields::U32Field;
 use layout::question;
 ghost use mathlib.Core.Path.{_≡_};
-ghost use Prim.Native.Nat.{_+_, _≤_};
+ghost use mathlib.Core.List.{_++_};
+ghost use Prim.Native.Nat.{_+_, _-_, _≤_};
 ghost use lib.ListN.{length, take, drop};
-ghost use Rattle.layout.specs.Veil.{plain};
+ghost use Rattle.layout.specs.Veil.{plain, zeros};
 ghost use Rattle.layout.specs.Form.{bytes, onlyIf};
 ghost use Rattle.layout.specs.Field.{readAt};
 ghost use Rattle.layout.specs.Layout.{group, readRow};
 ghost use Rattle.layout.specs.Write.{writes};
 ghost use Rattle.rows.specs.Checks.{kci};
 ghost use Rattle.rows.specs.Rows.{card, cardRow};
-ghost use Rattle.card.specs.Card.{keySays, KeyPlaced, fieldSays, FieldPlaced, fieldRefusal, checkSays, Placed, checkRefusal};
+ghost use Rattle.card.specs.Card.{keySays, KeyPlaced, fieldSays, FieldPlaced, fieldRefusal, checkSays, Placed, checkRefusal, Places, cardFrom, cardOf, zeroCard, decoded};
 
 // A card. name_len says how much of name is a value, and bit 1 of caps (KCI) whether static_ek is one: what is left out is 0.
 pub struct Card {
@@ -152,4 +153,85 @@ pub fn check_card(input: &[u8]) -> CardCheck
         return CardCheck::Refused(question::CARD_END);
     }
     CardCheck::Fields(at)
+}
+
+// The n bytes of input from a place, and zeros.
+fn beacon_key_from(input: &[u8], from: usize) -> [u8; 32]
+    requires { ⌜ from + 32 ≤ length (now input) ⌝ }
+    ensures { λ r. ⌜ r ≡ take 32 (drop from (now (input .entry))) ⌝ }
+{
+    let mut key = [0u8; 32];
+    put::put_run(&mut key, 0, input, from, 32);
+    key
+}
+
+fn name_from(input: &[u8], from: usize, n: usize) -> [u8; 48]
+    requires { ⌜ (n ≤ 48) × (from + n ≤ length (now input)) ⌝ }
+    ensures { λ r. ⌜ r ≡ take n (drop from (now (input .entry))) ++ zeros (48 - n) ⌝ }
+{
+    let mut name = [0u8; 48];
+    put::put_run(&mut name, 0, input, from, n);
+    name
+}
+
+fn static_ek_from(input: &[u8], from: usize) -> [u8; 1184]
+    requires { ⌜ from + 1184 ≤ length (now input) ⌝ }
+    ensures { λ r. ⌜ r ≡ take 1184 (drop from (now (input .entry))) ⌝ }
+{
+    let mut key = [0u8; 1184];
+    put::put_run(&mut key, 0, input, from, rows::MLKEM768_ENCAPSULATION_KEY_LEN);
+    key
+}
+
+// The card at the places that check_card found.
+pub fn card_from(input: &[u8], at: CardAt) -> Card
+    requires { ⌜ Places (now input) at ⌝ }
+    ensures { λ r. ⌜ r ≡ cardOf (cardFrom (now (input .entry)) at) ⌝ }
+{
+    let beacon_key = beacon_key_from(input, at.beacon_key);
+    let name = name_from(input, at.name, at.name_len as usize);
+    let mut static_ek = [0u8; 1184];
+    if at.caps / 2 % 2 == 1 {
+        static_ek = static_ek_from(input, at.static_ek);
+    }
+    Card {
+        beacon_day: at.beacon_day,
+        caps: at.caps,
+        name_len: at.name_len,
+        beacon_key,
+        name,
+        static_ek,
+    }
+}
+
+impl Card {
+    // All zeros: what stands where no card was read.
+    fn zero() -> Card
+        ensures { λ r. ⌜ r ≡ zeroCard ⌝ }
+    {
+        Card {
+            beacon_day: 0,
+            caps: 0,
+            name_len: 0,
+            beacon_key: [0; 32],
+            name: [0; 48],
+            static_ek: [0; 1184],
+        }
+    }
+
+    pub fn decode(input: &[u8]) -> Decoded
+        ensures { λ r. ⌜ r ≡ decoded (readRow cardRow (now (input .entry))) ⌝ }
+    {
+        let check = check_card(input);
+        let CardCheck::Fields(at) = check else {
+            return Decoded {
+                verdict: Verdict::Refused(check.refusal()),
+                card: Card::zero(),
+            };
+        };
+        Decoded {
+            verdict: Verdict::Accepted,
+            card: card_from(input, at),
+        }
+    }
 }

@@ -1,16 +1,17 @@
 -- The laws of `put`, and how writers that stand one behind the other, or in a loop, are composed.
 -- Assumes nothing.
 use Prim.Native.Nat.{ℕ, zero, suc, _+_, _-_, _/_, _%_, _≤_, _<_}
-use mathlib.Core.List.{List, [], _∷_, _++_}
+use mathlib.Core.List.{List, [], _∷_, _++_, append-nil}
 use mathlib.Core.Path.{_≡_, refl, sym, _∙_}
-use native.Mathlib.Nat.{add-zero, add-suc, suc-add}
+use native.Mathlib.Nat.{add-zero, zero-add, add-suc, suc-add, sub-zero, zero-sub, sub-self, suc-sub-suc}
 use native.Mathlib.Numerals.{add-one}
 use native.Mathlib.Omega.{arith}
-use lib.ListN.{length, getD, set, take, drop, length-append, length-set, length-drop, drop-of-length-le}
+use lib.ListN.{length, getD, set, take, drop, length-append, length-set, length-drop, drop-of-length-le, length-replicate}
 use lib.Seq.{length-take-le, take-all, drop-cons, getD-take, getD-drop, sets, sets-eq, set-comm}
 use Rattle.layout.specs.Form as form
 use Rattle.layout.specs.Form.{bytesOf}
 use Rattle.layout.proofs.Front.{length-bytesOf}
+use Rattle.layout.specs.Veil.{zeros}
 use Rattle.put.specs.Put.{put, Wrote}
 
 -- ---- put
@@ -34,6 +35,15 @@ put-sets l at (b ∷ bs) = put-sets (set l at b) (suc at) bs
 -- a run for which there is room stands between what was before it and what was behind it
 pub put-eq : (l : List ℕ) (at : ℕ) (bs : List ℕ) → at + length bs ≤ length l → put l at bs ≡ take at l ++ bs ++ drop (at + length bs) l
 put-eq l at bs h = put-sets l at bs ∙ sets-eq bs l at h
+
+-- a run stored into zeros from the front on: zeros are left behind it
+drop-zeros : (n size : ℕ) → drop n (zeros size) ≡ zeros (size - n)
+drop-zeros zero size = rw sub-zero
+drop-zeros (suc n) zero = rw zero-sub
+drop-zeros (suc n) (suc size) = drop-zeros n size ∙ rw suc-sub-suc
+
+pub put-zeros : (size : ℕ) (bs : List ℕ) → length bs ≤ size → put (zeros size) 0 bs ≡ bs ++ zeros (size - length bs)
+put-zeros size bs h = put-eq (zeros size) 0 bs (rw (length-replicate, zero-add) h) ∙ rw (zero-add, drop-zeros)
 
 -- a run, and a store behind it, in either order
 pub put-set : (l : List ℕ) (at : ℕ) (bs : List ℕ) (i v : ℕ) → at + length bs ≤ i → put (set l i v) at bs ≡ set (put l at bs) i v
@@ -109,3 +119,13 @@ module _ (s : List ℕ) (from n : ℕ) where
 -- a run of all the bytes
 pub whole-run : {l s m : List ℕ} {at p : ℕ} (n : ℕ) → length s ≡ n → Wrote l at (take n (drop 0 s)) m p → Wrote l at s m p
 whole-run {s = s} n e w = rw (take-all n s (omega arith)) at w
+
+-- ---- an array of zeros into which a run of n bytes was stored, from its front on
+pub filled : (size n from : ℕ) (src : List ℕ) {m : List ℕ} {p : ℕ} → n ≤ size → from + n ≤ length src → Wrote (zeros size) 0 (take n (drop from src)) m p
+    → m ≡ take n (drop from src) ++ zeros (size - n)
+filled size n from src few inside w =
+    let long = length-run src from n inside in
+    w .now-is ∙ put-zeros size (take n (drop from src)) (omega arith) ∙ rw long
+
+pub filled-whole : (n from : ℕ) (src : List ℕ) {m : List ℕ} {p : ℕ} → from + n ≤ length src → Wrote (zeros n) 0 (take n (drop from src)) m p → m ≡ take n (drop from src)
+filled-whole n from src inside w = filled n n from src (omega arith) inside w ∙ rw (sub-self, append-nil)
