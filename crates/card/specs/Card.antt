@@ -1,6 +1,6 @@
 -- What the answers about a card say, what a reader leaves in the struct, and which row a struct stands for.
 -- Assumes nothing.
-use Prim.Native.Nat.{ℕ, _+_, _-_, _≤_}
+use Prim.Native.Nat.{ℕ, _+_, _-_, _≤_, _<_}
 use mathlib.Core.List.{List, [], _∷_, _++_}
 use mathlib.Core.Bool.{Bool, true, false, cond}
 use mathlib.Core.Option.{Option, none, some}
@@ -11,9 +11,9 @@ use Rattle.layout.specs.Veil.{zeros, plain}
 use Rattle.layout.specs.Form.{bytesOf, onlyIf, bytes}
 use Rattle.layout.specs.Field.{Field, takes, refuses}
 use Rattle.layout.specs.Layout.{Answer, accepted, refusedBy}
-use Rattle.layout.specs.Write as write
 use Rattle.rows.specs.Values as value
 use Rattle.rows.specs.Checks.{kci}
+use Rattle.rows.specs.Answers.{verdictOf}
 use Rattle.fields.specs.declared.RunField.{RunField}
 use Rattle.fields.specs.declared.RunField.the-variants as run
 use Rattle.card.specs.declared.Card.{Card}
@@ -22,10 +22,7 @@ use Rattle.card.specs.declared.CardField.{CardField}
 use Rattle.card.specs.declared.CardField.the-variants as cardField
 use Rattle.card.specs.declared.CardCheck.{CardCheck}
 use Rattle.card.specs.declared.CardCheck.the-variants as check
-use Rattle.card.specs.declared.Verdict.the-variants as verdict
 use Rattle.card.specs.declared.Decoded.{Decoded}
-use Rattle.card.specs.declared.Written.{Written}
-use Rattle.card.specs.declared.Written.the-variants as written
 
 -- ---- checking
 -- the key that KCI calls for
@@ -96,23 +93,25 @@ cardOf c = record {
 abbrev pub zeroCard : Card
 zeroCard = record { «beacon_day» = 0; caps = 0; «name_len» = 0; «beacon_key» = zeros 32; name = zeros 48; «static_ek» = zeros 1184 }
 
+abbrev pub cardOrZeros : Answer value.Card → Card
+cardOrZeros (accepted c) = cardOf c
+cardOrZeros (refusedBy q) = zeroCard
+
 abbrev pub decoded : Answer value.Card → Decoded
-decoded (accepted c) = record { verdict = verdict.Accepted; card = cardOf c }
-decoded (refusedBy q) = record { verdict = verdict.Refused q; card = zeroCard }
+decoded a = record { verdict = verdictOf a; card = cardOrZeros a }
 
 -- ---- encoding: the row that would be written
+unfoldable pub nameImage : Card → List ℕ
+nameImage c = (c .«name_len» ∷ []) ++ (take (c .«name_len») (c .name) ++ cond (kci (c .caps)) (c .«static_ek») [])
+
 unfoldable pub image : Card → List ℕ
-image c =
-    (c .caps ∷ [])
-    ++ (bytesOf 4 (c .«beacon_day»)
-    ++ (c .«beacon_key»
-    ++ ((c .«name_len» ∷ [])
-    ++ (take (c .«name_len») (c .name)
-    ++ cond (kci (c .caps)) (c .«static_ek») []))))
+image c = (c .caps ∷ []) ++ (bytesOf 4 (c .«beacon_day») ++ (c .«beacon_key» ++ nameImage c))
 
-abbrev pub writtenSays : Written → write.Written
-writtenSays (written.Length n) = write.wrote n
-writtenSays (written.Refused q) = write.refuses q
-
-abbrev pub leaves : Written → List ℕ → write.Left
-leaves r out = record { answer = writtenSays r; out = out }
+-- what the struct's type says
+pub record CardTyped (c : Card) : Type 0 where
+  pub caps : c .caps < 256
+  pub «beacon_day» : c .«beacon_day» < 4294967296
+  pub «beacon_key» : length (c .«beacon_key») ≡ 32
+  pub «name_len» : c .«name_len» < 256
+  pub name : length (c .name) ≡ 48
+  pub «static_ek» : length (c .«static_ek») ≡ 1184

@@ -3,6 +3,8 @@ use fields::RunField;
 use fields::U8Field;
 use fields::U32Field;
 use layout::question;
+use rows::Verdict;
+use rows::Written;
 ghost use mathlib.Core.Path.{_≡_};
 ghost use mathlib.Core.List.{_++_};
 ghost use Prim.Native.Nat.{_+_, _-_, _≤_};
@@ -11,10 +13,12 @@ ghost use Rattle.layout.specs.Veil.{plain, zeros};
 ghost use Rattle.layout.specs.Form.{bytes, onlyIf};
 ghost use Rattle.layout.specs.Field.{readAt};
 ghost use Rattle.layout.specs.Layout.{group, readRow};
-ghost use Rattle.layout.specs.Write.{writes};
+ghost use Rattle.layout.specs.Write.{asked, writes};
+ghost use Rattle.put.specs.Put.{Wrote};
 ghost use Rattle.rows.specs.Checks.{kci};
 ghost use Rattle.rows.specs.Rows.{card, cardRow};
-ghost use Rattle.card.specs.Card.{keySays, KeyPlaced, fieldSays, FieldPlaced, fieldRefusal, checkSays, Placed, checkRefusal, Places, cardFrom, cardOf, zeroCard, decoded};
+ghost use Rattle.rows.specs.Answers.{writtenSays, leaves};
+ghost use Rattle.card.specs.Card.{keySays, KeyPlaced, fieldSays, FieldPlaced, fieldRefusal, checkSays, Placed, checkRefusal, Places, cardFrom, cardOf, zeroCard, decoded, CardTyped, image, nameImage};
 
 // A card. name_len says how much of name is a value, and bit 1 of caps (KCI) whether static_ek is one: what is left out is 0.
 pub struct Card {
@@ -46,20 +50,10 @@ pub enum CardCheck {
     Refused(u8),
 }
 
-pub enum Verdict {
-    Accepted,
-    Refused(u8),
-}
-
 // The card is all zeros where the verdict is a refusal.
 pub struct Decoded {
     pub verdict: Verdict,
     pub card: Card,
-}
-
-pub enum Written {
-    Length(usize),
-    Refused(u8),
 }
 
 impl CardCheck {
@@ -179,12 +173,18 @@ fn static_ek_from(input: &[u8], from: usize) -> [u8; 1184]
     ensures { λ r. ⌜ r ≡ take 1184 (drop from (now (input .entry))) ⌝ }
 {
     let mut key = [0u8; 1184];
-    put::put_run(&mut key, 0, input, from, rows::MLKEM768_ENCAPSULATION_KEY_LEN);
+    put::put_run(
+        &mut key,
+        0,
+        input,
+        from,
+        rows::MLKEM768_ENCAPSULATION_KEY_LEN,
+    );
     key
 }
 
 // The card at the places that check_card found.
-pub fn card_from(input: &[u8], at: CardAt) -> Card
+fn card_from(input: &[u8], at: CardAt) -> Card
     requires { ⌜ Places (now input) at ⌝ }
     ensures { λ r. ⌜ r ≡ cardOf (cardFrom (now (input .entry)) at) ⌝ }
 {
@@ -234,4 +234,78 @@ impl Card {
             card: card_from(input, at),
         }
     }
+
+    // Asks what reading the row would ask, then for room; a refusal writes nothing.
+    pub fn encode(self, out: &mut [u8]) -> Written
+        ensures { λ r. ⌜ leaves r (now (out .exit)) ≡ writes cardRow (image self) (now (out .entry)) ⌝ }
+    {
+        typed(self);
+        let size = card_size(self);
+        let Written::Length(n) = size else {
+            return size;
+        };
+        if out.len() < n {
+            return Written::Refused(question::OUTPUT);
+        }
+        put_card(out, 0, self);
+        Written::Length(n)
+    }
+}
+
+// What the struct's type says of it, as a fact.
+fn typed(card: Card) -> bool
+    ensures { λ r. ⌜ CardTyped card ⌝ }
+{
+    true
+}
+
+// The length of the card's row, or the question that reading it would answer no.
+pub fn card_size(card: Card) -> Written
+    ensures { λ r. ⌜ writtenSays r ≡ asked cardRow (image card) ⌝ }
+{
+    typed(card);
+    if 4 <= card.caps {
+        return Written::Refused(question::CAPS);
+    }
+    let n = card.name_len as usize;
+    if rows::MAX_NAME_LEN < n {
+        return Written::Refused(question::NAME_LENGTH);
+    }
+    let name = card.name;
+    if !names::is_utf8(&name[..n]) {
+        return Written::Refused(question::NAME_UTF8);
+    }
+    if card.caps / 2 % 2 == 1 {
+        return Written::Length(38 + n + rows::MLKEM768_ENCAPSULATION_KEY_LEN);
+    }
+    Written::Length(38 + n)
+}
+
+// Writes the card's row; the place behind it. For a card whose name is not too long, and where there is room.
+pub fn put_card(out: &mut [u8], at: usize, card: Card) -> usize
+    requires { ⌜ (card .«name_len» ≤ 48) × (at + length (image card) ≤ length (now out)) ⌝ }
+    ensures { λ r. ⌜ (r ≡ at + length (image card)) × Wrote (now (out .entry)) at (image card) (now (out .exit)) r ⌝ }
+{
+    typed(card);
+    let beacon_day_at = put::put_byte(out, at, card.caps);
+    let beacon_key_at = put::put_be(out, beacon_day_at, 4, card.beacon_day as u64);
+    let beacon_key = card.beacon_key;
+    let name_len_at = put::put_32(out, beacon_key_at, &beacon_key);
+    put_name(out, name_len_at, card)
+}
+
+// The card from the name's length on.
+fn put_name(out: &mut [u8], at: usize, card: Card) -> usize
+    requires { ⌜ (card .«name_len» ≤ 48) × (at + length (nameImage card) ≤ length (now out)) ⌝ }
+    ensures { λ r. ⌜ (r ≡ at + length (nameImage card)) × Wrote (now (out .entry)) at (nameImage card) (now (out .exit)) r ⌝ }
+{
+    typed(card);
+    let name_at = put::put_byte(out, at, card.name_len);
+    let name = card.name;
+    let key_at = put::put_run(out, name_at, &name, 0, card.name_len as usize);
+    if card.caps / 2 % 2 == 1 {
+        let key = card.static_ek;
+        return put::put_run(out, key_at, &key, 0, rows::MLKEM768_ENCAPSULATION_KEY_LEN);
+    }
+    key_at
 }

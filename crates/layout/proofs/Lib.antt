@@ -11,3 +11,4 @@ pub mod Theorems
 pub mod Dwarf
 pub mod At
 pub mod Steps
+pub mod Write

@@ -1,16 +1,17 @@
 -- How far a reader has come: what is left of the layout, and where. A reader's proof takes one of these steps for each field and question.
 -- Assumes nothing.
 use Prim.Native.Nat.{ℕ, suc, _+_, _≤_, _<_}
-use mathlib.Core.List.{List, [], _∷_}
+use mathlib.Core.List.{List, [], _∷_, _++_}
 use mathlib.Core.Bool.{Bool, true, false, cond}
 use mathlib.Core.Option.{Option, none, some}
 use mathlib.Core.Path.{_≡_, refl, ap, _∙_}
 use native.Mathlib.Omega.{arith}
 use lib.ListN.{length, getD, drop, drop-of-length-le}
 use lib.Seq.{drop-cons}
-use Rattle.layout.specs.Read.{Read, value, refused, andThen}
+use Rattle.layout.specs.Read.{Read, value, refused, andThen, said}
 use Rattle.layout.specs.Form.{Form, noMore, onlyIf}
 use Rattle.layout.specs.Layout.{Layout, done, field, ask, end, parse}
+use Rattle.layout.proofs.Lawful.{Lawful}
 use Rattle.layout.proofs.At.{Took}
 
 -- reading l at `from` is reading `rest` at `here`
@@ -78,3 +79,31 @@ module _ {B : Type 0} (f : Form B) (row : List ℕ) (here : ℕ) (t : Bool) wher
 
   pub if-no : {q : ℕ} → t ≡ true → f .read (drop here row) ≡ refused q → (onlyIf f t) .read (drop here row) ≡ refused q
   if-no h e = rw (h, e)
+
+-- ---- a row that was printed: what was printed of a field stands in front
+pub record Stands {A : Type 0} (l : Layout A) (row : List ℕ) (rest : Layout A) (post : List ℕ) : Type 0 where
+  pub same : parse l row ≡ parse rest post
+
+pub record Printed {A : Type 0} (l : Layout A) (row : List ℕ) : Type 1 where
+  pub rest : Layout A
+  pub post : List ℕ
+  pub so : Stands l row rest post
+
+module _ {A : Type 0} {l : Layout A} {row : List ℕ} where
+  abbrev pub printed-yes : {B : Type 0} {f : Form B} {get : A → B} {k : B → Layout A} (b : B) (post : List ℕ) → Lawful f → f .fits b post → f .refusal b ≡ none
+      → Stands l row (field f get k) (f .print b ++ post) → Printed l row
+  printed-yes {f = f} {get = get} {k = k} b post law fits granted so = record {
+    rest = k b;
+    post = post;
+    so = record { same = so .same ∙ field-is (f .print b ++ post) f get k (value b post) (law .printed b post fits ∙ ap (λ (o : Option ℕ). said o b post) granted) };
+  }
+
+  module _ {q : ℕ} {t : Bool} {k : Layout A} {post : List ℕ} (so : Stands l row (ask q t k) post) where
+    abbrev pub asked-yes : t ≡ true → Printed l row
+    asked-yes e = record { rest = k; post = post; so = record { same = so .same ∙ ask-is post q t true k e } }
+
+    pub asked-no : t ≡ false → parse l row ≡ refused q
+    asked-no e = so .same ∙ ask-is post q t false k e
+
+  pub stands-done : {a : A} {post : List ℕ} → Stands l row (done a) post → parse l row ≡ value a post
+  stands-done {a} {post} so = so .same ∙ done-is post a

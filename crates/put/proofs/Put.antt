@@ -36,6 +36,10 @@ put-sets l at (b ∷ bs) = put-sets (set l at b) (suc at) bs
 pub put-eq : (l : List ℕ) (at : ℕ) (bs : List ℕ) → at + length bs ≤ length l → put l at bs ≡ take at l ++ bs ++ drop (at + length bs) l
 put-eq l at bs h = put-sets l at bs ∙ sets-eq bs l at h
 
+-- a run at the front
+pub put-front : (l bs : List ℕ) → length bs ≤ length l → put l 0 bs ≡ bs ++ drop (length bs) l
+put-front l bs h = put-eq l 0 bs (rw zero-add h) ∙ rw zero-add
+
 -- a run stored into zeros from the front on: zeros are left behind it
 drop-zeros : (n size : ℕ) → drop n (zeros size) ≡ zeros (size - n)
 drop-zeros zero size = rw sub-zero
@@ -43,7 +47,7 @@ drop-zeros (suc n) zero = rw zero-sub
 drop-zeros (suc n) (suc size) = drop-zeros n size ∙ rw suc-sub-suc
 
 pub put-zeros : (size : ℕ) (bs : List ℕ) → length bs ≤ size → put (zeros size) 0 bs ≡ bs ++ zeros (size - length bs)
-put-zeros size bs h = put-eq (zeros size) 0 bs (rw (length-replicate, zero-add) h) ∙ rw (zero-add, drop-zeros)
+put-zeros size bs h = put-front (zeros size) bs (rw length-replicate h) ∙ rw drop-zeros
 
 -- a run, and a store behind it, in either order
 pub put-set : (l : List ℕ) (at : ℕ) (bs : List ℕ) (i v : ℕ) → at + length bs ≤ i → put (set l i v) at bs ≡ set (put l at bs) i v
@@ -64,6 +68,9 @@ number-turn l at (suc i) x h =
 pub wrote-none : (l : List ℕ) (at : ℕ) → Wrote l at [] l at
 unfolding put
 wrote-none l at = record { now-is = refl; next-is = sym (add-zero at) }
+
+pub wrote-long : {l m bs : List ℕ} {at p : ℕ} → Wrote l at bs m p → length m ≡ length l
+wrote-long {l} {m} {bs} {at} w = rw (w .now-is) (length-put l at bs)
 
 pub wrote-byte : (l : List ℕ) (at b : ℕ) → Wrote l at (b ∷ []) (set l at b) (at + 1)
 unfolding put

@@ -1,4 +1,4 @@
-// What rows are made of: the enums behind their code bytes, and the sizes and limits that their layouts cite.
+// What rows are made of: the enums behind their code bytes, the sizes and limits that their layouts cite, and the answers about rows.
 
 // How a contact was paired.
 pub enum PairingRole {
@@ -16,6 +16,18 @@ pub enum Verification {
 pub enum Dir {
     I,
     R,
+}
+
+// What a row reader answers beside the struct that it fills.
+pub enum Verdict {
+    Accepted,
+    Refused(u8),
+}
+
+// What a row writer answers: the length written, or the question whose answer is no.
+pub enum Written {
+    Length(usize),
+    Refused(u8),
 }
 
 pub const BLOB_VERSION: u32 = 3;
