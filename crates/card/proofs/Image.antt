@@ -1,6 +1,6 @@
 -- What reading the row that a card stands for would answer, and how long the row is.
 -- Assumes nothing.
-use Prim.Native.Nat.{ℕ, _+_, _%_, _^_, _≤_, _<_}
+use Prim.Native.Nat.{ℕ, _+_, _%_, _≤_, _<_}
 use mathlib.Core.List.{List, [], _∷_, _++_, append-nil}
 use mathlib.Core.Bool.{Bool, true, false, cond}
 use mathlib.Core.Option.{Option, none, some}
@@ -10,11 +10,11 @@ use lib.ListN.{length, take, length-append}
 use lib.Seq.{length-take-le}
 use borrow.Author.Tests.{le-leb, leb-true}
 use Rattle.layout.specs.Questions.{CAPS, «NAME_LENGTH», «NAME_UTF8»}
-use Rattle.layout.specs.Read.{value, refused}
+use Rattle.layout.specs.Read.{refused}
 use Rattle.layout.specs.Veil.{plain, veiled}
 use Rattle.layout.specs.Form.{bytesOf, bytes, u8, u32, onlyIf, printIf}
 use Rattle.layout.specs.Form as form
-use Rattle.layout.specs.Layout.{parse, group, accepted, refusedBy, readRow}
+use Rattle.layout.specs.Layout.{parse}
 use Rattle.layout.specs.Layout as layout
 use Rattle.layout.specs.Write.{wrote, refuses, asked}
 use Rattle.layout.specs.Write as write

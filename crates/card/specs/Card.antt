@@ -2,13 +2,13 @@
 -- Assumes nothing.
 use Prim.Native.Nat.{ℕ, _+_, _-_, _≤_, _<_}
 use mathlib.Core.List.{List, [], _∷_, _++_}
-use mathlib.Core.Bool.{Bool, true, false, cond}
+use mathlib.Core.Bool.{true, cond}
 use mathlib.Core.Option.{Option, none, some}
 use mathlib.Core.Path.{_≡_}
 use lib.ListN.{length, take, drop}
 use Rattle.layout.specs.Questions.{FIELD}
-use Rattle.layout.specs.Veil.{zeros, plain}
-use Rattle.layout.specs.Form.{bytesOf, onlyIf, bytes}
+use Rattle.layout.specs.Veil.{zeros}
+use Rattle.layout.specs.Form.{bytesOf}
 use Rattle.layout.specs.Field.{Field, takes, refuses}
 use Rattle.layout.specs.Layout.{Answer, accepted, refusedBy}
 use Rattle.rows.specs.Values as value

@@ -1,8 +1,7 @@
 -- Laws of `readAt`: what is known once a field was taken at a position, and what is to be shown of a reader of fields.
 -- Assumes nothing.
-use Prim.Native.Nat.{ℕ, zero, suc, _+_, _*_, _-_, _^_, _≤_, _<_}
-use mathlib.Core.List.{List, [], _∷_, _++_}
-use mathlib.Core.Bool.{Bool, true, false, cond}
+use Prim.Native.Nat.{ℕ, zero, suc, _+_, _-_, _^_, _≤_, _<_}
+use mathlib.Core.List.{List, [], _∷_}
 use mathlib.Core.Option.{Option, none, some}
 use mathlib.Core.Path.{_≡_, refl, sym, ap, _∙_}
 use native.Mathlib.Omega.{arith}
@@ -15,8 +14,8 @@ use borrow.Author.Tests.{le-leb, lt-leb}
 use Rattle.layout.specs.Questions.{FIELD}
 use Rattle.layout.specs.Read.{Read, value, refused}
 use Rattle.layout.specs.Veil.{Sensitivity}
-use Rattle.layout.specs.Form.{Form, bytes, code, orRefused, bigEndian, bytesOf, number, u8, one, letter}
-use Rattle.layout.specs.Field.{Field, takes, refuses, placed, readAt}
+use Rattle.layout.specs.Form.{Form, bytes, code, bigEndian, bytesOf, number, u8, one, letter}
+use Rattle.layout.specs.Field.{takes, refuses, placed, readAt}
 use Rattle.layout.specs.RowLaws.{Bytes}
 use Rattle.layout.proofs.Lawful.{Lawful}
 

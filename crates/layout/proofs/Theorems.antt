@@ -1,20 +1,19 @@
 -- Every row that has a layout of lawful forms, and ends where the layout ends, has `RowLaws`.
 -- Assumes nothing.
 use Prim.Native.Nat.{ℕ, _<_}
-use mathlib.Core.List.{List, [], _∷_, _++_, append-nil}
+use mathlib.Core.List.{List, [], append-nil}
 use mathlib.Core.Bool.{Bool, true, false, cond, true≢false}
-use mathlib.Core.Option.{Option, none, some}
+use mathlib.Core.Option.{none, some}
 use mathlib.Core.Path.{_≡_, refl, sym, ap, _∙_, subst}
 use native.Mathlib.Omega.{arith}
 use lib.ListN.{length, getD}
 use lib.Dec.{lit<}
 use Rattle.layout.specs.Read.{Read, value, refused, after, said}
 use Rattle.layout.specs.Veil.{Level, hide, Outside, excused}
-use Rattle.layout.specs.Form.{Form, noMore}
-use Rattle.layout.specs.Layout.{Layout, done, field, ask, parse, print, maskOf, blankOf, fitsOf, refusalOf, group, Answer, accepted, refusedBy, answer, readRow, hiddenRow}
+use Rattle.layout.specs.Layout.{Layout, parse, print, maskOf, blankOf, fitsOf, refusalOf, group, accepted, refusedBy, answer, readRow, hiddenRow}
 use Rattle.layout.specs.RowLaws.{Bytes, Alike, Judged, Valid, RowLaws}
 use Rattle.layout.proofs.Hide.{outside-hide, hide-hide, hide-at}
-use Rattle.layout.proofs.Lawful.{ReadAlike, Same, Excused, Outcome, same, excuse, excuse′, Lawful, value≢refused, split, passed}
+use Rattle.layout.proofs.Lawful.{ReadAlike, Same, Excused, Outcome, same, excuse, excuse′, Lawful, value≢refused}
 
 pub accepted≢ : {A : Type 0} {v : A} {n : ℕ} → accepted v ≡ refusedBy n → ⊥
 accepted≢ e = let z : _≡_ {A = ℕ} 0 1 = cc in omega arith

@@ -8,7 +8,7 @@ use lib.ListN.{length, drop}
 use borrow.Author.Tests.{le-leb, lt-leb}
 use Rattle.layout.specs.Questions.{OUTPUT}
 use Rattle.layout.specs.Layout.{Layout, Answer, accepted, refusedBy, readRow}
-use Rattle.layout.specs.Write.{Written, wrote, refuses, Left, judged, sized, asked, writes}
+use Rattle.layout.specs.Write.{wrote, refuses, judged, sized, asked, writes}
 
 pub wrote≢refuses : {n q : ℕ} → wrote n ≡ refuses q → ⊥
 wrote≢refuses e = let z : _≡_ {A = ℕ} 0 1 = cc in omega arith

@@ -12,15 +12,15 @@ use Rattle.layout.specs.Veil.{Level, plain, veiled}
 use Rattle.layout.specs.Form.{bytes, number, flag, either, u32, u64}
 use Rattle.layout.specs.Layout.{Layout, field, end, group, list, optional, sized, present}
 use Rattle.layout.specs.Layout as layout
-use Rattle.layout.proofs.Lawful.{Lawful, Sound, s-any, s-field, s-ask, s-done, Blind, b-done, b-field, b-plain, b-ask, group-lawful}
+use Rattle.layout.proofs.Lawful.{Lawful, s-any, s-field, s-ask, s-done, Blind, b-done, b-field, b-plain, b-ask, group-lawful}
 use Rattle.layout.proofs.Front.{bytes-lawful, number-lawful, letter-lawful, flag-lawful, none≢some}
 use Rattle.layout.proofs.Ends.{toEnd-lawful, noMore-lawful}
 use Rattle.layout.proofs.Parts.{onlyIf-lawful}
 use Rattle.layout.proofs.Nested.{either-lawful}
 use Rattle.layout.proofs.Leb.{leb128-lawful}
 use Rattle.layout.proofs.Derived.{optional-lawful, list-lawful, sized-lawful, onlyIf-plain, optional-plain, list-plain, list-unseen, list-as-long}
-use Rattle.rows.specs.Values.{Card, Chain, Skipped, Range, Contact}
-use Rattle.rows.specs.Checks.{kci, Place, place, sealedQueued, sealedCarried, count, distinct, samePlace}
+use Rattle.rows.specs.Values.{Range}
+use Rattle.rows.specs.Checks.{kci, place, sealedQueued, sealedCarried, count, distinct, samePlace}
 use Rattle.rows.specs.Rows.{roleOf, roleByte, modeOf, modeByte, verificationOf, verificationByte, dirOf, dirByte, role, mode, verification, dir}
 use Rattle.rows.specs.Rows.{device, card, cardRow, pending, send, chain, skipped, range, contact, envelope, queued, carried, tombstone, courier}
 use Rattle.rows.specs.declared.PairingRole.{PairingRole}

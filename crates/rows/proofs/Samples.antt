@@ -2,18 +2,16 @@
 -- Assumes nothing.
 use Prim.Native.Nat.{ℕ}
 use mathlib.Core.List.{List, [], _∷_, _++_}
-use mathlib.Core.Logic.{inr}
 use mathlib.Core.Option.{none, some}
-use mathlib.Core.Bool.{false}
 use mathlib.Core.Path.{_≡_, refl}
 use lib.ListN.{replicate}
 use Rattle.layout.specs.Questions.{FIELD, FLAG, CAPS, «NAME_LENGTH», «NAME_UTF8», «CARD_END», «COURIER_CONFIG», «SEALED_LENGTH», «CARRIED_COPIES», «CARRIED_EXPIRY», «ROW_END»}
 use Rattle.layout.specs.Veil.{zeros, veil}
 use Rattle.layout.specs.Form as form
-use Rattle.layout.specs.Layout.{Layout, Answer, accepted, refusedBy, readRow, print, hiddenRow}
+use Rattle.layout.specs.Layout.{accepted, refusedBy, readRow, print, hiddenRow}
 use Rattle.layout.specs.Layout as layout
 use Rattle.rows.specs.Utf8 as utf
-use Rattle.rows.specs.Values.{Card, Contact, Tombstone}
+use Rattle.rows.specs.Values.{Contact}
 use Rattle.rows.specs.Rows.{device, cardRow, contact, courier}
 use Rattle.rows.specs.declared.PairingRole.the-variants.{A}
 use Rattle.rows.specs.declared.Verification.the-variants.{Verified}

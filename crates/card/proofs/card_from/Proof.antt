@@ -3,7 +3,7 @@ use Prim.Native.Nat.{ℕ, _-_}
 use mathlib.Core.List.{List, _++_}
 use mathlib.Core.Bool.{cond}
 use mathlib.Core.Option.{none, some}
-use mathlib.Core.Path.{_≡_, refl}
+use mathlib.Core.Path.{_≡_}
 use lib.ListN.{length, take, drop}
 use borrow.Author.Needs.{needs}
 use borrow.Author.Tests.{eq-eqb, ne-eqb}
@@ -11,7 +11,6 @@ use Rattle.layout.specs.Veil.{zeros}
 use Rattle.rows.specs.Checks.{kci}
 use Rattle.put.proofs.Put.{length-run}
 use Rattle.card.specs.Card.{Places, cardFrom, cardOf, orZeros}
-use Rattle.card.specs.declared.Card.{Card}
 use Rattle.card.specs.declared.CardAt.{CardAt}
 use Rattle.card.proofs.card_from.Statement.{statement}
 use Rattle.card.proofs.card_from.Tie as tie

@@ -1,5 +1,5 @@
 -- `card::card_size` meets its contract: question by question, as reading the row would ask.
-use Prim.Native.Nat.{ℕ, _≤_}
+use Prim.Native.Nat.{_≤_}
 use mathlib.Core.Bool.{true}
 use mathlib.Core.Path.{_≡_, sym, _∙_}
 use lib.ListN.{take}

@@ -1,7 +1,7 @@
 -- `card::check_card` meets its contract: the card, and then question 10.
 use mathlib.Core.List.{List}
 use Prim.Native.Nat.{ℕ}
-use mathlib.Core.Path.{_≡_, sym, ap, subst, _∙_}
+use mathlib.Core.Path.{sym, ap, subst, _∙_}
 use borrow.Author.Needs.{needs}
 use Rattle.layout.specs.Layout.{group, answer}
 use Rattle.layout.proofs.At.{took, refused-at, learn, typed}

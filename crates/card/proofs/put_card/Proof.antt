@@ -3,8 +3,7 @@ use native.Mathlib.Omega.{arith}
 use borrow.Author.Needs.{needs}
 use Rattle.put.proofs.Put.{_then_, wrote-long}
 use Rattle.card.specs.Card as spec
-use Rattle.card.specs.declared.Card.{Card}
-use Rattle.card.proofs.Image.{length-image, length-name-image}
+use Rattle.card.proofs.Image.{length-image}
 use Rattle.card.proofs.put_card.Statement.{statement}
 use Rattle.card.proofs.put_card.Tie as tie
 

@@ -1,5 +1,5 @@
 -- `card::static_ek_at` meets its contract: a run of 1,184 bytes where KCI is set, and nothing where it is not.
-use Prim.Native.Nat.{ℕ, _+_, _≤_}
+use Prim.Native.Nat.{ℕ, _≤_}
 use mathlib.Core.List.{List}
 use mathlib.Core.Bool.{Bool, true, false, cond, true≢false}
 use mathlib.Core.Option.{none, some}

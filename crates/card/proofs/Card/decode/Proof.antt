@@ -1,8 +1,8 @@
 -- `card::Card::decode` meets its contract: checked, then copied; or refused, and zeros.
-use mathlib.Core.Path.{_≡_, sym, ap, subst, _∙_}
+use mathlib.Core.Path.{ap, subst, _∙_}
 use borrow.Author.Needs.{needs}
 use Rattle.layout.proofs.At.{learn}
-use Rattle.card.specs.Card.{checkSays, checkRefusal, Placed, decoded}
+use Rattle.card.specs.Card.{checkSays, checkRefusal, Placed}
 use Rattle.card.proofs.Card.decode.Statement.{statement}
 use Rattle.card.proofs.Card.decode.Tie as tie
 
