@@ -75,3 +75,24 @@ verificationSays (verification.Refused q) = refuses q
 abbrev pub dirSays : DirField → Field Dir
 dirSays (dir.Value x next) = takes x next
 dirSays (dir.Refused q) = refuses q
+
+-- ---- the question that refused; 0 where none did
+abbrev pub flagRefusal : FlagField → ℕ
+flagRefusal (flag.Value x next) = 0
+flagRefusal (flag.Refused q) = q
+
+abbrev pub roleRefusal : RoleField → ℕ
+roleRefusal (role.Value x next) = 0
+roleRefusal (role.Refused q) = q
+
+abbrev pub modeRefusal : ModeField → ℕ
+modeRefusal (mode.Value next) = 0
+modeRefusal (mode.Refused q) = q
+
+abbrev pub verificationRefusal : VerificationField → ℕ
+verificationRefusal (verification.Value x next) = 0
+verificationRefusal (verification.Refused q) = q
+
+abbrev pub dirRefusal : DirField → ℕ
+dirRefusal (dir.Value x next) = 0
+dirRefusal (dir.Refused q) = q

@@ -11,6 +11,7 @@ ghost use Rattle.layout.specs.Form.{bigEndian, bytes, number, u8, u16, u32, u64
 ghost use Rattle.layout.specs.Field.{readAt};
 ghost use Rattle.rows.specs.Rows.{role, mode, verification, dir};
 ghost use Rattle.fields.specs.Says.{runSays, Ends, u8Says, u16Says, u32Says, u64Says, flagSays, roleSays, modeSays, verificationSays, dirSays};
+ghost use Rattle.fields.specs.Says.{flagRefusal, roleRefusal, modeRefusal, verificationRefusal, dirRefusal};
 
 // Where a run of bytes starts, and where it ends: the next position. Short: it is not wholly in the row.
 pub enum RunField {
@@ -62,6 +63,66 @@ pub enum VerificationField {
 pub enum DirField {
     Value(Dir, usize),
     Refused(u8),
+}
+
+impl FlagField {
+    // The question that refused; 0 where none did.
+    pub fn refusal(self) -> u8
+        ensures { λ r. ⌜ r ≡ flagRefusal self ⌝ }
+    {
+        match self {
+            FlagField::Refused(q) => q,
+            FlagField::Value(_, _) => 0,
+        }
+    }
+}
+
+impl RoleField {
+    // The question that refused; 0 where none did.
+    pub fn refusal(self) -> u8
+        ensures { λ r. ⌜ r ≡ roleRefusal self ⌝ }
+    {
+        match self {
+            RoleField::Refused(q) => q,
+            RoleField::Value(_, _) => 0,
+        }
+    }
+}
+
+impl ModeField {
+    // The question that refused; 0 where none did.
+    pub fn refusal(self) -> u8
+        ensures { λ r. ⌜ r ≡ modeRefusal self ⌝ }
+    {
+        match self {
+            ModeField::Refused(q) => q,
+            ModeField::Value(_) => 0,
+        }
+    }
+}
+
+impl VerificationField {
+    // The question that refused; 0 where none did.
+    pub fn refusal(self) -> u8
+        ensures { λ r. ⌜ r ≡ verificationRefusal self ⌝ }
+    {
+        match self {
+            VerificationField::Refused(q) => q,
+            VerificationField::Value(_, _) => 0,
+        }
+    }
+}
+
+impl DirField {
+    // The question that refused; 0 where none did.
+    pub fn refusal(self) -> u8
+        ensures { λ r. ⌜ r ≡ dirRefusal self ⌝ }
+    {
+        match self {
+            DirField::Refused(q) => q,
+            DirField::Value(_, _) => 0,
+        }
+    }
 }
 
 // The n bytes at a position. Past the row's end there is nothing, which is enough for no bytes.

@@ -9,8 +9,8 @@ use native.Mathlib.Omega.{arith}
 use lib.ListN.{length, getD, drop, drop-of-length-le}
 use lib.Seq.{drop-cons}
 use Rattle.layout.specs.Read.{Read, value, refused, andThen, said}
-use Rattle.layout.specs.Form.{Form, noMore, onlyIf}
-use Rattle.layout.specs.Layout.{Layout, done, field, ask, end, parse}
+use Rattle.layout.specs.Form.{Form, u16, flag, noMore, onlyIf, times}
+use Rattle.layout.specs.Layout.{Layout, done, field, ask, end, parse, optional, list}
 use Rattle.layout.proofs.Lawful.{Lawful}
 use Rattle.layout.proofs.At.{Took}
 
@@ -79,6 +79,36 @@ module _ {B : Type 0} (f : Form B) (row : List ℕ) (here : ℕ) (t : Bool) wher
 
   pub if-no : {q : ℕ} → t ≡ true → f .read (drop here row) ≡ refused q → (onlyIf f t) .read (drop here row) ≡ refused q
   if-no h e = rw (h, e)
+
+-- ---- a part behind a flag, and a counted list
+module _ {B : Type 0} (f : Form B) (row : List ℕ) (here : ℕ) where
+  pub optional-some : {b : B} {mid next : ℕ} → Took flag row here true mid → Took f row mid b next → Took (optional f) row here (some b) next
+  unfolding parse
+  optional-some t u = record { reads = rw (t .reads, u .reads); inside = u .inside; onward = λ l. omega (arith, t .onward l, u .onward (t .inside)) }
+
+  pub optional-none : {next : ℕ} → Took flag row here false next → Took (optional f) row here none next
+  unfolding parse
+  optional-none t = record { reads = rw (t .reads); inside = t .inside; onward = t .onward }
+
+  pub optional-no-flag : {q : ℕ} → flag .read (drop here row) ≡ refused q → (optional f) .read (drop here row) ≡ refused q
+  unfolding parse
+  optional-no-flag e = rw e
+
+  pub optional-no : {q mid : ℕ} → Took flag row here true mid → f .read (drop mid row) ≡ refused q → (optional f) .read (drop here row) ≡ refused q
+  unfolding parse
+  optional-no t e = rw (t .reads, e)
+
+  pub list-yes : {n mid next : ℕ} {bs : List B} → Took u16 row here n mid → Took (times f n) row mid bs next → Took (list f) row here bs next
+  unfolding parse
+  list-yes t u = record { reads = rw (t .reads, u .reads); inside = u .inside; onward = λ l. omega (arith, t .onward l, u .onward (t .inside)) }
+
+  pub list-no-count : {q : ℕ} → u16 .read (drop here row) ≡ refused q → (list f) .read (drop here row) ≡ refused q
+  unfolding parse
+  list-no-count e = rw e
+
+  pub list-no : {n mid q : ℕ} → Took u16 row here n mid → (times f n) .read (drop mid row) ≡ refused q → (list f) .read (drop here row) ≡ refused q
+  unfolding parse
+  list-no t e = rw (t .reads, e)
 
 -- ---- a row that was printed: what was printed of a field stands in front
 pub record Stands {A : Type 0} (l : Layout A) (row : List ℕ) (rest : Layout A) (post : List ℕ) : Type 0 where

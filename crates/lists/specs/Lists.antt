@@ -1,0 +1,39 @@
+-- What the answers about a contact row's lists say.
+-- Assumes nothing.
+use Prim.Native.Nat.{ℕ}
+use mathlib.Core.List.{List, []}
+use lib.ListN.{drop}
+use Rattle.layout.specs.Read.{Read, value, refused}
+use Rattle.layout.specs.Form.{Form, readMany}
+use Rattle.layout.specs.Field.{Field, takes, refuses}
+use Rattle.lists.specs.declared.EndField.{EndField}
+use Rattle.lists.specs.declared.EndField.the-variants as end
+use Rattle.lists.specs.declared.ListField.{ListField}
+use Rattle.lists.specs.declared.ListField.the-variants as list
+
+-- a field's end, whatever its value
+abbrev pub ended : {A : Type 0} → Field A → Field (Unit {0})
+ended (takes a next) = takes tt next
+ended (refuses q) = refuses q
+
+abbrev pub endSays : EndField → Field (Unit {0})
+endSays (end.Value next) = takes tt next
+endSays (end.Refused q) = refuses q
+
+-- a list of `count` items from `first` on, once its end was found
+abbrev pub foundAt : EndField → ℕ → ℕ → ListField
+foundAt (end.Value next) first count = list.Value (record { first = first; next = next; count = count })
+foundAt (end.Refused q) first count = list.Refused q
+
+-- the n items that stand at the front
+module _ {B : Type 0} (f : Form B) where
+  abbrev pub itemsOf : Read (List B) → List B
+  itemsOf (value bs rest) = bs
+  itemsOf (refused q) = []
+
+  unfoldable pub items : ℕ → List ℕ → List B
+  items n row = itemsOf (readMany f n row)
+
+  abbrev pub listSays : List ℕ → ListField → Field (List B)
+  listSays row (list.Value at) = takes (items (at .count) (drop (at .first) row)) (at .next)
+  listSays row (list.Refused q) = refuses q

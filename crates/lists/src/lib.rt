@@ -1,0 +1,234 @@
+// The counted lists of a contact row: where each starts and ends, and how many items it has. Nothing is copied.
+use fields::DirField;
+use fields::FlagField;
+use fields::RunField;
+use fields::U8Field;
+use fields::U16Field;
+use fields::U32Field;
+use fields::U64Field;
+use layout::question;
+ghost use mathlib.Core.Path.{_≡_};
+ghost use Prim.Native.Nat.{_≤_};
+ghost use lib.ListN.{length};
+ghost use Rattle.layout.specs.Form.{times, u32};
+ghost use Rattle.layout.specs.Field.{readAt};
+ghost use Rattle.layout.specs.Layout.{group, list};
+ghost use Rattle.rows.specs.Rows.{chain, skipped, range};
+ghost use Rattle.lists.specs.Lists.{ended, endSays, foundAt, listSays};
+
+// The position after an item, or after several.
+pub enum EndField {
+    Value(usize),
+    Refused(u8),
+}
+
+// The items of a list: from first up to next.
+pub struct ListAt {
+    pub first: usize,
+    pub next: usize,
+    pub count: usize,
+}
+
+pub enum ListField {
+    Value(ListAt),
+    Refused(u8),
+}
+
+// A chain: gen, dir, next, key, and superseded_s behind its flag.
+fn chain_end(row: &[u8], at: usize) -> EndField
+    ensures { λ r. ⌜ endSays r ≡ ended (readAt (group chain) (now (row .entry)) at) ⌝ }
+{
+    let U8Field::Value(_gen, at1) = fields::byte_at(row, at) else {
+        return EndField::Refused(question::FIELD);
+    };
+    let dir = fields::dir_at(row, at1);
+    let DirField::Value(_dir, at2) = dir else {
+        return EndField::Refused(dir.refusal());
+    };
+    let U64Field::Value(_next, at3) = fields::u64_at(row, at2) else {
+        return EndField::Refused(question::FIELD);
+    };
+    let RunField::Value(_key, at4) = fields::run_at(row, at3, 32) else {
+        return EndField::Refused(question::FIELD);
+    };
+    let flag = fields::flag_at(row, at4);
+    let FlagField::Value(superseded, at5) = flag else {
+        return EndField::Refused(flag.refusal());
+    };
+    if superseded {
+        let U64Field::Value(_superseded_s, at6) = fields::u64_at(row, at5) else {
+            return EndField::Refused(question::FIELD);
+        };
+        return EndField::Value(at6);
+    }
+    EndField::Value(at5)
+}
+
+// A skipped key: gen, dir, idx, key, created_s.
+fn skipped_end(row: &[u8], at: usize) -> EndField
+    ensures { λ r. ⌜ endSays r ≡ ended (readAt (group skipped) (now (row .entry)) at) ⌝ }
+{
+    let U8Field::Value(_gen, at1) = fields::byte_at(row, at) else {
+        return EndField::Refused(question::FIELD);
+    };
+    let dir = fields::dir_at(row, at1);
+    let DirField::Value(_dir, at2) = dir else {
+        return EndField::Refused(dir.refusal());
+    };
+    let U32Field::Value(_idx, at3) = fields::u32_at(row, at2) else {
+        return EndField::Refused(question::FIELD);
+    };
+    let RunField::Value(_key, at4) = fields::run_at(row, at3, 32) else {
+        return EndField::Refused(question::FIELD);
+    };
+    let U64Field::Value(_created_s, at5) = fields::u64_at(row, at4) else {
+        return EndField::Refused(question::FIELD);
+    };
+    EndField::Value(at5)
+}
+
+// n chains from a position.
+fn chains_end(row: &[u8], at: usize, n: usize) -> EndField
+    requires { ⌜ at ≤ length (now row) ⌝ }
+    ensures { λ r. ⌜ endSays r ≡ ended (readAt (times (group chain) n) (now (row .entry)) at) ⌝ }
+{
+    let mut p = at;
+    let mut i: usize = 0;
+    while i < n {
+        let item = chain_end(row, p);
+        let EndField::Value(next) = item else {
+            return item;
+        };
+        p = next;
+        i += 1;
+    }
+    EndField::Value(p)
+}
+
+// n skipped keys from a position.
+fn skipped_ends(row: &[u8], at: usize, n: usize) -> EndField
+    requires { ⌜ at ≤ length (now row) ⌝ }
+    ensures { λ r. ⌜ endSays r ≡ ended (readAt (times (group skipped) n) (now (row .entry)) at) ⌝ }
+{
+    let mut p = at;
+    let mut i: usize = 0;
+    while i < n {
+        let item = skipped_end(row, p);
+        let EndField::Value(next) = item else {
+            return item;
+        };
+        p = next;
+        i += 1;
+    }
+    EndField::Value(p)
+}
+
+// A range: from, to.
+fn range_end(row: &[u8], at: usize) -> EndField
+    ensures { λ r. ⌜ endSays r ≡ ended (readAt (group range) (now (row .entry)) at) ⌝ }
+{
+    let U32Field::Value(_from, at1) = fields::u32_at(row, at) else {
+        return EndField::Refused(question::FIELD);
+    };
+    let U32Field::Value(_to, at2) = fields::u32_at(row, at1) else {
+        return EndField::Refused(question::FIELD);
+    };
+    EndField::Value(at2)
+}
+
+// n ranges from a position.
+fn ranges_end(row: &[u8], at: usize, n: usize) -> EndField
+    requires { ⌜ at ≤ length (now row) ⌝ }
+    ensures { λ r. ⌜ endSays r ≡ ended (readAt (times (group range) n) (now (row .entry)) at) ⌝ }
+{
+    let mut p = at;
+    let mut i: usize = 0;
+    while i < n {
+        let item = range_end(row, p);
+        let EndField::Value(next) = item else {
+            return item;
+        };
+        p = next;
+        i += 1;
+    }
+    EndField::Value(p)
+}
+
+// n numbers from a position.
+fn numbers_end(row: &[u8], at: usize, n: usize) -> EndField
+    requires { ⌜ at ≤ length (now row) ⌝ }
+    ensures { λ r. ⌜ endSays r ≡ ended (readAt (times u32 n) (now (row .entry)) at) ⌝ }
+{
+    let mut p = at;
+    let mut i: usize = 0;
+    while i < n {
+        let U32Field::Value(_number, next) = fields::u32_at(row, p) else {
+            return EndField::Refused(question::FIELD);
+        };
+        p = next;
+        i += 1;
+    }
+    EndField::Value(p)
+}
+
+// Where a list is, once its end was found.
+fn found(end: EndField, first: usize, count: usize) -> ListField
+    ensures { λ r. ⌜ r ≡ foundAt end first count ⌝ }
+{
+    match end {
+        EndField::Value(next) => ListField::Value(ListAt { first, next, count }),
+        EndField::Refused(q) => ListField::Refused(q),
+    }
+}
+
+pub fn chains_at(row: &[u8], at: usize) -> ListField
+    ensures { λ r. ⌜ listSays (group chain) (now (row .entry)) r ≡ readAt (list (group chain)) (now (row .entry)) at ⌝ }
+{
+    let U16Field::Value(count, first) = fields::u16_at(row, at) else {
+        return ListField::Refused(question::FIELD);
+    };
+    found(
+        chains_end(row, first, count as usize),
+        first,
+        count as usize,
+    )
+}
+
+pub fn skipped_at(row: &[u8], at: usize) -> ListField
+    ensures { λ r. ⌜ listSays (group skipped) (now (row .entry)) r ≡ readAt (list (group skipped)) (now (row .entry)) at ⌝ }
+{
+    let U16Field::Value(count, first) = fields::u16_at(row, at) else {
+        return ListField::Refused(question::FIELD);
+    };
+    found(
+        skipped_ends(row, first, count as usize),
+        first,
+        count as usize,
+    )
+}
+
+pub fn ranges_at(row: &[u8], at: usize) -> ListField
+    ensures { λ r. ⌜ listSays (group range) (now (row .entry)) r ≡ readAt (list (group range)) (now (row .entry)) at ⌝ }
+{
+    let U16Field::Value(count, first) = fields::u16_at(row, at) else {
+        return ListField::Refused(question::FIELD);
+    };
+    found(
+        ranges_end(row, first, count as usize),
+        first,
+        count as usize,
+    )
+}
+
+pub fn numbers_at(row: &[u8], at: usize) -> ListField
+    ensures { λ r. ⌜ listSays u32 (now (row .entry)) r ≡ readAt (list u32) (now (row .entry)) at ⌝ }
+{
+    let U16Field::Value(count, first) = fields::u16_at(row, at) else {
+        return ListField::Refused(question::FIELD);
+    };
+    found(
+        numbers_end(row, first, count as usize),
+        first,
+        count as usize,
+    )
+}
