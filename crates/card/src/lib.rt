@@ -58,7 +58,7 @@ pub struct Decoded {
 
 impl CardCheck {
     // The question that refused; 0 where none did.
-    fn refusal(self) -> u8
+    pub fn refusal(self) -> u8
         ensures { λ r. ⌜ r ≡ checkRefusal self ⌝ }
     {
         match self {

@@ -12,7 +12,7 @@ use borrow.Author.Tests.{lt-ltb, le-ltb}
 use Rattle.layout.specs.Read.{value}
 use Rattle.layout.specs.Form.{lebRead, lebPrint}
 use Rattle.layout.specs.RowLaws.{Bytes}
-use Rattle.layout.specs.Dwarf.{Encoding, last, more, valueOf, Minimal, Accepted}
+use Rattle.layout.specs.Dwarf.{Encoding, last, more, valueOf, Minimal, Accepted, LebLaws}
 use Rattle.layout.proofs.Leb.{print-read, Found, read-printed}
 
 -- ---- minimal encodings
@@ -70,3 +70,6 @@ pub accepted : (row : List ℕ) (n : ℕ) (rest : List ℕ) → Bytes row → le
 accepted row n rest by e =
     let f : Found 4 false row n rest = rw e at (read-printed 4 false row by) in
     rw (f .joins) at (printed n rest (f .below))
+
+pub leb-laws : LebLaws
+leb-laws = record { accepted = accepted; read-back = read-back; printed = printed; one-encoding = one-encoding }

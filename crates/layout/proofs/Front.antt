@@ -16,6 +16,7 @@ use Rattle.layout.specs.Read.{Read, value, refused, after}
 use Rattle.layout.specs.Veil.{Sensitivity, Level, hides, hide, zeros}
 use Rattle.layout.specs.Form.{bytes, code, orRefused, bigEndian, bytesOf, number, one, letter, flagOf, flagByte, flag}
 use Rattle.layout.specs.RowLaws.{Bytes}
+use Rattle.layout.specs.Width.{WidthLaws}
 use Rattle.layout.proofs.Hide.{as-long, hide-false, seam-cut, take-zeros}
 use Rattle.layout.proofs.Lawful.{ReadAlike, Outcome, same, Blinds, Lawful, value≢refused, passed}
 
@@ -202,6 +203,9 @@ big-back (suc w) bs by h =
     let e1 : (b * 256 + x) / 256 ≡ b = omega arith in
     let e2 : (b * 256 + x) % 256 ≡ x = omega arith in
     rw (e1, e2, big-back w bs by (omega arith), take-suc bs w 0 h)
+
+pub width-laws : (w : ℕ) → WidthLaws w
+width-laws w = record { long = length-bytesOf w; below = big-below w; read-back = big-bytes w; print-back = big-back w }
 
 pub number-lawful : (w : ℕ) → Lawful (number w)
 number-lawful w = code-lawful w 4 (λ bs. some (bigEndian w bs)) (bytesOf w) (λ n. n < 256 ^ w) (record {

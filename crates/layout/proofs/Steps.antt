@@ -4,14 +4,17 @@ use Prim.Native.Nat.{ℕ, suc, _≤_, _<_}
 use mathlib.Core.List.{List, [], _∷_, _++_}
 use mathlib.Core.Bool.{Bool, true, false, cond}
 use mathlib.Core.Option.{Option, none, some}
-use mathlib.Core.Path.{_≡_, refl, ap, _∙_}
+use mathlib.Core.Path.{_≡_, refl, sym, ap, _∙_}
 use native.Mathlib.Omega.{arith}
-use lib.ListN.{length, getD, drop, drop-of-length-le}
+use lib.ListN.{length, getD, take, drop, drop-of-length-le}
 use lib.Seq.{drop-cons}
+use lib.Dec.{leb}
+use Rattle.layout.specs.Questions.{FIELD}
+use Rattle.layout.specs.Veil.{Sensitivity}
 use Rattle.layout.specs.Read.{Read, value, refused, andThen, said}
-use Rattle.layout.specs.Form.{Form, u16, flag, noMore, onlyIf, times}
-use Rattle.layout.specs.Layout.{Layout, done, field, ask, end, parse, optional, list}
-use Rattle.layout.proofs.Lawful.{Lawful}
+use Rattle.layout.specs.Form.{Form, bytes, u16, flag, noMore, onlyIf, times, inside, usedUp}
+use Rattle.layout.specs.Layout.{Layout, done, field, ask, end, parse, optional, list, sized, Answer, accepted, refusedBy, answer, readRow}
+use Rattle.layout.proofs.Lawful.{Lawful, value≢refused}
 use Rattle.layout.proofs.At.{Took}
 
 -- reading l at `from` is reading `rest` at `here`
@@ -109,6 +112,52 @@ module _ {B : Type 0} (f : Form B) (row : List ℕ) (here : ℕ) where
   pub list-no : {n mid q : ℕ} → Took u16 row here n mid → (times f n) .read (drop mid row) ≡ refused q → (list f) .read (drop here row) ≡ refused q
   unfolding parse
   list-no t e = rw (t .reads, e)
+
+-- ---- a row within the row, behind its length: read as a row that stands alone
+abbrev pub alone : {B : Type 0} → Form B → ℕ → Layout B
+alone f q = field f (λ b. b) (λ b. end q (done b))
+
+module _ {B : Type 0} (f : Form B) (q : ℕ) where
+  abbrev pub inRow : List ℕ → Answer B → Read B
+  inRow rest (accepted b) = value b rest
+  inRow rest (refusedBy p) = refused p
+
+  used-up : (rest : List ℕ) (x : Read B) → usedUp q rest x ≡ inRow rest (answer (andThen x (λ b left. parse (end q (done b)) left)))
+  unfolding parse
+  used-up rest (value b []) = refl
+  used-up rest (value b (x ∷ xs)) = refl
+  used-up rest (refused p) = refl
+
+  module _ (row : List ℕ) (here : ℕ) where
+    pub sized-no-length : {p : ℕ} → u16 .read (drop here row) ≡ refused p → (sized f q) .read (drop here row) ≡ refused p
+    unfolding parse
+    sized-no-length e = rw e
+
+    module _ {n mid : ℕ} (t : Took u16 row here n mid) where
+      sized-is : (x : Read B) → (inside n q f) .read (drop mid row) ≡ x → (sized f q) .read (drop here row) ≡ x
+      unfolding parse
+      sized-is (value b rest) e = rw (t .reads, e)
+      sized-is (refused p) e = rw (t .reads, e)
+
+      pub sized-short : (s : Sensitivity) → (bytes s n) .read (drop mid row) ≡ refused FIELD → (sized f q) .read (drop here row) ≡ refused FIELD
+      sized-short s e = sized-is (refused FIELD) (go (leb n (length (drop mid row))) e)
+        where
+          go : (t : Bool) → cond t (value (take n (drop mid row)) (drop n (drop mid row))) (refused FIELD) ≡ refused FIELD
+              → cond t (usedUp q (drop n (drop mid row)) (f .read (take n (drop mid row)))) (refused FIELD) ≡ refused FIELD
+          go true e = absurd (value≢refused e)
+          go false e = refl
+
+      pub sized-part : (s : Sensitivity) {part : List ℕ} {next : ℕ} → Took (bytes s n) row mid part next → (sized f q) .read (drop here row) ≡ inRow (drop next row) (readRow (alone f q) part)
+      unfolding parse
+      sized-part s {part} {next} u = sized-is _ (go (leb n (length (drop mid row))) (u .reads) ∙ used-up (drop next row) (f .read part))
+        where
+          go : (t : Bool) → cond t (value (take n (drop mid row)) (drop n (drop mid row))) (refused FIELD) ≡ value part (drop next row)
+              → cond t (usedUp q (drop n (drop mid row)) (f .read (take n (drop mid row)))) (refused FIELD) ≡ usedUp q (drop next row) (f .read part)
+          go true e =
+              let same : take n (drop mid row) ≡ part = cc in
+              let rest : drop n (drop mid row) ≡ drop next row = cc in
+              rw (same, rest)
+          go false e = absurd (value≢refused (sym e))
 
 -- ---- a row that was printed: what was printed of a field stands in front
 pub record Stands {A : Type 0} (l : Layout A) (row : List ℕ) (rest : Layout A) (post : List ℕ) : Type 0 where

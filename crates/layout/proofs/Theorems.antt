@@ -9,10 +9,10 @@ use native.Mathlib.Omega.{arith}
 use lib.ListN.{length, getD}
 use lib.Dec.{lit<}
 use Rattle.layout.specs.Read.{Read, value, refused, after, said}
-use Rattle.layout.specs.Veil.{Level, hide, Outside, excused}
+use Rattle.layout.specs.Veil.{Level, veil, hide, Outside, excused}
 use Rattle.layout.specs.Layout.{Layout, parse, print, maskOf, blankOf, fitsOf, refusalOf, group, accepted, refusedBy, answer, readRow, hiddenRow}
-use Rattle.layout.specs.RowLaws.{Bytes, Alike, Judged, Valid, RowLaws}
-use Rattle.layout.proofs.Hide.{outside-hide, hide-hide, hide-at}
+use Rattle.layout.specs.RowLaws.{Bytes, Alike, Judged, Valid, RowLaws, VeilLaws}
+use Rattle.layout.proofs.Hide.{length-hide, outside-hide, hide-outside, hide-hide, hide-at}
 use Rattle.layout.proofs.Lawful.{ReadAlike, Same, Excused, Outcome, same, excuse, excuse′, Lawful, value≢refused}
 
 pub accepted≢ : {A : Type 0} {v : A} {n : ℕ} → accepted v ≡ refusedBy n → ⊥
@@ -131,4 +131,19 @@ module _ {A : Type 0} (l : Layout A) (law : Lawful (group l)) (ends : (v : A) (r
     same-hidden = λ lv row row′ j j′ len eqs. blinded lv row row′ j j′ len eqs .masks;
     hidden-prints = hidden-prints;
     hidden-twice = hidden-twice;
+  }
+
+-- ---- at 01's level nothing is excused
+module _ {A : Type 0} (l : Layout A) (laws : RowLaws l) where
+  judged : (row : List ℕ) → Judged l veil row
+  judged row q e = refl
+
+  pub veil-laws : VeilLaws l
+  veil-laws = record {
+    blind = λ row row′ len eqs. laws .blind veil row row′ (judged row) (judged row′) len eqs;
+    same-veiled = λ row row′ len eqs. laws .same-hidden veil row row′ (judged row) (judged row′) len eqs;
+    copy-alike = λ row. let copy = hiddenRow l veil row in
+        laws .blind veil row copy (judged row) (judged copy) (sym (length-hide (maskOf l veil row) row))
+        (hide-outside (maskOf l veil row) row copy (sym (hide-hide (maskOf l veil row) row)));
+    copy-twice = λ row. laws .hidden-twice veil row (judged row) (judged (hiddenRow l veil row));
   }

@@ -1,5 +1,5 @@
 -- Forms: the kinds of field that rows are made of. A form says how a field is read off the front of a row, how it is printed, and which of its bytes are hidden.
--- Assumes nothing.
+-- `leb m n` is m ≤ n, `ltb m n` is m < n, `eqb m n` is m = n; `cond t yes no`. Assumes nothing.
 use Prim.Native.Nat.{ℕ, zero, suc, _+_, _*_, _/_, _%_, _^_, _<_}
 use mathlib.Core.List.{List, [], _∷_, _++_, map}
 use mathlib.Core.Bool.{Bool, true, false, cond, _&&_, _||_}

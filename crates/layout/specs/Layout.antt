@@ -7,7 +7,7 @@ use mathlib.Core.Option.{Option, none, some}
 use mathlib.Core.Path.{_≡_}
 use lib.ListN.{length}
 use Rattle.layout.specs.Read.{Read, value, refused, andThen, after, first}
-use Rattle.layout.specs.Veil.{Level, hide}
+use Rattle.layout.specs.Veil.{Level, veil, hide}
 use Rattle.layout.specs.Form.{Form, flag, u16, noMore, onlyIf, times, inside}
 
 --     done a          no field is left; a is what was read
@@ -120,6 +120,10 @@ module _ {A : Type 0} where
 
   abbrev pub readRow : Layout A → List ℕ → Answer A
   readRow l row = answer (parse l row)
+
+  -- which bytes of a row are VEILED, document 01's term
+  abbrev pub veiledBytes : Layout A → List ℕ → List Bool
+  veiledBytes l row = maskOf l veil row
 
   -- the copy of a row with 0 for what is hidden
   abbrev pub hiddenRow : Layout A → Level → List ℕ → List ℕ

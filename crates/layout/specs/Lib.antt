@@ -6,4 +6,5 @@ pub mod Layout
 pub mod Field
 pub mod RowLaws
 pub mod Write
+pub mod Width
 pub mod Dwarf

@@ -6,8 +6,8 @@ use mathlib.Core.Bool.{false}
 use mathlib.Core.Option.{none, some}
 use mathlib.Core.Path.{_≡_}
 use lib.ListN.{length, getD}
-use Rattle.layout.specs.Veil.{Level, excused, Outside}
-use Rattle.layout.specs.Layout.{Layout, print, maskOf, blankOf, fitsOf, refusalOf, Answer, accepted, refusedBy, readRow, hiddenRow}
+use Rattle.layout.specs.Veil.{Level, veil, excused, Outside}
+use Rattle.layout.specs.Layout.{Layout, print, maskOf, blankOf, fitsOf, refusalOf, Answer, accepted, refusedBy, readRow, veiledBytes, hiddenRow}
 
 -- what the type of a row says
 abbrev pub Bytes : List ℕ → Type 0
@@ -47,3 +47,11 @@ module _ {A : Type 0} (l : Layout A) where
     -- the copy with 0 for what is hidden prints the value with 0 for it; hiding twice is hiding once
     pub hidden-prints : (lv : Level) (row : List ℕ) → Judged lv (hiddenRow l lv row) → Bytes row → (v : A) → readRow l row ≡ accepted v → print l (blankOf l lv v) ≡ hiddenRow l lv row
     pub hidden-twice : (lv : Level) (row : List ℕ) → Judged lv row → Judged lv (hiddenRow l lv row) → hiddenRow l lv (hiddenRow l lv row) ≡ hiddenRow l lv row
+
+  -- ---- the same of veiled bytes, where no question is excused
+  pub record VeilLaws : Type 0 where
+    pub blind : (row row′ : List ℕ) → length row ≡ length row′ → Outside (veiledBytes l row) row row′ → Alike veil (readRow l row) (readRow l row′)
+    pub same-veiled : (row row′ : List ℕ) → length row ≡ length row′ → Outside (veiledBytes l row) row row′ → veiledBytes l row′ ≡ veiledBytes l row
+    -- a row and its copy with 0 for the veiled bytes
+    pub copy-alike : (row : List ℕ) → Alike veil (readRow l row) (readRow l (hiddenRow l veil row))
+    pub copy-twice : (row : List ℕ) → hiddenRow l veil (hiddenRow l veil row) ≡ hiddenRow l veil row

@@ -1,5 +1,7 @@
 pub mod Scalars
 pub mod Lawful
-pub mod Rows
 pub mod Cases
+pub mod Proved
 pub mod Samples
+pub mod Edges
+pub mod ContactEdges

@@ -10,7 +10,7 @@ use lib.Dec.{leb}
 use lib.ListN.{length, length-append}
 use borrow.Author.Tests.{leb-true, leb-false, le-leb, lt-leb}
 use Rattle.rows.specs.Utf8.{Limits, Shape, shapes, isIn, choose, following, orNo, completes, utf8}
-use Rattle.rows.specs.Scalars.{Scalar, Scalars, Row, table, encodeBy, encode, encodeAll, Text}
+use Rattle.rows.specs.Scalars.{Scalar, Scalars, Row, table, encodeBy, encode, encodeAll, Text, Utf8Laws}
 
 -- a & b & c is (a, (b, c))
 infixr 2 _&_
@@ -196,6 +196,9 @@ one-list (n ∷ ns) (m ∷ ms) s t e =
 
 pub one-text : (bs : List ℕ) (s t : Text bs) → s .scalars ≡ t .scalars
 one-text bs s t = one-list (s .scalars) (t .scalars) (s .valid) (t .valid) (s .encoded ∙ sym (t .encoded))
+
+pub utf8-laws : Utf8Laws
+utf8-laws = record { utf8-text = utf8-text; text-utf8 = text-utf8; one-text = one-text }
 
 -- ---- two of the examples of RFC 3629, section 7
 alpha : encodeAll (0x41 ∷ 0x2262 ∷ 0x391 ∷ 0x2E ∷ []) ≡ 0x41 ∷ 0xE2 ∷ 0x89 ∷ 0xA2 ∷ 0xCE ∷ 0x91 ∷ 0x2E ∷ []

@@ -11,23 +11,23 @@ use Rattle.rows.specs.Checks.{sealedQueued, sealedCarried}
 
 pub data Case : Type 0 where
   -- reading these LEB128 bytes gives this
-  leb : List ℕ → Read ℕ → Case
+  reads : List ℕ → Read ℕ → Case
   -- a sealed text of this length passes: queued, carried
   sealed : ℕ → (queued carried : Bool) → Case
 
 abbrev pub cases : List Case
 cases =
-    leb (0x80 ∷ 0x01 ∷ []) (value 128 [])
-    ∷ leb (0x80 ∷ 0x00 ∷ []) (refused LEB128)
-    ∷ leb (0xFF ∷ 0xFF ∷ 0xFF ∷ 0xFF ∷ 0x0F ∷ []) (value 4294967295 [])
-    ∷ leb (0xFF ∷ 0xFF ∷ 0xFF ∷ 0xFF ∷ 0x10 ∷ []) (refused LEB128)
+    reads (0x80 ∷ 0x01 ∷ []) (value 128 [])
+    ∷ reads (0x80 ∷ 0x00 ∷ []) (refused LEB128)
+    ∷ reads (0xFF ∷ 0xFF ∷ 0xFF ∷ 0xFF ∷ 0x0F ∷ []) (value 4294967295 [])
+    ∷ reads (0xFF ∷ 0xFF ∷ 0xFF ∷ 0xFF ∷ 0x10 ∷ []) (refused LEB128)
     ∷ sealed 48 true true
     ∷ sealed 47 false false
     ∷ sealed 4064 true false
     ∷ []
 
 abbrev pub Holds : Case → Type 0
-Holds (leb bytes answer) = leb128 .read bytes ≡ answer
+Holds (reads bytes answer) = leb128 .read bytes ≡ answer
 Holds (sealed length queued carried) = (sealedQueued length ≡ queued) × (sealedCarried length ≡ carried)
 
 abbrev pub AllHold : List Case → Type 0

@@ -1,4 +1,4 @@
--- The questions that are asked of values: what is a yes. Each has document 01's number before it.
+-- The questions that are asked of values: what is a yes. Each has document 01's number before it. `leb` is at most, `ltb` below, `eqb` equal.
 -- Assumes nothing.
 use Prim.Native.Nat.{ℕ, suc, _+_, _/_, _%_}
 use mathlib.Core.List.{List, [], _∷_, map}
@@ -85,6 +85,10 @@ placesDistinct skipped = distinct samePlace (map place skipped)
 -- 20
 abbrev pub fewSkipped : List Skipped → Bool
 fewSkipped skipped = leb (length skipped) 500
+
+-- 21
+abbrev pub ackedSent : ℕ → ℕ → Bool
+ackedSent acked sent = leb acked sent
 
 -- 22: strictly rising, from lo to hi
 abbrev pub rising : ℕ → ℕ → List ℕ → Bool

@@ -3,6 +3,6 @@ pub mod Scalars
 pub mod Values
 pub mod Checks
 pub mod Rows
-pub mod Proved
 pub mod Answers
 pub mod Cases
+pub mod Proved

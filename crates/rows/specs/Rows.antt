@@ -1,10 +1,10 @@
--- The rows, as document 01 lays them out: its fields in its order, by its names, (v) as `veiled`.
+-- The rows, as document 01 lays them out: its fields in its order, (v) as `veiled`; `field f (λ v. v .x)` is the field that it calls x.
 -- Assumes nothing.
 use Prim.Native.Nat.{ℕ, _+_}
 use mathlib.Core.Bool.{cond, _&&_}
 use mathlib.Core.Option.{Option, none, some}
 use lib.ListN.{length}
-use lib.Dec.{leb, eqb}
+use lib.Dec.{eqb}
 use Rattle.layout.specs.Questions.{VERSION, CODE, CAPS, «NAME_LENGTH», «NAME_UTF8», «CARD_END», «COURIER_CONFIG», «SEALED_LENGTH», «CARRIED_COPIES», «CARRIED_EXPIRY», «ROW_END»}
 use Rattle.layout.specs.Questions.{«CHAINS_CURRENT», «CHAINS_GENS», «SKIPPED_KEYS», «SKIPPED_COUNT», «PEER_ACKED», UNACKED, ABOVE, EXPIRED}
 use Rattle.layout.specs.Veil.{plain, veiled}
@@ -13,7 +13,7 @@ use Rattle.layout.specs.Layout.{Layout, done, field, ask, end, group, optional,
 use Rattle.rows.specs.Utf8.{utf8}
 use Rattle.rows.specs.Values.{Device, Card, Pending, Send, Chain, Skipped, Range, Contact, Envelope, Queued, Carried, Tombstone, Courier}
 use Rattle.rows.specs.Checks.{versionKnown, capsKnown, kci, nameShort, courierAllowed, sealedQueued, sealedCarried, notZero}
-use Rattle.rows.specs.Checks.{oneChainAtMost, gensDistinct, placesDistinct, fewSkipped, rising, canonical, noneAbove}
+use Rattle.rows.specs.Checks.{oneChainAtMost, gensDistinct, placesDistinct, fewSkipped, ackedSent, rising, canonical, noneAbove}
 use Rattle.rows.specs.declared.PairingRole.{PairingRole}
 use Rattle.rows.specs.declared.PairingRole.the-variants.{A, B}
 use Rattle.rows.specs.declared.Verification.{Verification}
@@ -178,7 +178,7 @@ contact version = do
   ask «CHAINS_GENS» (gensDistinct chains)
   ask «SKIPPED_KEYS» (placesDistinct skips)
   ask «SKIPPED_COUNT» (fewSkipped skips)
-  ask «PEER_ACKED» (leb «peer_acked» «sent_msgno»)
+  ask «PEER_ACKED» (ackedSent «peer_acked» «sent_msgno»)
   ask UNACKED (rising 1 «sent_msgno» unacked)
   ask ABOVE (canonical (contiguous + 2) above)
   ask EXPIRED (canonical 1 expired && noneAbove «sent_msgno» expired)

@@ -2,9 +2,10 @@
 -- Assumes nothing.
 use Prim.Native.Nat.{ℕ, _+_, _/_, _%_, _≤_}
 use mathlib.Core.List.{List, [], _∷_, _++_}
-use mathlib.Core.Bool.{cond}
+use mathlib.Core.Bool.{true, cond}
 use mathlib.Core.Path.{_≡_}
 use lib.Dec.{leb}
+use Rattle.rows.specs.Utf8.{utf8}
 
 -- a code point that is no surrogate
 pub record Scalar (n : ℕ) : Type 0 where
@@ -52,3 +53,9 @@ pub record Text (bytes : List ℕ) : Type 0 where
   pub scalars : List ℕ
   pub valid : Scalars scalars
   pub encoded : encodeAll scalars ≡ bytes
+
+-- what is proved (proofs/Scalars.antt): the grammar accepts exactly the bytes of texts, and no bytes are two texts
+pub record Utf8Laws : Type 0 where
+  pub utf8-text : (bs : List ℕ) → utf8 bs ≡ true → Text bs
+  pub text-utf8 : (bs : List ℕ) → Text bs → utf8 bs ≡ true
+  pub one-text : (bs : List ℕ) (s t : Text bs) → s .scalars ≡ t .scalars
