@@ -1,11 +1,14 @@
 // Unsigned LEB128 of a number of 32 bits, seven bits to a byte and the lowest first: read at a position of a row, and written.
 // As in the Rust, but the reader says why it refuses, and the writer stores into a lent buffer.
 use layout::question;
+use rows::Written;
 ghost use mathlib.Core.Path.{_≡_};
 ghost use Prim.Native.Nat.{_+_, _≤_};
 ghost use lib.ListN.{length};
 ghost use Rattle.layout.specs.Form.{leb128, lebPrint};
 ghost use Rattle.layout.specs.Field.{readAt};
+ghost use Rattle.layout.specs.Write.{stored};
+ghost use Rattle.rows.specs.Answers.{leaves};
 ghost use Rattle.put.specs.Put.{Wrote};
 ghost use Rattle.data.specs.Says.{leb128Says};
 
@@ -72,7 +75,7 @@ pub fn leb128_len(value: u32) -> usize
 }
 
 // Writes a number from a position on, and answers the position behind it. A part of writers, which see to the room before their first store: so it requires the room (`leb128_len`).
-pub fn leb128(value: u32, out: &mut [u8], at: usize) -> usize
+pub fn put_leb128(value: u32, out: &mut [u8], at: usize) -> usize
     requires { ⌜ at + length (lebPrint 4 value) ≤ length (now out) ⌝ }
     ensures { λ r. ⌜ (r ≡ at + length (lebPrint 4 value)) × Wrote (now (out .entry)) at (lebPrint 4 value) (now (out .exit)) r ⌝ }
 {
@@ -83,4 +86,16 @@ pub fn leb128(value: u32, out: &mut [u8], at: usize) -> usize
         rest /= 128;
     }
     put::put_byte(out, here, rest as u8)
+}
+
+// Writes a number to the front of the output, if there is room.
+pub fn leb128(value: u32, out: &mut [u8]) -> Written
+    ensures { λ r. ⌜ leaves r (now (out .exit)) ≡ stored (lebPrint 4 value) (now (out .entry)) ⌝ }
+{
+    let n = leb128_len(value);
+    if out.len() < n {
+        return Written::Refused(question::OUTPUT);
+    }
+    put_leb128(value, out, 0);
+    Written::Length(n)
 }

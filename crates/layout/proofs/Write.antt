@@ -8,11 +8,20 @@ use lib.ListN.{length, drop}
 use borrow.Author.Tests.{le-leb, lt-leb}
 use Rattle.layout.specs.Questions.{OUTPUT}
 use Rattle.layout.specs.Layout.{Layout, Answer, accepted, refusedBy, readRow}
-use Rattle.layout.specs.Write.{wrote, refuses, judged, sized, asked, writes}
+use Rattle.layout.specs.Write.{wrote, refuses, stored, judged, sized, asked, writes}
 
 pub wrote≢refuses : {n q : ℕ} → wrote n ≡ refuses q → ⊥
 wrote≢refuses e = let z : _≡_ {A = ℕ} 0 1 = cc in omega arith
 
+-- ---- a row at the front of the output, and no room for it
+module _ (row out : List ℕ) where
+  pub stored-short : length out < length row → stored row out ≡ record { answer = refuses OUTPUT; out = out }
+  stored-short h = rw (lt-leb (length row) (length out) h)
+
+  pub stored-row : length row ≤ length out → stored row out ≡ record { answer = wrote (length row); out = row ++ drop (length row) out }
+  stored-row h = rw (le-leb (length row) (length out) h)
+
+-- ---- what is asked first decides
 module _ {A : Type 0} (l : Layout A) (row out : List ℕ) where
   pub writes-refused : {q : ℕ} → asked l row ≡ refuses q → writes l row out ≡ record { answer = refuses q; out = out }
   unfolding asked writes

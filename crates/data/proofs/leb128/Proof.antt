@@ -1,58 +1,40 @@
--- `data::leb128` meets its contract. The invariant: what is left to print (`Printing`), written from here on, gives the whole (`Writing`). The measure is what is left.
--- Assumes nothing.
-use mathlib.Core.List.{[], _∷_}
+-- `data::leb128` meets its contract: the room is asked for, then the encoding is stored at the front.
+use mathlib.Core.List.{List}
+use mathlib.Core.Path.{sym, ap₂, _∙_}
+use Prim.Native.Nat.{ℕ, _≤_}
 use native.Mathlib.Omega.{arith}
+use lib.ListN.{length}
 use borrow.Author.Needs.{needs}
 use Rattle.layout.specs.Form.{lebPrint}
-use Rattle.put.proofs.Put.{Writing, writing-start, writing-step, writing-done}
-use Rattle.data.proofs.Leb.{Printing, prints-more, prints-last, some-printed}
+use Rattle.layout.specs.Write.{wrote}
+use Rattle.layout.proofs.Write.{stored-short, stored-row}
+use Rattle.put.proofs.Put.{put-front}
 use Rattle.data.proofs.leb128.Statement.{statement}
 use Rattle.data.proofs.leb128.Tie as tie
 
-abbrev Inv-loop : tie.InvT-loop
-Inv-loop value out₀ at rest₀ here₀ out rest here = Printing (Writing out₀ at (lebPrint 4 value) out here) rest
+leb128-len-requires : tie.Need-leb128-len-requires
+leb128-len-requires c κs = search needs
 
-abbrev μ-loop : tie.MeasureT-loop
-μ-loop value out₀ at rest₀ here₀ out rest here = rest
+returns : tie.Need-returns
+returns c =
+    let s = c .before .before .before in
+    sym (stored-short (lebPrint 4 (s .args .value)) (s .args .out .now) (omega (arith, c .before .leb128-len .ensures)))
 
-loop-holds : tie.Need-loop-holds Inv-loop μ-loop
-loop-holds c = record { left = 4; below = search needs; holds = writing-start _ _ _ }
+put-leb128-requires : tie.Need-put-leb128-requires
+put-leb128-requires c κs = omega (arith, c .before .before .leb128-len .ensures)
 
-add-put-byte : tie.Need-add-put-byte Inv-loop μ-loop
-add-put-byte c = search needs
-
-cast-put-byte : tie.Need-cast-put-byte Inv-loop μ-loop
-cast-put-byte c = search needs
-
-put-byte-requires : tie.Need-put-byte-requires Inv-loop μ-loop
-put-byte-requires c κs = let l = c .before .before .loop in omega (arith, some-printed (l .inv .left) (l .rest))
-
-loop-less : tie.Need-loop-less Inv-loop μ-loop
-loop-less c = search needs
-
-loop-again : tie.Need-loop-again Inv-loop μ-loop
-loop-again c =
-    let call = c .before .before in
-    let turn = call .before .before in
-    prints-more (turn .before .loop .inv) (turn .loop-test .taken) (λ l w. writing-step (_ ∷ []) w (call .put-byte .ensures .1))
-
-cast-put-byte-2 : tie.Need-cast-put-byte-2 Inv-loop μ-loop
-cast-put-byte-2 c = search needs
-
-put-byte-requires-2 : tie.Need-put-byte-requires-2 Inv-loop μ-loop
-put-byte-requires-2 c κs = let l = c .before .before .loop in omega (arith, some-printed (l .inv .left) (l .rest))
-
-same-length : tie.Need-same-length Inv-loop μ-loop
+same-length : tie.Need-same-length
 same-length c = search needs
 
-returns : tie.Need-returns Inv-loop μ-loop
-returns c =
-    let call = c .before .before in
-    let end = call .before .before in
-    let wrote = writing-done (writing-step (_ ∷ []) (prints-last (end .before .loop .inv) (end .loop-test .left)) (call .put-byte2 .ensures .1)) in
-    (wrote .next-is, wrote)
+returns-2 : tie.Need-returns-2
+returns-2 c =
+    let p = c .before .before in
+    let n = p .before .before .before in
+    let s = n .before .before in
+    let row = lebPrint 4 (s .args .value) in
+    let out = s .args .out .now in
+    let room : length row ≤ length out = omega (arith, n .leb128-len .ensures) in
+    ap₂ (λ (k : ℕ) (l : List ℕ). record { answer = wrote k; out = l }) (n .leb128-len .ensures) (p .put-leb128 .ensures .1 .now-is ∙ put-front out row room) ∙ sym (stored-row row out room)
 
 pub leb128-spec : {M : Type 1} → statement M
-leb128-spec =
-    tie.close
-    (tie.spec Inv-loop μ-loop loop-holds add-put-byte cast-put-byte put-byte-requires loop-less loop-again cast-put-byte-2 put-byte-requires-2 same-length returns)
+leb128-spec = tie.close (tie.spec leb128-len-requires returns put-leb128-requires same-length returns-2)
