@@ -8,11 +8,12 @@ use mathlib.Core.Path.{_≡_}
 use lib.ListN.{length, take, drop}
 use Rattle.layout.specs.Questions.{FIELD}
 use Rattle.layout.specs.Veil.{zeros}
-use Rattle.layout.specs.Form.{bytesOf}
 use Rattle.layout.specs.Field.{Field, takes, refuses}
-use Rattle.layout.specs.Layout.{Answer, accepted, refusedBy}
+use Rattle.layout.specs.Layout.{Answer, accepted, refusedBy, print, readRow}
+use Rattle.layout.specs.RowLaws.{Bytes}
 use Rattle.rows.specs.Values as value
 use Rattle.rows.specs.Checks.{kci}
+use Rattle.rows.specs.Rows.{cardRow}
 use Rattle.rows.specs.Answers.{verdictOf}
 use Rattle.fields.specs.declared.RunField.{RunField}
 use Rattle.fields.specs.declared.RunField.the-variants as run
@@ -25,54 +26,53 @@ use Rattle.card.specs.declared.CardCheck.the-variants as check
 use Rattle.card.specs.declared.Decoded.{Decoded}
 
 -- ---- checking
--- the key that KCI calls for
-abbrev pub keySays : ℕ → List ℕ → RunField → Field (Option (List ℕ))
-keySays caps input (run.Value start next) = takes (cond (kci caps) (some (take 1184 (drop start input))) none) next
-keySays caps input run.Short = refuses FIELD
+-- the key that KCI calls for, at a place
+abbrev pub keySays : ℕ → List ℕ → ℕ → RunField → Field (Option (List ℕ))
+keySays caps input at (run.Value start next) = takes (cond (kci caps) (some (take 1184 (drop at input))) none) next
+keySays caps input at run.Short = refuses FIELD
 
-abbrev pub KeyPlaced : ℕ → List ℕ → RunField → Type 0
-KeyPlaced caps input (run.Value start next) = kci caps ≡ true → start + 1184 ≤ length input
-KeyPlaced caps input run.Short = Unit {0}
+abbrev pub KeyEnds : ℕ → ℕ → RunField → Type 0
+KeyEnds caps at (run.Value start next) = kci caps ≡ true → next ≡ at + 1184
+KeyEnds caps at run.Short = Unit {0}
 
--- the card that stands at these places of the input
+-- the card of these numbers: its runs stand at 5, at 38 and behind the name
 abbrev pub cardFrom : List ℕ → CardAt → value.Card
-cardFrom input at = record {
-  caps = at .caps;
-  «beacon_day» = at .«beacon_day»;
-  «beacon_key» = take 32 (drop (at .«beacon_key») input);
-  name = take (at .«name_len») (drop (at .name) input);
-  «static_ek» = cond (kci (at .caps)) (some (take 1184 (drop (at .«static_ek») input))) none;
+cardFrom input n = record {
+  caps = n .caps;
+  «beacon_day» = n .«beacon_day»;
+  «beacon_key» = take 32 (drop 5 input);
+  name = take (n .«name_len») (drop 38 input);
+  «static_ek» = cond (kci (n .caps)) (some (take 1184 (drop (38 + n .«name_len») input))) none;
 }
 
--- the places lie in the input
-pub record Places (input : List ℕ) (at : CardAt) : Type 0 where
-  pub «beacon_key» : at .«beacon_key» + 32 ≤ length input
-  pub «name_len» : at .«name_len» ≤ 48
-  pub name : at .name + at .«name_len» ≤ length input
-  pub «static_ek» : kci (at .caps) ≡ true → at .«static_ek» + 1184 ≤ length input
+-- the runs lie in the input
+pub record Places (input : List ℕ) (n : CardAt) : Type 0 where
+  pub «name_len» : n .«name_len» ≤ 48
+  pub name : 38 + n .«name_len» ≤ length input
+  pub «static_ek» : kci (n .caps) ≡ true → 38 + n .«name_len» + 1184 ≤ length input
 
 abbrev pub fieldSays : List ℕ → CardField → Field value.Card
-fieldSays input (cardField.Value at next) = takes (cardFrom input at) next
+fieldSays input (cardField.Value n next) = takes (cardFrom input n) next
 fieldSays input (cardField.Refused q) = refuses q
 
 abbrev pub fieldRefusal : CardField → ℕ
-fieldRefusal (cardField.Value at next) = 0
+fieldRefusal (cardField.Value n next) = 0
 fieldRefusal (cardField.Refused q) = q
 
 abbrev pub FieldPlaced : List ℕ → CardField → Type 0
-FieldPlaced input (cardField.Value at next) = Places input at
+FieldPlaced input (cardField.Value n next) = Places input n
 FieldPlaced input (cardField.Refused q) = Unit {0}
 
 abbrev pub checkSays : List ℕ → CardCheck → Answer value.Card
-checkSays input (check.Fields at) = accepted (cardFrom input at)
+checkSays input (check.Fields n) = accepted (cardFrom input n)
 checkSays input (check.Refused q) = refusedBy q
 
 abbrev pub checkRefusal : CardCheck → ℕ
-checkRefusal (check.Fields at) = 0
+checkRefusal (check.Fields n) = 0
 checkRefusal (check.Refused q) = q
 
 abbrev pub Placed : List ℕ → CardCheck → Type 0
-Placed input (check.Fields at) = Places input at
+Placed input (check.Fields n) = Places input n
 Placed input (check.Refused q) = Unit {0}
 
 -- ---- decoding: 0 stands where the name length or KCI leaves something out, and everywhere after a refusal
@@ -100,12 +100,23 @@ cardOrZeros (refusedBy q) = zeroCard
 abbrev pub decoded : Answer value.Card → Decoded
 decoded a = record { verdict = verdictOf a; card = cardOrZeros a }
 
--- ---- encoding: the row that would be written
-unfoldable pub nameImage : Card → List ℕ
-nameImage c = (c .«name_len» ∷ []) ++ (take (c .«name_len») (c .name) ++ cond (kci (c .caps)) (c .«static_ek») [])
+-- ---- encoding: the value that a struct stands for, and the row that would be written
+-- (a name length above 48 takes bytes that are not there; question 8 is then the answer, whatever they are)
+abbrev pub valueOf : Card → value.Card
+valueOf c = record {
+  caps = c .caps;
+  «beacon_day» = c .«beacon_day»;
+  «beacon_key» = c .«beacon_key»;
+  name = take (c .«name_len») (c .name ++ zeros 207);
+  «static_ek» = cond (kci (c .caps)) (some (c .«static_ek»)) none;
+}
 
 unfoldable pub image : Card → List ℕ
-image c = (c .caps ∷ []) ++ (bytesOf 4 (c .«beacon_day») ++ (c .«beacon_key» ++ nameImage c))
+image c = print cardRow (valueOf c)
+
+-- its part from the name's length on, where the name is not too long
+unfoldable pub namePart : Card → List ℕ
+namePart c = (c .«name_len» ∷ []) ++ (take (c .«name_len») (c .name) ++ cond (kci (c .caps)) (c .«static_ek») [])
 
 -- what the struct's type says
 pub record CardTyped (c : Card) : Type 0 where
@@ -115,3 +126,10 @@ pub record CardTyped (c : Card) : Type 0 where
   pub «name_len» : c .«name_len» < 256
   pub name : length (c .name) ≡ 48
   pub «static_ek» : length (c .«static_ek») ≡ 1184
+
+-- ---- what is proved of both (proofs/RoundTrip.antt)
+pub record CardLaws : Type 0 where
+  -- decode, then encode: the same bytes
+  pub read-write : (row : List ℕ) → Bytes row → (v : value.Card) → readRow cardRow row ≡ accepted v → image (cardOf v) ≡ row
+  -- encode, then decode: the same card, with 0 for what the name length and KCI leave out
+  pub write-read : (c : Card) → CardTyped c → (v : value.Card) → readRow cardRow (image c) ≡ accepted v → v ≡ valueOf c

@@ -18,7 +18,7 @@ ghost use Rattle.put.specs.Put.{Wrote};
 ghost use Rattle.rows.specs.Checks.{kci};
 ghost use Rattle.rows.specs.Rows.{card, cardRow};
 ghost use Rattle.rows.specs.Answers.{writtenSays, leaves};
-ghost use Rattle.card.specs.Card.{keySays, KeyPlaced, fieldSays, FieldPlaced, fieldRefusal, checkSays, Placed, checkRefusal, Places, cardFrom, cardOf, zeroCard, decoded, CardTyped, image, nameImage};
+ghost use Rattle.card.specs.Card.{keySays, KeyEnds, fieldSays, FieldPlaced, fieldRefusal, checkSays, Placed, checkRefusal, Places, cardFrom, cardOf, zeroCard, decoded, CardTyped, image, namePart};
 
 // A card. name_len says how much of name is a value, and bit 1 of caps (KCI) whether static_ek is one: what is left out is 0.
 pub struct Card {
@@ -30,15 +30,16 @@ pub struct Card {
     pub static_ek: [u8; 1184],
 }
 
-// A card's numbers, and where its runs start in the input. static_ek is no place where caps has no KCI.
+// A card's numbers. Its runs stand at fixed places of the input: beacon_key at 5, name at 38, and static_ek behind the name.
 pub struct CardAt {
-    pub beacon_key: usize,
-    pub name: usize,
-    pub static_ek: usize,
     pub beacon_day: u32,
     pub caps: u8,
     pub name_len: u8,
 }
+
+const BEACON_KEY_AT: usize = 5;
+
+const NAME_AT: usize = 38;
 
 enum CardField {
     Value(CardAt, usize),
@@ -83,7 +84,7 @@ impl CardField {
 // The key, where caps calls for one; no bytes where it does not.
 fn static_ek_at(input: &[u8], at: usize, caps: u8) -> RunField
     requires { ⌜ at ≤ length (now input) ⌝ }
-    ensures { λ r. ⌜ (keySays caps (now (input .entry)) r ≡ readAt (onlyIf (bytes plain 1184) (kci caps)) (now (input .entry)) at) × KeyPlaced caps (now (input .entry)) r ⌝ }
+    ensures { λ r. ⌜ (keySays caps (now (input .entry)) at r ≡ readAt (onlyIf (bytes plain 1184) (kci caps)) (now (input .entry)) at) × KeyEnds caps at r ⌝ }
 {
     if caps / 2 % 2 == 1 {
         return fields::run_at(input, at, rows::MLKEM768_ENCAPSULATION_KEY_LEN);
@@ -104,7 +105,7 @@ fn card_at(input: &[u8]) -> CardField
     let U32Field::Value(beacon_day, at2) = fields::u32_at(input, at1) else {
         return CardField::Refused(question::FIELD);
     };
-    let RunField::Value(beacon_key, at3) = fields::run_at(input, at2, 32) else {
+    let RunField::Value(_beacon_key, at3) = fields::run_at(input, at2, 32) else {
         return CardField::Refused(question::FIELD);
     };
     let U8Field::Value(name_len, at4) = fields::byte_at(input, at3) else {
@@ -119,14 +120,11 @@ fn card_at(input: &[u8]) -> CardField
     if !names::is_utf8(&input[name..at5]) {
         return CardField::Refused(question::NAME_UTF8);
     }
-    let RunField::Value(static_ek, at6) = static_ek_at(input, at5, caps) else {
+    let RunField::Value(_static_ek, at6) = static_ek_at(input, at5, caps) else {
         return CardField::Refused(question::FIELD);
     };
     CardField::Value(
         CardAt {
-            beacon_key,
-            name,
-            static_ek,
             beacon_day,
             caps,
             name_len,
@@ -149,7 +147,6 @@ pub fn check_card(input: &[u8]) -> CardCheck
     CardCheck::Fields(at)
 }
 
-// The n bytes of input from a place, and zeros.
 fn beacon_key_from(input: &[u8], from: usize) -> [u8; 32]
     requires { ⌜ from + 32 ≤ length (now input) ⌝ }
     ensures { λ r. ⌜ r ≡ take 32 (drop from (now (input .entry))) ⌝ }
@@ -183,16 +180,17 @@ fn static_ek_from(input: &[u8], from: usize) -> [u8; 1184]
     key
 }
 
-// The card at the places that check_card found.
+// The card of the numbers that check_card found.
 fn card_from(input: &[u8], at: CardAt) -> Card
     requires { ⌜ Places (now input) at ⌝ }
     ensures { λ r. ⌜ r ≡ cardOf (cardFrom (now (input .entry)) at) ⌝ }
 {
-    let beacon_key = beacon_key_from(input, at.beacon_key);
-    let name = name_from(input, at.name, at.name_len as usize);
+    let n = at.name_len as usize;
+    let beacon_key = beacon_key_from(input, BEACON_KEY_AT);
+    let name = name_from(input, NAME_AT, n);
     let mut static_ek = [0u8; 1184];
     if at.caps / 2 % 2 == 1 {
-        static_ek = static_ek_from(input, at.static_ek);
+        static_ek = static_ek_from(input, NAME_AT + n);
     }
     Card {
         beacon_day: at.beacon_day,
@@ -296,8 +294,8 @@ pub fn put_card(out: &mut [u8], at: usize, card: Card) -> usize
 
 // The card from the name's length on.
 fn put_name(out: &mut [u8], at: usize, card: Card) -> usize
-    requires { ⌜ (card .«name_len» ≤ 48) × (at + length (nameImage card) ≤ length (now out)) ⌝ }
-    ensures { λ r. ⌜ (r ≡ at + length (nameImage card)) × Wrote (now (out .entry)) at (nameImage card) (now (out .exit)) r ⌝ }
+    requires { ⌜ (card .«name_len» ≤ 48) × (at + length (namePart card) ≤ length (now out)) ⌝ }
+    ensures { λ r. ⌜ (r ≡ at + length (namePart card)) × Wrote (now (out .entry)) at (namePart card) (now (out .exit)) r ⌝ }
 {
     typed(card);
     let name_at = put::put_byte(out, at, card.name_len);

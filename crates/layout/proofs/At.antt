@@ -1,7 +1,7 @@
 -- Laws of `readAt`: what is known once a field was taken at a position, and what is to be shown of a reader of fields.
 -- Assumes nothing.
 use Prim.Native.Nat.{ℕ, zero, suc, _+_, _-_, _^_, _≤_, _<_}
-use mathlib.Core.List.{List, [], _∷_}
+use mathlib.Core.List.{List, [], _∷_, _++_}
 use mathlib.Core.Option.{Option, none, some}
 use mathlib.Core.Path.{_≡_, refl, sym, ap, _∙_}
 use native.Mathlib.Omega.{arith}
@@ -18,6 +18,7 @@ use Rattle.layout.specs.Form.{Form, bytes, code, bigEndian, bytesOf, num
 use Rattle.layout.specs.Field.{takes, refuses, placed, readAt}
 use Rattle.layout.specs.RowLaws.{Bytes}
 use Rattle.layout.proofs.Lawful.{Lawful}
+use Rattle.layout.proofs.Front.{bytes-lawful, number-lawful, length-bytesOf}
 
 -- what a call's answer says, once it is known which case the answer is
 pub learn : {A B : Type 0} (says : A → B) {r v : A} {x : B} → says r ≡ x → r ≡ v → x ≡ says v
@@ -62,6 +63,14 @@ module _ (row : List ℕ) (here : ℕ) where
             let same : c ≡ b = cc in
             record { reads = rw (h, same, ← place, left-at n rest long left); inside = omega arith; onward = λ l. omega arith }
         go (refused q) h e = absurd (takes≢refuses (sym e))
+
+    -- the next position is behind what the value prints
+    pub took-next : Lawful f → Bytes row → {b : B} {next : ℕ} → readAt f row here ≡ takes b next → here ≤ length row → next ≡ here + length (f .print b)
+    took-next law by {b} {next} e h =
+        let t = took law by e in
+        let j = law .joins (drop here row) b (drop next row) (bytes-drop here row by) (t .reads) in
+        let long : length (f .print b ++ drop next row) ≡ length (drop here row) = ap (λ (l : List ℕ). length l) j in
+        omega (arith, t .inside, long, length-append (f .print b) (drop next row), length-drop here row, length-drop next row)
 
     -- and the value fits
     pub fits-at : Lawful f → Bytes row → {b : B} {next : ℕ} → readAt f row here ≡ takes b next → f .fits b (drop next row)
@@ -111,6 +120,13 @@ module _ (row : List ℕ) (here n : ℕ) where
 -- no bytes, past the row's end
 pub bytes-none : (row : List ℕ) (here : ℕ) (s : Sensitivity) → length row ≤ here → readAt (bytes s 0) row here ≡ takes [] (length row)
 bytes-none row here s h = takes-at row here (bytes s 0) (rw (drop-of-length-le row {i = here} h, drop-of-length-le row {i = length row} (omega arith))) (omega arith)
+
+-- where a run and a number end
+pub bytes-next : (row : List ℕ) (here n : ℕ) (s : Sensitivity) → Bytes row → {bs : List ℕ} {next : ℕ} → readAt (bytes s n) row here ≡ takes bs next → here ≤ length row → next ≡ here + n
+bytes-next row here n s by e h = took-next row here (bytes s n) (bytes-lawful s n) by e h ∙ ap (λ (k : ℕ). here + k) (fits-at row here (bytes s n) (bytes-lawful s n) by e)
+
+pub number-next : (row : List ℕ) (here w : ℕ) → Bytes row → {n next : ℕ} → readAt (number w) row here ≡ takes n next → here ≤ length row → next ≡ here + w
+number-next row here w by {n} e h = took-next row here (number w) (number-lawful w) by e h ∙ ap (λ (k : ℕ). here + k) (length-bytesOf w n)
 
 -- ---- numbers of w bytes
 big-take : (w n : ℕ) (bs : List ℕ) → w ≤ n → bigEndian w (take n bs) ≡ bigEndian w bs

@@ -1,6 +1,8 @@
 -- `card::card_at` meets its contract: one step of the layout for each field and question.
 use Prim.Native.Nat.{ℕ, _+_, _-_}
 use mathlib.Core.List.{List}
+use mathlib.Core.Bool.{cond}
+use mathlib.Core.Option.{none, some}
 use mathlib.Core.Path.{_≡_, sym, subst, _∙_}
 use native.Mathlib.Omega.{arith}
 use lib.ListN.{take, drop}
@@ -9,17 +11,18 @@ use borrow.Author.Tests.{lt-ltb, le-ltb, le-leb, lt-leb, not-true, not-false}
 use Rattle.layout.specs.Veil.{plain, veiled}
 use Rattle.layout.specs.Form.{bytes, onlyIf, u8, u32}
 use Rattle.layout.specs.Layout.{group}
+use Rattle.layout.specs.Field.{takes}
 use Rattle.layout.specs.RowLaws.{Bytes}
 use Rattle.layout.proofs.Front.{bytes-lawful, number-lawful}
 use Rattle.layout.proofs.Parts.{onlyIf-lawful}
-use Rattle.layout.proofs.At.{Took, took, refused-at, takes-at, refuses-at, learn, typed}
+use Rattle.layout.proofs.At.{Took, took, refused-at, takes-at, refuses-at, number-next, bytes-next, learn, typed}
 use Rattle.layout.proofs.Steps.{Reached, start, field-yes, field-no, ask-yes, ask-no, done-yes}
 use Rattle.rows.specs.Checks.{kci}
 use Rattle.rows.specs.Rows.{card}
 use Rattle.rows.specs.Utf8.{utf8}
-use Rattle.fields.specs.Says.{Ends, u8Says, u32Says}
+use Rattle.fields.specs.Says.{Ends, runSays, u8Says, u32Says}
 use Rattle.fields.proofs.Runs.{run-took, run-short}
-use Rattle.card.specs.Card.{keySays, KeyPlaced}
+use Rattle.card.specs.Card.{keySays, KeyEnds, cardFrom}
 use Rattle.card.proofs.card_at.Statement.{statement}
 use Rattle.card.proofs.card_at.Tie as tie
 
@@ -57,16 +60,16 @@ abbrev s4 : tie.After-known-told3 → tie.After-shared-slice-known
 s4 c = s3 (c .before .before .before .before)
 
 abbrev key : tie.After-known-told3 → ℕ
-key c = c .before .beacon-key .given .0 .0
+key c = c .before .-beacon-key .given .0 .0
 
 abbrev key-end : tie.After-known-told3 → ℕ
-key-end c = c .before .beacon-key .given .0 .1 .0
+key-end c = c .before .-beacon-key .given .0 .1 .0
 
 key-took : (c : tie.After-known-told3) → Took (bytes veiled 32) (input (s4 c)) (r3 (c .before .before .before .before) .here) (take 32 (drop (key c) (input (s4 c)))) (key-end c)
-key-took c = run-took _ _ veiled 32 (c .before .before .before .run-at .ensures .0) (by (s4 c)) (c .before .beacon-key .given .1)
+key-took c = run-took _ _ veiled 32 (c .before .before .before .run-at .ensures .0) (by (s4 c)) (c .before .-beacon-key .given .1)
 
 key-ends : (c : tie.After-known-told3) → key-end c ≡ key c + 32
-key-ends c = subst (Ends 32) (c .before .beacon-key .given .1) (c .before .before .before .run-at .ensures .1)
+key-ends c = subst (Ends 32) (c .before .-beacon-key .given .1) (c .before .before .before .run-at .ensures .1)
 
 abbrev r4 : (c : tie.After-known-told3) → Read (s4 c)
 r4 c = field-yes (r3 (c .before .before .before .before) .so) (key-took c)
@@ -102,6 +105,34 @@ name-ends c = subst (Ends (name-len c)) (c .before .name .given .1) (c .before .
 
 abbrev r7 : (c : tie.After-known-told5) → Read (s7 c)
 r7 c = field-yes (r6 (c .before .before .before .before) .so) (name-took c)
+
+-- ---- the places: 5 for the key, 38 for the name
+one : (c : tie.After-known-told) → c .before .caps .given .0 .1 .0 ≡ 1
+one c = number-next (input (s1 c)) 0 1 (by (s1 c)) (learn u8Says (c .before .before .before .byte-at .ensures) (c .before .caps .given .1)) (omega arith)
+
+five : (c : tie.After-known-told2) → c .before .beacon-day .given .0 .1 .0 ≡ 5
+five c =
+    let k = c .before .before .before .before .before in
+    let read = learn u32Says (c .before .before .before .u32-at .ensures) (c .before .beacon-day .given .1) in
+    let inside = took _ _ u8 (number-lawful 1) (by (s1 k)) (learn u8Says (k .before .before .before .byte-at .ensures) (k .before .caps .given .1)) .inside in
+    omega (arith, one k, number-next (input (s3 c)) (k .before .caps .given .0 .1 .0) 4 (by (s3 c)) read inside)
+
+key-place : (c : tie.After-known-told3) → key c ≡ 5
+key-place c =
+    let k = c .before .before .before .before in
+    let read = learn (runSays 32 (input (s4 c))) (c .before .before .before .run-at .ensures .0) (c .before .-beacon-key .given .1) in
+    let inside = took _ _ u32 (number-lawful 4) (by (s3 k)) (learn u32Says (k .before .before .before .u32-at .ensures) (k .before .beacon-day .given .1)) .inside in
+    omega (arith, five k, key-ends c, bytes-next (input (s4 c)) (k .before .beacon-day .given .0 .1 .0) 32 plain (by (s4 c)) read inside)
+
+name-place : (c : tie.After-known-told5) → name c ≡ 38
+name-place c =
+    let k = c .before .before .before .before .before in
+    let k3 = k .before .before .before .before in
+    let len = learn u8Says (k .before .before .before .byte-at2 .ensures) (k .before .name-len .given .1) in
+    let read = learn (runSays (name-len c) (input (s7 c))) (c .before .before .before .run-at2 .ensures .0) (c .before .name .given .1) in
+    let inside = took _ _ u8 (number-lawful 1) (by (s5 k)) len .inside in
+    let behind = number-next (input (s5 k)) (key-end k3) 1 (by (s5 k)) len (key-took k3 .inside) in
+    omega (arith, key-place k3, key-ends k3, behind, name-ends c, bytes-next (input (s7 c)) (k .before .name-len .given .0 .1 .0) (name-len c) plain (by (s7 c)) read inside)
 
 -- the part that is_utf8 was lent is the name
 valid : (c : tie.After-is-utf8) → utf8 (take (name-len (c .before .before)) (drop (name (c .before .before)) (input (s7 (c .before .before))))) ≡ c .is-utf8 .result
@@ -152,8 +183,8 @@ returns-3 c = (sym (refuses-at _ _ (group card) (field-no (r2 (c .before .before
 run-at-requires : tie.Need-run-at-requires
 run-at-requires c κs = search needs
 
-enum-known-beacon-key : tie.Need-enum-known-beacon-key
-enum-known-beacon-key c = search needs
+enum-known--beacon-key : tie.Need-enum-known--beacon-key
+enum-known--beacon-key c = search needs
 
 enum-told-3 : tie.Need-enum-told-3
 enum-told-3 c = search needs
@@ -212,28 +243,41 @@ returns-8 c = (sym (refuses-at _ _ (group card) (ask-no (r7 (c .before .before .
 static-ek-at-requires : tie.Need-static-ek-at-requires
 static-ek-at-requires c κs = name-took (c .before .before .before) .inside
 
-enum-known-static-ek : tie.Need-enum-known-static-ek
-enum-known-static-ek c = search needs
+enum-known--static-ek : tie.Need-enum-known--static-ek
+enum-known--static-ek c = search needs
 
 enum-told-6 : tie.Need-enum-told-6
 enum-told-6 c = search needs
 
 returns-9 : tie.Need-returns-9
 returns-9 c =
-    let e = c .before .before .before in
-    (sym (refuses-at _ _ (group card) (field-no (r8 e .so) (refused-at _ _ (onlyIf (bytes plain 1184) (kci (caps e))) (learn (keySays (caps e) _) (c .before .before .static-ek-at .ensures .0) (c .enum-told6 .given .1))))), tt)
+    let e = c .before .before .before in (
+      sym (refuses-at _ _ (group card) (field-no (r8 e .so)
+          (refused-at _ _ (onlyIf (bytes plain 1184) (kci (caps e))) (learn (keySays (caps e) _ _) (c .before .before .static-ek-at .ensures .0) (c .enum-told6 .given .1))))),
+      tt,
+    )
+
+-- the card that was read, once its places are known
+at-places : (input : List ℕ) (c d l k n e next : ℕ) → k ≡ 5 → n ≡ 38 → e ≡ 38 + l
+    → takes (cardFrom input (record { caps = c; «beacon_day» = d; «name_len» = l })) next
+    ≡ takes (record { caps = c; «beacon_day» = d; «beacon_key» = take 32 (drop k input); name = take l (drop n input); «static_ek» = cond (kci c) (some (take 1184 (drop e input))) none }) next
+at-places input c d l k n e next p q r = rw (p, q, r)
 
 returns-10 : tie.Need-returns-10
 returns-10 c =
     let e = c .before .before .before .before in
+    let k = s8 e in
+    let all = input (s7 k) in
     let key-form = onlyIf (bytes plain 1184) (kci (caps e)) in
-    let t = took _ _ key-form (onlyIf-lawful (bytes plain 1184) (bytes-lawful plain 1184) (kci (caps e))) (by (s7 (s8 e))) (learn (keySays (caps e) _) (c .before .before .before .static-ek-at .ensures .0) (c .before .static-ek .given .1)) in (
-      sym (takes-at _ _ (group card) (done-yes (field-yes (r8 e .so) t .so)) (t .inside)),
+    let read = learn (keySays (caps e) all (name-end k)) (c .before .before .before .static-ek-at .ensures .0) (c .before .-static-ek .given .1) in
+    let t = took all (name-end k) key-form (onlyIf-lawful (bytes plain 1184) (bytes-lawful plain 1184) (kci (caps e))) (by (s7 k)) read in
+    let behind : name-end k ≡ 38 + name-len k = omega (arith, name-place k, name-ends k) in
+    let day = k3 k .before .before .before .before .before .beacon-day .given .0 .0 in (
+      at-places all (caps e) day (name-len k) (key (k3 k)) (name k) (name-end k) (c .before .-static-ek .given .0 .1 .0) (key-place (k3 k)) (name-place k) behind ∙ sym (takes-at _ _ (group card) (done-yes (field-yes (r8 e .so) t .so)) (t .inside)),
       record {
-        «beacon_key» = omega (arith, key-ends (k3 (s8 e)), key-took (k3 (s8 e)) .inside);
-        «name_len» = s8 e .before .before .before .before .if2 .left;
-        name = omega (arith, name-ends (s8 e), name-took (s8 e) .inside);
-        «static_ek» = subst (KeyPlaced (caps e) (input (s7 (s8 e)))) (c .before .static-ek .given .1) (c .before .before .before .static-ek-at .ensures .1);
+        «name_len» = k .before .before .before .before .if2 .left;
+        name = omega (arith, behind, name-took k .inside);
+        «static_ek» = λ set. omega (arith, behind, t .inside, subst (KeyEnds (caps e) (name-end k)) (c .before .-static-ek .given .1) (c .before .before .before .static-ek-at .ensures .1) set);
       },
     )
 
@@ -251,7 +295,7 @@ card-at-spec =
     enum-told-2
     returns-3
     run-at-requires
-    enum-known-beacon-key
+    enum-known--beacon-key
     enum-told-3
     returns-4
     byte-at-requires-2
@@ -271,7 +315,7 @@ card-at-spec =
     is-utf8-requires
     returns-8
     static-ek-at-requires
-    enum-known-static-ek
+    enum-known--static-ek
     enum-told-6
     returns-9
     returns-10)

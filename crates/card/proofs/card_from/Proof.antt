@@ -1,5 +1,5 @@
 -- `card::card_from` meets its contract: each run is copied to its array, and the key is zeros where there is none.
-use Prim.Native.Nat.{ℕ, _-_}
+use Prim.Native.Nat.{ℕ, _+_, _-_}
 use mathlib.Core.List.{List, _++_}
 use mathlib.Core.Bool.{cond}
 use mathlib.Core.Option.{none, some}
@@ -16,21 +16,24 @@ use Rattle.card.proofs.card_from.Statement.{statement}
 use Rattle.card.proofs.card_from.Tie as tie
 
 module _ (input : List ℕ) (at : CardAt) (places : Places input at) where
-  made : (key name ek : List ℕ) → key ≡ take 32 (drop (at .«beacon_key») input) → name ≡ take (at .«name_len») (drop (at .name) input) ++ zeros (48 - at .«name_len»)
-      → ek ≡ orZeros 1184 (cond (kci (at .caps)) (some (take 1184 (drop (at .«static_ek») input))) none)
+  made : (key name ek : List ℕ) → key ≡ take 32 (drop 5 input) → name ≡ take (at .«name_len») (drop 38 input) ++ zeros (48 - at .«name_len»)
+      → ek ≡ orZeros 1184 (cond (kci (at .caps)) (some (take 1184 (drop (38 + at .«name_len») input))) none)
       → record { «beacon_day» = at .«beacon_day»; caps = at .caps; «name_len» = at .«name_len»; «beacon_key» = key; name = name; «static_ek» = ek } ≡ cardOf (cardFrom input at)
   made key name ek e1 e2 e3 =
-      let long : length (take (at .«name_len») (drop (at .name) input)) ≡ at .«name_len» = length-run input (at .name) (at .«name_len») (places .name) in
+      let long : length (take (at .«name_len») (drop 38 input)) ≡ at .«name_len» = length-run input 38 (at .«name_len») (places .name) in
       rw (e1, e2, e3, long)
+
+cast-n : tie.Need-cast-n
+cast-n c = search needs
 
 beacon-key-from-requires : tie.Need-beacon-key-from-requires
 beacon-key-from-requires c κs = search needs
 
-cast-name-from : tie.Need-cast-name-from
-cast-name-from c = search needs
-
 name-from-requires : tie.Need-name-from-requires
 name-from-requires c κs = search needs
+
+add-static-ek-from : tie.Need-add-static-ek-from
+add-static-ek-from c = search needs
 
 static-ek-from-requires : tie.Need-static-ek-from-requires
 static-ek-from-requires c κs = c .before .before .before .before .before .before .pre .«static_ek» (eq-eqb _ _ (c .if1 .taken))
@@ -40,13 +43,13 @@ returns c =
     let t = c .before in
     let n = t .before .before in
     let s = n .before .before .before .before in
-    made (s .args .input .now) (s .args .at) (s .pre) _ _ _ (n .before .before .beacon-key-from .ensures) (n .name-from .ensures) (rw (eq-eqb _ _ (t .if1 .taken)) (c .static-ek-from .ensures))
+    made (s .args .input .now) (s .args .at) (s .pre) _ _ _ (n .before .beacon-key-from .ensures) (n .name-from .ensures) (rw (eq-eqb _ _ (t .if1 .taken)) (c .static-ek-from .ensures))
 
 returns-2 : tie.Need-returns-2
 returns-2 c =
     let n = c .before .before in
     let s = n .before .before .before .before in
-    made (s .args .input .now) (s .args .at) (s .pre) _ _ _ (n .before .before .beacon-key-from .ensures) (n .name-from .ensures) (rw (ne-eqb _ _ (c .if1 .left)))
+    made (s .args .input .now) (s .args .at) (s .pre) _ _ _ (n .before .beacon-key-from .ensures) (n .name-from .ensures) (rw (ne-eqb _ _ (c .if1 .left)))
 
 pub card-from-spec : {M : Type 1} → statement M
-card-from-spec = tie.close (tie.spec beacon-key-from-requires cast-name-from name-from-requires static-ek-from-requires returns returns-2)
+card-from-spec = tie.close (tie.spec cast-n beacon-key-from-requires name-from-requires add-static-ek-from static-ek-from-requires returns returns-2)

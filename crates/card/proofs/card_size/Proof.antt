@@ -71,7 +71,7 @@ returns-4 : tie.Need-returns-4
 returns-4 c =
     let u = c .before .before .before in
     let t = t1 (e2 (e3 u)) in
-    sym (with-key (card t) (t .typed .ensures) (known (e2 (e3 u))) (few (e3 u)) (valid (c .before .before)) (eq-eqb _ _ (c .if4 .taken)))
+    sym (with-key (card t) (t .typed .ensures) (few (e3 u)) (known (e2 (e3 u))) (valid (c .before .before)) (eq-eqb _ _ (c .if4 .taken)))
 
 add-t12 : tie.Need-add-t12
 add-t12 c = search needs
@@ -80,7 +80,7 @@ returns-5 : tie.Need-returns-5
 returns-5 c =
     let u = c .before .before .before in
     let t = t1 (e2 (e3 u)) in
-    sym (without-key (card t) (t .typed .ensures) (known (e2 (e3 u))) (few (e3 u)) (valid (c .before .before)) (ne-eqb _ _ (c .if4 .left)))
+    sym (without-key (card t) (t .typed .ensures) (few (e3 u)) (known (e2 (e3 u))) (valid (c .before .before)) (ne-eqb _ _ (c .if4 .left)))
 
 pub card-size-spec : {M : Type 1} → statement M
 card-size-spec =

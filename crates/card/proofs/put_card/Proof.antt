@@ -2,8 +2,7 @@
 use native.Mathlib.Omega.{arith}
 use borrow.Author.Needs.{needs}
 use Rattle.put.proofs.Put.{_then_, wrote-long}
-use Rattle.card.specs.Card as spec
-use Rattle.card.proofs.Image.{length-image}
+use Rattle.card.proofs.Image.{image-is, length-image}
 use Rattle.card.proofs.put_card.Statement.{statement}
 use Rattle.card.proofs.put_card.Tie as tie
 
@@ -14,7 +13,7 @@ put-byte-requires : tie.Need-put-byte-requires
 put-byte-requires c κs =
     let t = c .before in
     let s = t .before .before in
-    omega (arith, length-image (s .args .card) (t .typed .ensures))
+    omega (arith, length-image (s .args .card) (t .typed .ensures) (s .pre .0))
 
 cast-put-be : tie.Need-cast-put-be
 cast-put-be c = search needs
@@ -24,7 +23,7 @@ put-be-requires c κs =
     let b = c .before .before .before .before in
     let t = b .before .before in
     let s = t .before .before in
-    omega (arith, length-image (s .args .card) (t .typed .ensures), wrote-long (b .put-byte .ensures .1))
+    omega (arith, length-image (s .args .card) (t .typed .ensures) (s .pre .0), wrote-long (b .put-byte .ensures .1))
 
 put-32-requires : tie.Need-put-32-requires
 put-32-requires c κs =
@@ -32,7 +31,7 @@ put-32-requires c κs =
     let b = e .before .before .before .before .before in
     let t = b .before .before in
     let s = t .before .before in
-    omega (arith, length-image (s .args .card) (t .typed .ensures), wrote-long (b .put-byte .ensures .1), wrote-long (e .put-be .ensures .1), e .put-be .ensures .0, b .put-byte .ensures .0, s .pre .1)
+    omega (arith, length-image (s .args .card) (t .typed .ensures) (s .pre .0), wrote-long (b .put-byte .ensures .1), wrote-long (e .put-be .ensures .1), e .put-be .ensures .0, b .put-byte .ensures .0, s .pre .1)
 
 put-name-requires : tie.Need-put-name-requires
 put-name-requires c κs =
@@ -44,7 +43,7 @@ put-name-requires c κs =
       s .pre .0,
       omega (
         arith,
-        length-image (s .args .card) (t .typed .ensures),
+        length-image (s .args .card) (t .typed .ensures) (s .pre .0),
         wrote-long (b .put-byte .ensures .1),
         wrote-long (e .put-be .ensures .1),
         wrote-long (k .put-32 .ensures .1),
@@ -59,14 +58,15 @@ same-length : tie.Need-same-length
 same-length c = search needs
 
 returns : tie.Need-returns
-unfolding spec.image
 returns c =
     let n = c .before .before in
     let k = n .before .before .before .before in
     let e = k .before .before .before .before .before .before in
     let b = e .before .before .before .before .before in
+    let t = b .before .before in
+    let s = t .before .before in
     let w = b .put-byte .ensures .1 then (e .put-be .ensures .1 then (k .put-32 .ensures .1 then n .put-name .ensures .1)) in
-    (w .next-is, w)
+    rw (image-is (s .args .card) (t .typed .ensures) (s .pre .0)) (w .next-is, w)
 
 pub put-card-spec : {M : Type 1} → statement M
 put-card-spec = tie.close (tie.spec typed-requires put-byte-requires cast-put-be put-be-requires put-32-requires put-name-requires same-length returns)

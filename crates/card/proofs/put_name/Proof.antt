@@ -12,24 +12,24 @@ use Rattle.rows.specs.Checks.{kci}
 use Rattle.put.specs.Put.{Wrote}
 use Rattle.put.proofs.Put.{_then_, wrote-long}
 use Rattle.card.specs.Card as spec
-use Rattle.card.specs.Card.{CardTyped, nameImage}
+use Rattle.card.specs.Card.{CardTyped, namePart}
 use Rattle.card.specs.declared.Card.{Card}
-use Rattle.card.proofs.Image.{length-name-image}
+use Rattle.card.proofs.Image.{length-name-part}
 use Rattle.card.proofs.put_name.Statement.{statement}
 use Rattle.card.proofs.put_name.Tie as tie
 
--- the bytes that the writers put, one behind the other, are the image
+-- the bytes that the writers put, one behind the other, are the part
 module _ (c : Card) {out m : List ℕ} {at p : ℕ} where
   with-key : CardTyped c → kci (c .caps) ≡ true → Wrote out at ((c .«name_len» ∷ []) ++ (take (c .«name_len») (drop 0 (c .name)) ++ take 1184 (drop 0 (c .«static_ek»)))) m p
-      → (p ≡ at + length (nameImage c)) × Wrote out at (nameImage c) m p
-  unfolding spec.nameImage
+      → (p ≡ at + length (namePart c)) × Wrote out at (namePart c) m p
+  unfolding spec.namePart
   with-key ty set w =
       let whole : take 1184 (c .«static_ek») ≡ c .«static_ek» = take-all 1184 (c .«static_ek») (omega (arith, ty .«static_ek»)) in
       let image : Wrote out at ((c .«name_len» ∷ []) ++ (take (c .«name_len») (c .name) ++ c .«static_ek»)) m p = rw whole at w in
       rw set (image .next-is, image)
 
-  without-key : kci (c .caps) ≡ false → Wrote out at ((c .«name_len» ∷ []) ++ take (c .«name_len») (drop 0 (c .name))) m p → (p ≡ at + length (nameImage c)) × Wrote out at (nameImage c) m p
-  unfolding spec.nameImage
+  without-key : kci (c .caps) ≡ false → Wrote out at ((c .«name_len» ∷ []) ++ take (c .«name_len») (drop 0 (c .name))) m p → (p ≡ at + length (namePart c)) × Wrote out at (namePart c) m p
+  unfolding spec.namePart
   without-key clear w = rw (clear, append-nil) (w .next-is, w)
 
 typed-requires : tie.Need-typed-requires
@@ -39,7 +39,7 @@ put-byte-requires : tie.Need-put-byte-requires
 put-byte-requires c κs =
     let t = c .before in
     let s = t .before .before in
-    omega (arith, length-name-image (s .args .card) (t .typed .ensures) (s .pre .0))
+    omega (arith, length-name-part (s .args .card) (t .typed .ensures) (s .pre .0))
 
 slice-aggregate-put-run : tie.Need-slice-aggregate-put-run
 slice-aggregate-put-run c = search needs
@@ -51,7 +51,7 @@ put-run-requires : tie.Need-put-run-requires
 put-run-requires c κs =
     let t = c .before .before .before .before .before .before .before .before in
     let s = t .before .before in
-    let long = length-name-image (s .args .card) (t .typed .ensures) (s .pre .0) in
+    let long = length-name-part (s .args .card) (t .typed .ensures) (s .pre .0) in
     (omega arith, omega (arith, t .typed .ensures .name))
 
 slice-aggregate-put-run-2 : tie.Need-slice-aggregate-put-run-2
@@ -63,7 +63,7 @@ put-run-requires-2 c κs =
     let b = r1 .before .before .before .before .before .before .before in
     let t = b .before .before in
     let s = t .before .before in
-    let long = length-name-image (s .args .card) (t .typed .ensures) (s .pre .0) in
+    let long = length-name-part (s .args .card) (t .typed .ensures) (s .pre .0) in
     let key : length (cond (kci (s .args .card .caps)) (s .args .card .«static_ek») []) ≡ 1184 = rw (eq-eqb _ _ (c .before .before .before .if1 .taken)) (t .typed .ensures .«static_ek») in
     (omega (arith, wrote-long (b .put-byte .ensures .1), wrote-long (r1 .put-run .ensures .1), b .put-byte .ensures .0, r1 .put-run .ensures .0, s .pre .1), omega (arith, t .typed .ensures .«static_ek»))
 
