@@ -1,0 +1,3 @@
+pub mod Config
+pub mod Image
+pub mod RoundTrip
