@@ -1,0 +1,245 @@
+// Replays stored cases without Rust: reads standard input, one case a line, computes our answer to each with the proved libraries, and compares it with the stored one.
+// Prints `different: LINE` for each case that comes out different or cannot be read, and at the end a line for each letter.
+use card::Card;
+use cases::Number;
+use data::Leb128Field;
+use libc::STDIN_FILENO;
+use libc::STDOUT_FILENO;
+use rows::Verdict;
+use rows::Written;
+ghost use mathlib.Core.Path.{_≡_};
+ghost use Prim.Native.Nat.{_+_, min};
+ghost use lib.ListN.{length};
+
+// How many cases of a letter there were, and how many of them came out different.
+struct Tally {
+    cases: u64,
+    different: u64,
+}
+
+// One for each letter: L, W, N, C.
+struct Tallies {
+    read: Tally,
+    written: Tally,
+    names: Tally,
+    cards: Tally,
+}
+
+impl Tally {
+    fn new() -> Tally {
+        Tally {
+            cases: 0,
+            different: 0,
+        }
+    }
+
+    fn with(self, same: bool) -> Tally {
+        let cases = std::num::wrapping_add_u64(self.cases, 1);
+        if same {
+            return Tally {
+                cases,
+                different: self.different,
+            };
+        }
+        Tally {
+            cases,
+            different: std::num::wrapping_add_u64(self.different, 1),
+        }
+    }
+
+    fn print(self, letter: u8) {
+        io::write_all(STDOUT_FILENO, &[letter, b' ']);
+        io::print_decimal(STDOUT_FILENO, self.cases);
+        io::write_all(STDOUT_FILENO, b" cases, ");
+        io::print_decimal(STDOUT_FILENO, self.different);
+        io::write_all(STDOUT_FILENO, b" different\n");
+    }
+}
+
+impl Tallies {
+    fn new() -> Tallies {
+        Tallies {
+            read: Tally::new(),
+            written: Tally::new(),
+            names: Tally::new(),
+            cards: Tally::new(),
+        }
+    }
+
+    // A line whose letter is none of the four is counted nowhere.
+    fn with(mut self, letter: u8, same: bool) -> Tallies {
+        match letter {
+            b'L' => self.read = self.read.with(same),
+            b'W' => self.written = self.written.with(same),
+            b'N' => self.names = self.names.with(same),
+            b'C' => self.cards = self.cards.with(same),
+            _ => {}
+        }
+        self
+    }
+
+    fn print(self) {
+        self.read.print(b'L');
+        self.written.print(b'W');
+        self.names.print(b'N');
+        self.cards.print(b'C');
+    }
+}
+
+fn is_number(text: &[u8], n: u64) -> bool {
+    match cases::decimal(text) {
+        Number::Value(m) => m as u64 == n,
+        Number::None => false,
+    }
+}
+
+// `VALUE TAKEN`.
+fn is_value(text: &[u8], value: u32, taken: usize) -> bool {
+    is_number(cases::field(text), value as u64) && is_number(cases::rest(text), taken as u64)
+}
+
+// `- NUMBER`.
+fn is_refusal(text: &[u8], number: u8) -> bool {
+    cases::is_dash(cases::field(text)) && is_number(cases::rest(text), number as u64)
+}
+
+// `HEX VALUE TAKEN` or `HEX - NUMBER`: LEB128 at the front of the bytes.
+fn leb128_read(case: &[u8], bytes: &mut [u8]) -> bool {
+    let Written::Length(n) = cases::bytes(cases::field(case), bytes) else {
+        return false;
+    };
+    match data::read_leb128(cases::first(bytes, n)) {
+        Leb128Field::Value(value, taken) => is_value(cases::rest(case), value, taken),
+        Leb128Field::Refused(number) => is_refusal(cases::rest(case), number),
+    }
+}
+
+// `VALUE HEX`: the value in LEB128.
+fn leb128_written(case: &[u8], bytes: &mut [u8], again: &mut [u8]) -> bool {
+    let Number::Value(value) = cases::decimal(cases::field(case)) else {
+        return false;
+    };
+    let Written::Length(n) = cases::bytes(cases::rest(case), bytes) else {
+        return false;
+    };
+    let Written::Length(size) = data::leb128(value, again) else {
+        return false;
+    };
+    check::same(cases::first(bytes, n), cases::first(again, size))
+}
+
+// `HEX 1` or `HEX 0`: whether the bytes are UTF-8.
+fn name(case: &[u8], bytes: &mut [u8]) -> bool {
+    let Written::Length(n) = cases::bytes(cases::field(case), bytes) else {
+        return false;
+    };
+    let is = names::is_utf8(cases::first(bytes, n));
+    is_number(cases::rest(case), is as u64)
+}
+
+// Whether the card is written as this row.
+fn writes(card: Card, row: &[u8], again: &mut [u8]) -> bool {
+    let Written::Length(n) = card.encode(again) else {
+        return false;
+    };
+    check::same(row, cases::first(again, n))
+}
+
+// `HEX 0`: a card, written again as the same bytes; or `HEX NUMBER`.
+fn card(case: &[u8], bytes: &mut [u8], again: &mut [u8]) -> bool {
+    let Written::Length(n) = cases::bytes(cases::field(case), bytes) else {
+        return false;
+    };
+    let row = cases::first(bytes, n);
+    let decoded = Card::decode(row);
+    let verdict = decoded.verdict;
+    match verdict {
+        Verdict::Accepted => is_number(cases::rest(case), 0) && writes(decoded.card, row, again),
+        Verdict::Refused(number) => is_number(cases::rest(case), number as u64),
+    }
+}
+
+// Whether our answer to a case is the stored one.
+fn same(letter: u8, case: &[u8], bytes: &mut [u8], again: &mut [u8]) -> bool {
+    match letter {
+        b'L' => leb128_read(case, bytes),
+        b'W' => leb128_written(case, bytes, again),
+        b'N' => name(case, bytes),
+        b'C' => card(case, bytes, again),
+        _ => false,
+    }
+}
+
+// A line's first field, where it is one byte.
+fn letter(line: &[u8]) -> u8 {
+    let field = cases::field(line);
+    if field.len() == 1 { field[0] } else { 0 }
+}
+
+// Counts the case of a line; an empty line, and one that starts with #, has none.
+fn count(
+    tallies: Tallies,
+    number: u64,
+    line: &[u8],
+    bytes: &mut [u8],
+    again: &mut [u8],
+) -> Tallies {
+    if line.len() == 0 {
+        return tallies;
+    }
+    if line[0] == b'#' {
+        return tallies;
+    }
+    let kind = letter(line);
+    if same(kind, cases::rest(line), bytes, again) {
+        return tallies.with(kind, true);
+    }
+    io::write_all(STDOUT_FILENO, b"different: ");
+    io::print_decimal(STDOUT_FILENO, number);
+    io::write_all(STDOUT_FILENO, b"\n");
+    tallies.with(kind, false)
+}
+
+// The place behind a line's end, within the text.
+fn past(end: usize, len: usize) -> usize
+    ensures { λ r. ⌜ r ≡ min (end + 1) len ⌝ }
+{
+    if end < len { end + 1 } else { len }
+}
+
+fn lines(text: &[u8], bytes: &mut [u8], again: &mut [u8]) -> Tallies {
+    let mut tallies = Tallies::new();
+    let mut number: u64 = 0;
+    let mut at: usize = 0;
+    while at < text.len() {
+        let rest = &text[at..];
+        let n = cases::until(rest, b'\n');
+        number += 1;
+        tallies = count(tallies, number, &rest[0..n], bytes, again);
+        at = past(at + n, text.len());
+    }
+    tallies
+}
+
+// 262,144 zeros, to read the input into.
+fn text_bytes() -> [u8; 262144]
+    ensures { λ r. ⌜ 262144 ≡ length r ⌝ }
+{
+    [0; 262144]
+}
+
+fn replay(text: &mut [u8], bytes: &mut [u8], again: &mut [u8]) {
+    let n = io::read_full(STDIN_FILENO, text);
+    if n == text.len() {
+        io::write_all(STDOUT_FILENO, b"input too long\n");
+        return;
+    }
+    lines(&text[..n], bytes, again).print();
+}
+
+fn main() {
+    let mut text = text_bytes();
+    let mut bytes = io::buffer();
+    let mut again = io::buffer();
+    replay(&mut text, &mut bytes, &mut again);
+}
