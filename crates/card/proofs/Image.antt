@@ -1,6 +1,6 @@
 -- The row that a card stands for: what reading it would answer, and which bytes it is.
 -- Assumes nothing.
-use Prim.Native.Nat.{ℕ, _+_, _%_, _≤_, _<_}
+use Prim.Native.Nat.{ℕ, _+_, _≤_}
 use mathlib.Core.List.{List, [], _∷_, _++_, append-nil}
 use mathlib.Core.Bool.{Bool, true, false, cond}
 use mathlib.Core.Option.{none, some}
@@ -12,12 +12,11 @@ use borrow.Author.Tests.{le-leb, leb-true}
 use Rattle.layout.specs.Questions.{CAPS, «NAME_LENGTH», «NAME_UTF8»}
 use Rattle.layout.specs.Veil.{zeros, plain}
 use Rattle.layout.specs.Form.{bytesOf, bytes, onlyIf, printIf}
-use Rattle.layout.specs.Form as form
 use Rattle.layout.specs.Layout.{print, fitsOf, refusalOf}
 use Rattle.layout.specs.Layout as layout
 use Rattle.layout.specs.Write.{wrote, refuses, asked}
 use Rattle.layout.specs.Write as write
-use Rattle.layout.proofs.Front.{length-bytesOf}
+use Rattle.layout.proofs.Front.{byte-print, length-bytesOf}
 use Rattle.layout.proofs.Write.{wrote≢refuses}
 use Rattle.rows.specs.Utf8.{utf8}
 use Rattle.rows.specs.Checks.{capsKnown, kci, nameShort}
@@ -25,10 +24,6 @@ use Rattle.rows.specs.Rows.{card, cardRow}
 use Rattle.rows.proofs.Proved.{proved}
 use Rattle.card.specs.Card.{CardTyped, valueOf, image, namePart}
 use Rattle.card.specs.declared.Card.{Card}
-
-byte-print : (n : ℕ) → n < 256 → bytesOf 1 n ≡ n ∷ []
-unfolding form.bytesOf
-byte-print n h = let e : n % 256 ≡ n = omega arith in rw e
 
 module _ (c : Card) (ty : CardTyped c) where
   -- ---- the name and the key

@@ -147,15 +147,6 @@ pub fn check_card(input: &[u8]) -> CardCheck
     CardCheck::Fields(at)
 }
 
-fn beacon_key_from(input: &[u8], from: usize) -> [u8; 32]
-    requires { ⌜ from + 32 ≤ length (now input) ⌝ }
-    ensures { λ r. ⌜ r ≡ take 32 (drop from (now (input .entry))) ⌝ }
-{
-    let mut key = [0u8; 32];
-    put::put_run(&mut key, 0, input, from, 32);
-    key
-}
-
 fn name_from(input: &[u8], from: usize, n: usize) -> [u8; 48]
     requires { ⌜ (n ≤ 48) × (from + n ≤ length (now input)) ⌝ }
     ensures { λ r. ⌜ r ≡ take n (drop from (now (input .entry))) ++ zeros (48 - n) ⌝ }
@@ -186,7 +177,7 @@ fn card_from(input: &[u8], at: CardAt) -> Card
     ensures { λ r. ⌜ r ≡ cardOf (cardFrom (now (input .entry)) at) ⌝ }
 {
     let n = at.name_len as usize;
-    let beacon_key = beacon_key_from(input, BEACON_KEY_AT);
+    let beacon_key = put::copy_32(input, BEACON_KEY_AT);
     let name = name_from(input, NAME_AT, n);
     let mut static_ek = [0u8; 1184];
     if at.caps / 2 % 2 == 1 {

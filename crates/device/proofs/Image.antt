@@ -1,6 +1,5 @@
 -- What reading the row that a device stands for answers, and how long the row is.
 -- Assumes nothing.
-use Prim.Native.Nat.{ℕ, _%_, _<_}
 use mathlib.Core.List.{[], _∷_, _++_, append-nil}
 use mathlib.Core.Bool.{Bool, true, false, cond}
 use mathlib.Core.Option.{none, some}
@@ -9,12 +8,11 @@ use native.Mathlib.Omega.{arith}
 use lib.ListN.{length, length-append}
 use Rattle.layout.specs.Questions.{«COURIER_CONFIG»}
 use Rattle.layout.specs.Form.{bytesOf, flagOf, flagByte}
-use Rattle.layout.specs.Form as form
 use Rattle.layout.specs.Layout.{fitsOf, refusalOf, accepted, refusedBy, readRow}
 use Rattle.layout.specs.Layout as layout
 use Rattle.layout.specs.Write.{wrote, refuses, asked}
 use Rattle.layout.specs.Write as write
-use Rattle.layout.proofs.Front.{length-bytesOf}
+use Rattle.layout.proofs.Front.{byte-print, length-bytesOf}
 use Rattle.rows.specs.Checks.{courierAllowed}
 use Rattle.rows.specs.Rows.{device}
 use Rattle.rows.proofs.Proved.{proved}
@@ -25,10 +23,6 @@ use Rattle.device.specs.declared.Device.{Device}
 infixr 2 _&_
 _&_ : {A B : Type 0} → A → B → A × B
 a & b = (a, b)
-
-byte-print : (n : ℕ) → n < 256 → bytesOf 1 n ≡ n ∷ []
-unfolding form.bytesOf
-byte-print n h = let e : n % 256 ≡ n = omega arith in rw e
 
 flag-fits : (t : Bool) → flagOf (flagByte t) ≡ some t
 flag-fits true = refl

@@ -10,7 +10,7 @@ use rows::Verdict;
 use rows::Written;
 ghost use mathlib.Core.Path.{_≡_};
 ghost use Prim.Native.Nat.{_+_, _≤_};
-ghost use lib.ListN.{length, take, drop};
+ghost use lib.ListN.{length};
 ghost use Rattle.layout.specs.Form.{flagByte};
 ghost use Rattle.layout.specs.Layout.{readRow};
 ghost use Rattle.layout.specs.Write.{asked, writes};
@@ -167,22 +167,12 @@ pub fn check_device(version: u32, row: &[u8]) -> DeviceCheck
     })
 }
 
-// The 32 bytes of a row from a place.
-fn beacon_key_from(row: &[u8], from: usize) -> [u8; 32]
-    requires { ⌜ from + 32 ≤ length (now row) ⌝ }
-    ensures { λ r. ⌜ r ≡ take 32 (drop from (now (row .entry))) ⌝ }
-{
-    let mut key = [0u8; 32];
-    put::put_run(&mut key, 0, row, from, 32);
-    key
-}
-
 // The device at the places that check_device found.
 fn device_from(row: &[u8], at: DeviceAt) -> Device
     requires { ⌜ Places (now row) at ⌝ }
     ensures { λ r. ⌜ r ≡ deviceOf (deviceFrom (now (row .entry)) at) ⌝ }
 {
-    let beacon_key = beacon_key_from(row, at.beacon_key);
+    let beacon_key = put::copy_32(row, at.beacon_key);
     let courier = at.courier;
     Device {
         next_contact: at.next_contact,

@@ -204,6 +204,10 @@ big-back (suc w) bs by h =
     let e2 : (b * 256 + x) % 256 ≡ x = omega arith in
     rw (e1, e2, big-back w bs by (omega arith), take-suc bs w 0 h)
 
+pub byte-print : (n : ℕ) → n < 256 → bytesOf 1 n ≡ n ∷ []
+unfolding bytesOf
+byte-print n h = let e : n % 256 ≡ n = omega arith in rw e
+
 pub width-laws : (w : ℕ) → WidthLaws w
 width-laws w = record { long = length-bytesOf w; below = big-below w; read-back = big-bytes w; print-back = big-back w }
 

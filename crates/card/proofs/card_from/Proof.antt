@@ -26,8 +26,8 @@ module _ (input : List ℕ) (at : CardAt) (places : Places input at) where
 cast-n : tie.Need-cast-n
 cast-n c = search needs
 
-beacon-key-from-requires : tie.Need-beacon-key-from-requires
-beacon-key-from-requires c κs = search needs
+copy-32-requires : tie.Need-copy-32-requires
+copy-32-requires c κs = search needs
 
 name-from-requires : tie.Need-name-from-requires
 name-from-requires c κs = search needs
@@ -43,13 +43,13 @@ returns c =
     let t = c .before in
     let n = t .before .before in
     let s = n .before .before .before .before in
-    made (s .args .input .now) (s .args .at) (s .pre) _ _ _ (n .before .beacon-key-from .ensures) (n .name-from .ensures) (rw (eq-eqb _ _ (t .if1 .taken)) (c .static-ek-from .ensures))
+    made (s .args .input .now) (s .args .at) (s .pre) _ _ _ (n .before .copy-32 .ensures) (n .name-from .ensures) (rw (eq-eqb _ _ (t .if1 .taken)) (c .static-ek-from .ensures))
 
 returns-2 : tie.Need-returns-2
 returns-2 c =
     let n = c .before .before in
     let s = n .before .before .before .before in
-    made (s .args .input .now) (s .args .at) (s .pre) _ _ _ (n .before .beacon-key-from .ensures) (n .name-from .ensures) (rw (ne-eqb _ _ (c .if1 .left)))
+    made (s .args .input .now) (s .args .at) (s .pre) _ _ _ (n .before .copy-32 .ensures) (n .name-from .ensures) (rw (ne-eqb _ _ (c .if1 .left)))
 
 pub card-from-spec : {M : Type 1} → statement M
-card-from-spec = tie.close (tie.spec cast-n beacon-key-from-requires name-from-requires add-static-ek-from static-ek-from-requires returns returns-2)
+card-from-spec = tie.close (tie.spec cast-n copy-32-requires name-from-requires add-static-ek-from static-ek-from-requires returns returns-2)

@@ -3,11 +3,11 @@ use borrow.Author.Needs.{needs}
 use Rattle.device.proofs.device_from.Statement.{statement}
 use Rattle.device.proofs.device_from.Tie as tie
 
-beacon-key-from-requires : tie.Need-beacon-key-from-requires
-beacon-key-from-requires c κs = search needs
+copy-32-requires : tie.Need-copy-32-requires
+copy-32-requires c κs = search needs
 
 returns : tie.Need-returns
-returns c = rw (c .before .beacon-key-from .ensures)
+returns c = rw (c .before .copy-32 .ensures)
 
 pub device-from-spec : {M : Type 1} → statement M
-device-from-spec = tie.close (tie.spec beacon-key-from-requires returns)
+device-from-spec = tie.close (tie.spec copy-32-requires returns)
