@@ -1,0 +1,49 @@
+-- Document 01's (p) cases of covers, in one table; each says what the definitions answer. (proofs/Cases.antt shows them all.)
+-- Assumes nothing.
+use Prim.Native.Nat.{ℕ}
+use mathlib.Core.List.{List, [], _∷_}
+use mathlib.Core.Bool.{Bool, true, false}
+use mathlib.Core.Path.{_≡_}
+use lib.ListN.{length}
+use Rattle.layout.specs.Questions.{«RANGES_FIT»}
+use Rattle.received.specs.Ranges.{Received, received, range, contains, covers}
+use Rattle.received.specs.Lent.{pairs, planOf, listAfter}
+use Rattle.received.specs.declared.Planned.{Planned}
+use Rattle.received.specs.declared.Planned.the-variants.{Change, Refused}
+
+-- what a cover leads to: a record, which the list then holds, and whether contiguous moved; or a refusal, and the list as it is then
+pub data Outcome : Type 0 where
+  gives : Received → Bool → Outcome
+  refuses : ℕ → List ℕ → Outcome
+
+abbrev pub outcome : Planned → List ℕ → Outcome
+outcome (Change c) l = gives (received (c .contiguous) (pairs (c .count) l)) (c .moved)
+outcome (Refused q) l = refuses q l
+
+-- each is asked of contiguous 2 and a list of which one pair counts
+pub data CoverCase : Type 0 where
+  cover : (lent : List ℕ) (from to : ℕ) → Outcome → CoverCase
+  contained : (lent : List ℕ) (msgno : ℕ) → Bool → CoverCase
+  covered : (lent : List ℕ) (from to : ℕ) → Bool → CoverCase
+
+abbrev pub coverCases : List CoverCase
+coverCases =
+    cover (4 ∷ 4 ∷ 0 ∷ 0 ∷ []) 3 3 (gives (received 4 []) true)
+    ∷ cover (4 ∷ 4 ∷ 0 ∷ 0 ∷ []) 5 5 (gives (received 2 (range 4 5 ∷ [])) false)
+    ∷ cover (4 ∷ 4 ∷ 0 ∷ 0 ∷ []) 6 9 (gives (received 2 (range 4 4 ∷ range 6 9 ∷ [])) false)
+    ∷ cover (4 ∷ 4 ∷ []) 6 9 (refuses «RANGES_FIT» (4 ∷ 4 ∷ []))
+    ∷ contained (4 ∷ 4 ∷ []) 0 false
+    ∷ covered (4 ∷ 4 ∷ []) 3 4 false
+    ∷ []
+
+abbrev pub start : List ℕ → Received
+start lent = received 2 (pairs 1 lent)
+
+abbrev pub Holds : CoverCase → Type 0
+Holds (cover lent f t o) = outcome (planOf (start lent) (length lent) f t) (listAfter (start lent) lent f t) ≡ o
+Holds (contained lent n b) = contains (start lent) n ≡ b
+Holds (covered lent f t b) = covers (start lent) f t ≡ b
+
+abbrev pub AllHold : List CoverCase → Type 0
+AllHold [] = Unit {0}
+AllHold (c ∷ cs) = Holds c × AllHold cs

@@ -1,0 +1,4 @@
+pub mod Ranges
+pub mod Lent
+pub mod Sets
+pub mod Cases
