@@ -1,0 +1,68 @@
+-- `courier::put_carried` meets its contract: one writer behind another.
+use native.Mathlib.Omega.{arith}
+use borrow.Author.Needs.{needs}
+use Rattle.put.proofs.Put.{_then_, wrote-long}
+use Rattle.sealed.proofs.Text.{wrote-as}
+use Rattle.courier.proofs.Image.{carried-is, length-carried, length-in}
+use Rattle.courier.proofs.put_carried.Statement.{statement}
+use Rattle.courier.proofs.put_carried.Tie as tie
+
+-- ---- the places on the way, from each writer to the one before it
+abbrev t : tie.After-put-byte → tie.After-typed
+t c = c .before .before
+
+abbrev p1 : tie.After-put-be → tie.After-put-byte
+p1 c = c .before .before .before .before .before
+
+typed-requires : tie.Need-typed-requires
+typed-requires c κs = search needs
+
+put-byte-requires : tie.Need-put-byte-requires
+put-byte-requires c κs =
+    let s = c .before .before .before .before in
+    omega (arith, length-carried (s .args .held) (c .before .typed .ensures) (s .args .sealed .now))
+
+put-be-requires : tie.Need-put-be-requires
+put-be-requires c κs =
+    let b = c .before .before .before .before in
+    let s = t b .before .before .before in
+    omega (arith, length-carried (s .args .held) (t b .typed .ensures) (s .args .sealed .now), wrote-long (b .put-byte .ensures .1), b .put-byte .ensures .0, s .pre)
+
+put-envelope-requires : tie.Need-put-envelope-requires
+put-envelope-requires c κs =
+    let e = c .before .before .before .before .before in
+    let b = p1 e in
+    let s = t b .before .before .before in
+    omega (
+      arith,
+      length-carried (s .args .held) (t b .typed .ensures) (s .args .sealed .now),
+      length-in (s .args .held) (t b .typed .ensures) (s .args .sealed .now),
+      wrote-long (b .put-byte .ensures .1),
+      wrote-long (e .put-be .ensures .1),
+      b .put-byte .ensures .0,
+      e .put-be .ensures .0,
+      s .pre,
+    )
+
+same-length : tie.Need-same-length
+same-length c = search needs
+
+returns : tie.Need-returns
+returns c =
+    let n = c .before .before in
+    let e = n .before .before .before .before .before .before in
+    let b = p1 e in
+    let s = t b .before .before .before in
+    wrote-as (carried-is (s .args .held) (t b .typed .ensures) (s .args .sealed .now))
+    (b .put-byte .ensures .1 then (e .put-be .ensures .1 then n .put-envelope .ensures .1))
+
+pub put-carried-spec : {M : Type 1} → statement M
+put-carried-spec =
+    tie.close
+    (tie.spec
+    typed-requires
+    put-byte-requires
+    put-be-requires
+    put-envelope-requires
+    same-length
+    returns)
