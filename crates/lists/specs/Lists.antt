@@ -1,11 +1,12 @@
 -- What the answers about a contact row's lists say.
 -- Assumes nothing.
-use Prim.Native.Nat.{ℕ}
+use Prim.Native.Nat.{ℕ, _≤_}
 use mathlib.Core.List.{List, []}
-use lib.ListN.{drop}
+use mathlib.Core.Path.{_≡_}
+use lib.ListN.{length, drop}
 use Rattle.layout.specs.Read.{Read, value, refused}
-use Rattle.layout.specs.Form.{Form, readMany}
-use Rattle.layout.specs.Field.{Field, takes, refuses}
+use Rattle.layout.specs.Form.{Form, readMany, times}
+use Rattle.layout.specs.Field.{Field, takes, refuses, readAt}
 use Rattle.lists.specs.declared.EndField.{EndField}
 use Rattle.lists.specs.declared.EndField.the-variants as end
 use Rattle.lists.specs.declared.ListField.{ListField}
@@ -37,3 +38,12 @@ module _ {B : Type 0} (f : Form B) where
   abbrev pub listSays : List ℕ → ListField → Field (List B)
   listSays row (list.Value at) = takes (items (at .count) (drop (at .first) row)) (at .next)
   listSays row (list.Refused q) = refuses q
+
+  -- `count` items stand from `first` up to `next`
+  pub record Listed (row : List ℕ) (first count next : ℕ) : Type 0 where
+    pub starts : first ≤ length row
+    pub ends : ended (readAt (times f count) row first) ≡ takes tt next
+
+  abbrev pub ListedAt : List ℕ → ListField → Type 0
+  ListedAt row (list.Value at) = Listed row (at .first) (at .count) (at .next)
+  ListedAt row (list.Refused q) = Unit {0}

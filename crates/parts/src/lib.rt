@@ -16,8 +16,8 @@ ghost use Rattle.layout.specs.Questions.{«CARD_END»};
 ghost use Rattle.layout.specs.Field.{readAt};
 ghost use Rattle.layout.specs.Layout.{group, sized};
 ghost use Rattle.rows.specs.Rows.{card};
-ghost use Rattle.contact.specs.Parts.{paired, keys};
-ghost use Rattle.contact.specs.Places.{cardSays, cardRefusal, pairedSays, keysSays};
+ghost use Rattle.parts.specs.Parts.{paired, keys};
+ghost use Rattle.parts.specs.Places.{cardSays, cardRefusal, pairedSays, keysSays};
 
 // A card in the row: from start up to end, with its fields' places in that part.
 pub struct CardPlace {

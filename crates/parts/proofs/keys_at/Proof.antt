@@ -12,9 +12,9 @@ use Rattle.layout.proofs.At.{took, refused-at, takes-at, refuses-at, learn, typ
 use Rattle.layout.proofs.Steps.{Reached, start, field-yes, field-no, done-yes}
 use Rattle.fields.specs.Says.{u32Says, u64Says}
 use Rattle.fields.proofs.Runs.{run-took, run-short}
-use Rattle.contact.specs.Parts.{keys}
-use Rattle.contact.proofs.keys_at.Statement.{statement}
-use Rattle.contact.proofs.keys_at.Tie as tie
+use Rattle.parts.specs.Parts.{keys}
+use Rattle.parts.proofs.keys_at.Statement.{statement}
+use Rattle.parts.proofs.keys_at.Tie as tie
 
 -- ---- how far reading has come at each place
 abbrev row : tie.After-shared-slice-known → List ℕ

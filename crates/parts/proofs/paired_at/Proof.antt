@@ -14,10 +14,10 @@ use Rattle.rows.specs.Rows.{role, mode, verification, card}
 use Rattle.rows.proofs.Lawful.{role-lawful, mode-lawful, verification-lawful, card-lawful}
 use Rattle.fields.specs.Says.{roleSays, modeSays, verificationSays, roleRefusal, modeRefusal, verificationRefusal}
 use Rattle.fields.proofs.Runs.{run-took, run-short}
-use Rattle.contact.specs.Parts.{paired}
-use Rattle.contact.specs.Places.{cardSays, cardRefusal}
-use Rattle.contact.proofs.paired_at.Statement.{statement}
-use Rattle.contact.proofs.paired_at.Tie as tie
+use Rattle.parts.specs.Parts.{paired}
+use Rattle.parts.specs.Places.{cardSays, cardRefusal}
+use Rattle.parts.proofs.paired_at.Statement.{statement}
+use Rattle.parts.proofs.paired_at.Tie as tie
 
 -- ---- how far reading has come at each place
 abbrev row : tie.After-shared-slice-known → List ℕ

@@ -17,8 +17,8 @@ use Rattle.rows.specs.Rows.{card, cardRow}
 use Rattle.fields.specs.Says.{Ends, u16Says}
 use Rattle.fields.proofs.Runs.{run-took, run-short}
 use Rattle.card.specs.Card.{checkSays, checkRefusal}
-use Rattle.contact.proofs.card_at.Statement.{statement}
-use Rattle.contact.proofs.card_at.Tie as tie
+use Rattle.parts.proofs.card_at.Statement.{statement}
+use Rattle.parts.proofs.card_at.Tie as tie
 
 abbrev row : tie.After-shared-slice-known → List ℕ
 row s = s .before .args .row .now

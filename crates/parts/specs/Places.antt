@@ -6,16 +6,16 @@ use lib.ListN.{take, drop}
 use Rattle.layout.specs.Field.{Field, takes, refuses}
 use Rattle.rows.specs.Values as value
 use Rattle.card.specs.Card.{cardFrom}
-use Rattle.contact.specs.Parts.{Paired, Keys}
-use Rattle.contact.specs.declared.CardPlace.{CardPlace}
-use Rattle.contact.specs.declared.CardField.{CardField}
-use Rattle.contact.specs.declared.CardField.the-variants as card
-use Rattle.contact.specs.declared.PairedAt.{PairedAt}
-use Rattle.contact.specs.declared.PairedField.{PairedField}
-use Rattle.contact.specs.declared.PairedField.the-variants as paired
-use Rattle.contact.specs.declared.KeysAt.{KeysAt}
-use Rattle.contact.specs.declared.KeysField.{KeysField}
-use Rattle.contact.specs.declared.KeysField.the-variants as keys
+use Rattle.parts.specs.Parts.{Paired, Keys}
+use Rattle.parts.specs.declared.CardPlace.{CardPlace}
+use Rattle.parts.specs.declared.CardField.{CardField}
+use Rattle.parts.specs.declared.CardField.the-variants as card
+use Rattle.parts.specs.declared.PairedAt.{PairedAt}
+use Rattle.parts.specs.declared.PairedField.{PairedField}
+use Rattle.parts.specs.declared.PairedField.the-variants as paired
+use Rattle.parts.specs.declared.KeysAt.{KeysAt}
+use Rattle.parts.specs.declared.KeysField.{KeysField}
+use Rattle.parts.specs.declared.KeysField.the-variants as keys
 
 -- n bytes from a place
 abbrev pub run : ℕ → List ℕ → ℕ → List ℕ

@@ -12,7 +12,7 @@ use Rattle.layout.specs.Layout as layout
 use Rattle.rows.specs.Values.{Contact}
 use Rattle.rows.specs.Checks.{versionKnown, oneChainAtMost, gensDistinct, placesDistinct, fewSkipped, rising, canonical, noneAbove}
 use Rattle.rows.specs.Rows.{contact}
-use Rattle.contact.specs.Parts.{Paired, paired, Keys, keys, Chained, chained, Numbers, numbers}
+use Rattle.parts.specs.Parts.{Paired, paired, Keys, keys, Chained, chained, Numbers, numbers}
 
 -- a layout whose values are parts of others, and what follows it
 embed : {A C : Type 0} → Layout A → (C → A) → (A → Layout C) → Layout C
