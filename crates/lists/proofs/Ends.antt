@@ -2,7 +2,7 @@
 -- Assumes nothing.
 use Prim.Native.Nat.{ℕ, suc, _+_, _-_, _≤_, _<_}
 use mathlib.Core.List.{List, _∷_}
-use mathlib.Core.Path.{_≡_, refl, sym, ap, _∙_}
+use mathlib.Core.Path.{_≡_, refl, sym, ap, subst, _∙_}
 use native.Mathlib.Omega.{arith}
 use lib.ListN.{length, drop, length-drop}
 use Rattle.layout.specs.Read.{Read, value, refused, onto}
@@ -16,10 +16,11 @@ use Rattle.layout.proofs.Lawful.{Lawful}
 use Rattle.layout.proofs.At.{Took, took, refused-at, takes-at, refuses-at, learn}
 use Rattle.layout.proofs.Parts.{times-lawful}
 use Rattle.layout.proofs.Steps.{list-yes, list-no, list-no-count}
-use Rattle.lists.specs.Lists.{ended, endSays, foundAt, listSays, items, itemsOf}
+use Rattle.lists.specs.Lists.{ended, endSays, foundAt, listSays, ListedAt, items, itemsOf}
 use Rattle.lists.specs.Lists as lists
 use Rattle.lists.specs.declared.EndField.{EndField}
 use Rattle.lists.specs.declared.EndField.the-variants.{Value, Refused}
+use Rattle.lists.specs.declared.ListField.{ListField}
 
 module _ {B : Type 0} (f : Form B) (row : List ℕ) where
   -- ---- n items: one more of them, one refused, none left
@@ -85,11 +86,18 @@ refuses-is (takes a next) e = absurd (let z : _≡_ {A = ℕ} 0 1 = cc in omega 
 refuses-is (refuses p) {q} e = let same : p ≡ q = cc in rw same
 
 module _ {B : Type 0} (f : Form B) (law : Lawful f) (row : List ℕ) (by : Bytes row) (at count first : ℕ) (t : Took u16 row at count first) where
-  pub listed : (e : EndField) → endSays e ≡ ended (readAt (times f count) row first) → listSays f row (foundAt e first count) ≡ readAt (list f) row at
-  listed (Value next) e =
+  says : (e : EndField) → endSays e ≡ ended (readAt (times f count) row first) → listSays f row (foundAt e first count) ≡ readAt (list f) row at
+  says (Value next) e =
       let l = list-yes f row at t (took row first (times f count) (times-lawful f law count) by (items-at f row count first (sym e))) in
       sym (takes-at row at (list f) (l .reads) (l .inside))
-  listed (Refused q) e = sym (refuses-at row at (list f) (list-no f row at t (refused-at row first (times f count) (refuses-is (readAt (times f count) row first) (sym e)))))
+  says (Refused q) e = sym (refuses-at row at (list f) (list-no f row at t (refused-at row first (times f count) (refuses-is (readAt (times f count) row first) (sym e)))))
+
+  lies : (e : EndField) → endSays e ≡ ended (readAt (times f count) row first) → ListedAt f row (foundAt e first count)
+  lies (Value next) e = record { starts = t .inside; ends = sym e }
+  lies (Refused q) e = tt
+
+  pub listed : (e : EndField) (r : ListField) → endSays e ≡ ended (readAt (times f count) row first) → r ≡ foundAt e first count → (listSays f row r ≡ readAt (list f) row at) × ListedAt f row r
+  listed e r ends found = (ap (listSays f row) found ∙ says e ends, subst (ListedAt f row) (sym found) (lies e ends))
 
 pub unlisted : {B : Type 0} (f : Form B) (row : List ℕ) (at : ℕ) {q : ℕ} → readAt u16 row at ≡ refuses q → readAt (list f) row at ≡ refuses q
 unlisted f row at e = refuses-at row at (list f) (list-no-count f row at (refused-at row at u16 e))

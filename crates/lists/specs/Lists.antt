@@ -26,6 +26,10 @@ abbrev pub foundAt : EndField → ℕ → ℕ → ListField
 foundAt (end.Value next) first count = list.Value (record { first = first; next = next; count = count })
 foundAt (end.Refused q) first count = list.Refused q
 
+abbrev pub listRefusal : ListField → ℕ
+listRefusal (list.Value at) = 0
+listRefusal (list.Refused q) = q
+
 -- the n items that stand at the front
 module _ {B : Type 0} (f : Form B) where
   abbrev pub itemsOf : Read (List B) → List B

@@ -14,7 +14,7 @@ ghost use Rattle.layout.specs.Form.{times, u32};
 ghost use Rattle.layout.specs.Field.{readAt};
 ghost use Rattle.layout.specs.Layout.{group, list};
 ghost use Rattle.rows.specs.Rows.{chain, skipped, range};
-ghost use Rattle.lists.specs.Lists.{ended, endSays, foundAt, listSays};
+ghost use Rattle.lists.specs.Lists.{ended, endSays, foundAt, listSays, listRefusal, ListedAt};
 
 // The position after an item, or after several.
 pub enum EndField {
@@ -32,6 +32,18 @@ pub struct ListAt {
 pub enum ListField {
     Value(ListAt),
     Refused(u8),
+}
+
+impl ListField {
+    // The question that refused; 0 where none did.
+    pub fn refusal(self) -> u8
+        ensures { λ r. ⌜ r ≡ listRefusal self ⌝ }
+    {
+        match self {
+            ListField::Refused(q) => q,
+            ListField::Value(_) => 0,
+        }
+    }
 }
 
 // A chain: gen, dir, next, key, and superseded_s behind its flag.
@@ -182,7 +194,7 @@ fn found(end: EndField, first: usize, count: usize) -> ListField
 }
 
 pub fn chains_at(row: &[u8], at: usize) -> ListField
-    ensures { λ r. ⌜ listSays (group chain) (now (row .entry)) r ≡ readAt (list (group chain)) (now (row .entry)) at ⌝ }
+    ensures { λ r. ⌜ (listSays (group chain) (now (row .entry)) r ≡ readAt (list (group chain)) (now (row .entry)) at) × ListedAt (group chain) (now (row .entry)) r ⌝ }
 {
     let U16Field::Value(count, first) = fields::u16_at(row, at) else {
         return ListField::Refused(question::FIELD);
@@ -195,7 +207,7 @@ pub fn chains_at(row: &[u8], at: usize) -> ListField
 }
 
 pub fn skipped_at(row: &[u8], at: usize) -> ListField
-    ensures { λ r. ⌜ listSays (group skipped) (now (row .entry)) r ≡ readAt (list (group skipped)) (now (row .entry)) at ⌝ }
+    ensures { λ r. ⌜ (listSays (group skipped) (now (row .entry)) r ≡ readAt (list (group skipped)) (now (row .entry)) at) × ListedAt (group skipped) (now (row .entry)) r ⌝ }
 {
     let U16Field::Value(count, first) = fields::u16_at(row, at) else {
         return ListField::Refused(question::FIELD);
@@ -208,7 +220,7 @@ pub fn skipped_at(row: &[u8], at: usize) -> ListField
 }
 
 pub fn ranges_at(row: &[u8], at: usize) -> ListField
-    ensures { λ r. ⌜ listSays (group range) (now (row .entry)) r ≡ readAt (list (group range)) (now (row .entry)) at ⌝ }
+    ensures { λ r. ⌜ (listSays (group range) (now (row .entry)) r ≡ readAt (list (group range)) (now (row .entry)) at) × ListedAt (group range) (now (row .entry)) r ⌝ }
 {
     let U16Field::Value(count, first) = fields::u16_at(row, at) else {
         return ListField::Refused(question::FIELD);
@@ -221,7 +233,7 @@ pub fn ranges_at(row: &[u8], at: usize) -> ListField
 }
 
 pub fn numbers_at(row: &[u8], at: usize) -> ListField
-    ensures { λ r. ⌜ listSays u32 (now (row .entry)) r ≡ readAt (list u32) (now (row .entry)) at ⌝ }
+    ensures { λ r. ⌜ (listSays u32 (now (row .entry)) r ≡ readAt (list u32) (now (row .entry)) at) × ListedAt u32 (now (row .entry)) r ⌝ }
 {
     let U16Field::Value(count, first) = fields::u16_at(row, at) else {
         return ListField::Refused(question::FIELD);

@@ -1,5 +1,5 @@
 -- `lists::chains_at` meets its contract: the count, and then so many items.
-use mathlib.Core.Path.{sym, ap, _∙_}
+use mathlib.Core.Path.{sym}
 use mathlib.Core.List.{List}
 use Prim.Native.Nat.{ℕ}
 use borrow.Author.Needs.{needs}
@@ -11,7 +11,6 @@ use Rattle.layout.proofs.At.{Took, took, learn, typed}
 use Rattle.rows.specs.Rows.{chain}
 use Rattle.rows.proofs.Lawful.{chain-lawful}
 use Rattle.fields.specs.Says.{u16Says}
-use Rattle.lists.specs.Lists.{listSays}
 use Rattle.lists.proofs.Ends.{listed, unlisted}
 use Rattle.lists.proofs.chains_at.Statement.{statement}
 use Rattle.lists.proofs.chains_at.Tie as tie
@@ -38,7 +37,7 @@ enum-told : tie.Need-enum-told
 enum-told c = search needs
 
 returns : tie.Need-returns
-returns c = sym (unlisted (group chain) _ _ (learn u16Says (c .before .before .u16-at .ensures) (c .enum-told .given .1)))
+returns c = (sym (unlisted (group chain) _ _ (learn u16Says (c .before .before .u16-at .ensures) (c .enum-told .given .1))), tt)
 
 cast-chains-end : tie.Need-cast-chains-end
 cast-chains-end c = search needs
@@ -56,7 +55,7 @@ returns-2 : tie.Need-returns-2
 returns-2 c =
     let e = c .before in
     let k = e .before in
-    ap (listSays (group chain) (row (slice k))) (c .found .ensures) ∙ listed (group chain) chain-lawful (row (slice k)) (by (slice k)) _ _ _ (count-took k) (e .chains-end .result) (e .chains-end .ensures)
+    listed (group chain) chain-lawful (row (slice k)) (by (slice k)) _ _ _ (count-took k) (e .chains-end .result) (c .found .result) (e .chains-end .ensures) (c .found .ensures)
 
 pub chains-at-spec : {M : Type 1} → statement M
 chains-at-spec =

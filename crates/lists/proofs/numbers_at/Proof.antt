@@ -1,5 +1,5 @@
 -- `lists::numbers_at` meets its contract: the count, and then so many items.
-use mathlib.Core.Path.{sym, ap, _∙_}
+use mathlib.Core.Path.{sym}
 use mathlib.Core.List.{List}
 use Prim.Native.Nat.{ℕ}
 use borrow.Author.Needs.{needs}
@@ -8,7 +8,6 @@ use Rattle.layout.proofs.Front.{number-lawful}
 use Rattle.layout.specs.RowLaws.{Bytes}
 use Rattle.layout.proofs.At.{Took, took, learn, typed}
 use Rattle.fields.specs.Says.{u16Says}
-use Rattle.lists.specs.Lists.{listSays}
 use Rattle.lists.proofs.Ends.{listed, unlisted}
 use Rattle.lists.proofs.numbers_at.Statement.{statement}
 use Rattle.lists.proofs.numbers_at.Tie as tie
@@ -35,7 +34,7 @@ enum-told : tie.Need-enum-told
 enum-told c = search needs
 
 returns : tie.Need-returns
-returns c = sym (unlisted u32 _ _ (learn u16Says (c .before .before .u16-at .ensures) (c .enum-told .given .1)))
+returns c = (sym (unlisted u32 _ _ (learn u16Says (c .before .before .u16-at .ensures) (c .enum-told .given .1))), tt)
 
 cast-numbers-end : tie.Need-cast-numbers-end
 cast-numbers-end c = search needs
@@ -53,7 +52,7 @@ returns-2 : tie.Need-returns-2
 returns-2 c =
     let e = c .before in
     let k = e .before in
-    ap (listSays u32 (row (slice k))) (c .found .ensures) ∙ listed u32 (number-lawful 4) (row (slice k)) (by (slice k)) _ _ _ (count-took k) (e .numbers-end .result) (e .numbers-end .ensures)
+    listed u32 (number-lawful 4) (row (slice k)) (by (slice k)) _ _ _ (count-took k) (e .numbers-end .result) (c .found .result) (e .numbers-end .ensures) (c .found .ensures)
 
 pub numbers-at-spec : {M : Type 1} → statement M
 numbers-at-spec =

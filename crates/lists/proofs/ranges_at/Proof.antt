@@ -1,5 +1,5 @@
 -- `lists::ranges_at` meets its contract: the count, and then so many items.
-use mathlib.Core.Path.{sym, ap, _∙_}
+use mathlib.Core.Path.{sym}
 use mathlib.Core.List.{List}
 use Prim.Native.Nat.{ℕ}
 use borrow.Author.Needs.{needs}
@@ -11,7 +11,6 @@ use Rattle.layout.proofs.At.{Took, took, learn, typed}
 use Rattle.rows.specs.Rows.{range}
 use Rattle.rows.proofs.Lawful.{range-lawful}
 use Rattle.fields.specs.Says.{u16Says}
-use Rattle.lists.specs.Lists.{listSays}
 use Rattle.lists.proofs.Ends.{listed, unlisted}
 use Rattle.lists.proofs.ranges_at.Statement.{statement}
 use Rattle.lists.proofs.ranges_at.Tie as tie
@@ -38,7 +37,7 @@ enum-told : tie.Need-enum-told
 enum-told c = search needs
 
 returns : tie.Need-returns
-returns c = sym (unlisted (group range) _ _ (learn u16Says (c .before .before .u16-at .ensures) (c .enum-told .given .1)))
+returns c = (sym (unlisted (group range) _ _ (learn u16Says (c .before .before .u16-at .ensures) (c .enum-told .given .1))), tt)
 
 cast-ranges-end : tie.Need-cast-ranges-end
 cast-ranges-end c = search needs
@@ -56,7 +55,7 @@ returns-2 : tie.Need-returns-2
 returns-2 c =
     let e = c .before in
     let k = e .before in
-    ap (listSays (group range) (row (slice k))) (c .found .ensures) ∙ listed (group range) range-lawful (row (slice k)) (by (slice k)) _ _ _ (count-took k) (e .ranges-end .result) (e .ranges-end .ensures)
+    listed (group range) range-lawful (row (slice k)) (by (slice k)) _ _ _ (count-took k) (e .ranges-end .result) (c .found .result) (e .ranges-end .ensures) (c .found .ensures)
 
 pub ranges-at-spec : {M : Type 1} → statement M
 ranges-at-spec =

@@ -1,5 +1,5 @@
 -- `lists::skipped_at` meets its contract: the count, and then so many items.
-use mathlib.Core.Path.{sym, ap, _∙_}
+use mathlib.Core.Path.{sym}
 use mathlib.Core.List.{List}
 use Prim.Native.Nat.{ℕ}
 use borrow.Author.Needs.{needs}
@@ -11,7 +11,6 @@ use Rattle.layout.proofs.At.{Took, took, learn, typed}
 use Rattle.rows.specs.Rows.{skipped}
 use Rattle.rows.proofs.Lawful.{skipped-lawful}
 use Rattle.fields.specs.Says.{u16Says}
-use Rattle.lists.specs.Lists.{listSays}
 use Rattle.lists.proofs.Ends.{listed, unlisted}
 use Rattle.lists.proofs.skipped_at.Statement.{statement}
 use Rattle.lists.proofs.skipped_at.Tie as tie
@@ -38,7 +37,7 @@ enum-told : tie.Need-enum-told
 enum-told c = search needs
 
 returns : tie.Need-returns
-returns c = sym (unlisted (group skipped) _ _ (learn u16Says (c .before .before .u16-at .ensures) (c .enum-told .given .1)))
+returns c = (sym (unlisted (group skipped) _ _ (learn u16Says (c .before .before .u16-at .ensures) (c .enum-told .given .1))), tt)
 
 cast-skipped-ends : tie.Need-cast-skipped-ends
 cast-skipped-ends c = search needs
@@ -56,7 +55,7 @@ returns-2 : tie.Need-returns-2
 returns-2 c =
     let e = c .before in
     let k = e .before in
-    ap (listSays (group skipped) (row (slice k))) (c .found .ensures) ∙ listed (group skipped) skipped-lawful (row (slice k)) (by (slice k)) _ _ _ (count-took k) (e .skipped-ends .result) (e .skipped-ends .ensures)
+    listed (group skipped) skipped-lawful (row (slice k)) (by (slice k)) _ _ _ (count-took k) (e .skipped-ends .result) (c .found .result) (e .skipped-ends .ensures) (c .found .ensures)
 
 pub skipped-at-spec : {M : Type 1} → statement M
 skipped-at-spec =
