@@ -7,7 +7,7 @@ use Rattle.layout.specs.Questions.{«CARD_END»}
 use Rattle.layout.specs.Veil.{plain, veiled}
 use Rattle.layout.specs.Form.{bytes, u32, u64}
 use Rattle.layout.specs.Layout.{Layout, done, field, group, optional, list, sized, _>>=_, _>>_}
-use Rattle.rows.specs.Values.{Card, Pending, Send, Chain, Skipped, Range}
+use Rattle.rows.specs.Values.{Card, Pending, Send, Chain, Skipped, Range, Contact}
 use Rattle.rows.specs.Rows.{role, mode, verification, card, pending, send, chain, skipped, range}
 use Rattle.rows.specs.declared.PairingRole.{PairingRole}
 use Rattle.rows.specs.declared.Verification.{Verification}
@@ -101,3 +101,31 @@ numbers = do
     unacked = unacked;
     expired = expired;
   })
+
+-- the contact that the four parts make
+abbrev pub joined : Paired → Keys → Chained → Numbers → Contact
+joined p k c n = record {
+  role = p .role;
+  verification = p .verification;
+  «pair_id» = p .«pair_id»;
+  th = p .th;
+  «nonce_b» = p .«nonce_b»;
+  card = p .card;
+  «door_a_to_b» = k .«door_a_to_b»;
+  «door_b_to_a» = k .«door_b_to_a»;
+  «route_key» = k .«route_key»;
+  «resume_index» = k .«resume_index»;
+  «chain_key» = k .«chain_key»;
+  «sent_msgno» = k .«sent_msgno»;
+  pending = c .pending;
+  send = c .send;
+  chains = c .chains;
+  skipped = c .skipped;
+  «peer_acked» = n .«peer_acked»;
+  «peer_read» = n .«peer_read»;
+  «read_marked» = n .«read_marked»;
+  contiguous = n .contiguous;
+  above = n .above;
+  unacked = n .unacked;
+  expired = n .expired;
+}
