@@ -32,15 +32,15 @@ use Rattle.rows.specs.declared.Dir.the-variants.{I, R}
 
 -- two values are alike to whom lv hides from
 module _ {X : Type 0} (l : Layout X) (lv : Level) where
-  abbrev Like : X → X → Type 0
+  abbrev pub Like : X → X → Type 0
   Like v v′ = layout.blankOf l lv v ≡ layout.blankOf l lv v′
 
 -- ---- fields of which nothing is hidden
 module _ {X : Type 0} {lv : Level} {S : X → X → Type 0} where
-  num : (w : ℕ) {get : X → ℕ} {k k′ : ℕ → Layout X} → ((n : ℕ) → Blind lv S (k n) (k′ n)) → Blind lv S (field (number w) get k) (field (number w) get k′)
+  pub num : (w : ℕ) {get : X → ℕ} {k k′ : ℕ → Layout X} → ((n : ℕ) → Blind lv S (k n) (k′ n)) → Blind lv S (field (number w) get k) (field (number w) get k′)
   num w c = b-plain (number-lawful w) (λ n. refl) c
 
-  run : (n : ℕ) {get : X → List ℕ} {k k′ : List ℕ → Layout X} → ((bs : List ℕ) → Blind lv S (k bs) (k′ bs)) → Blind lv S (field (bytes plain n) get k) (field (bytes plain n) get k′)
+  pub run : (n : ℕ) {get : X → List ℕ} {k k′ : List ℕ → Layout X} → ((bs : List ℕ) → Blind lv S (k bs) (k′ bs)) → Blind lv S (field (bytes plain n) get k) (field (bytes plain n) get k′)
   run n c = b-plain (bytes-lawful plain n) (λ n. refl) c
 
   flg : {get : X → Bool} {k k′ : Bool → Layout X} → ((t : Bool) → Blind lv S (k t) (k′ t)) → Blind lv S (field flag get k) (field flag get k′)
@@ -191,7 +191,7 @@ range-plain : (lv : Level) (r : Range) → layout.blankOf range lv r ≡ r
 unfolding layout.blankOf
 range-plain lv r = refl
 
-ranges-plain : (lv : Level) (rs : List Range) → (list (group range)) .blank lv rs ≡ rs
+pub ranges-plain : (lv : Level) (rs : List Range) → (list (group range)) .blank lv rs ≡ rs
 ranges-plain lv = list-plain (group range) lv (range-plain lv)
 
 contact-blind : (version : ℕ) (lv : Level) → Blind lv (Like (contact version) lv) (contact version) (contact version)
