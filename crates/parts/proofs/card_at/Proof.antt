@@ -1,4 +1,4 @@
--- `contact::card_at` meets its contract: the card's length, its bytes, and then a card that stands alone.
+-- `parts::card_at` meets its contract: the card's length, its bytes, and then a card that stands alone.
 use Prim.Native.Nat.{ℕ, _+_, _-_}
 use mathlib.Core.List.{List}
 use mathlib.Core.Path.{_≡_, sym, ap, subst, _∙_}
@@ -16,7 +16,7 @@ use Rattle.layout.proofs.Steps.{inRow, sized-no-length, sized-short, sized-part
 use Rattle.rows.specs.Rows.{card, cardRow}
 use Rattle.fields.specs.Says.{Ends, u16Says}
 use Rattle.fields.proofs.Runs.{run-took, run-short}
-use Rattle.card.specs.Card.{checkSays, checkRefusal}
+use Rattle.card.specs.Card.{checkSays, checkRefusal, Placed}
 use Rattle.parts.proofs.card_at.Statement.{statement}
 use Rattle.parts.proofs.card_at.Tie as tie
 
@@ -77,7 +77,8 @@ enum-told c = search needs
 returns : tie.Need-returns
 returns c =
     let s = c .before .before .before in
-    sym (refuses-at _ _ (sized (group card) «CARD_END») (sized-no-length (group card) «CARD_END» (row s) (s .before .args .at) (refused-at _ _ u16 (learn u16Says (c .before .before .u16-at .ensures) (c .enum-told .given .1)))))
+    let stop = sized-no-length (group card) «CARD_END» (row s) (s .before .args .at) (refused-at _ _ u16 (learn u16Says (c .before .before .u16-at .ensures) (c .enum-told .given .1))) in
+    (sym (refuses-at _ _ (sized (group card) «CARD_END») stop), tt)
 
 cast-run-at : tie.Need-cast-run-at
 cast-run-at c = search needs
@@ -94,8 +95,8 @@ enum-told-2 c = search needs
 returns-2 : tie.Need-returns-2
 returns-2 c =
     let k = c .before .before .before in
-    sym (refuses-at _ _ (sized (group card) «CARD_END»)
-    (sized-short (group card) «CARD_END» (row (s1 k)) _ (len-took k) plain (run-short _ _ plain (len k) (c .before .before .run-at .ensures .0) (c .enum-told2 .given .1))))
+    let stop = sized-short (group card) «CARD_END» (row (s1 k)) _ (len-took k) plain (run-short _ _ plain (len k) (c .before .before .run-at .ensures .0) (c .enum-told2 .given .1)) in
+    (sym (refuses-at _ _ (sized (group card) «CARD_END») stop), tt)
 
 sub-check-card : tie.Need-sub-check-card
 sub-check-card c = omega (arith, part-ends c)
@@ -124,15 +125,22 @@ returns-3 c =
     let e = c .before .before .before in
     let k = e .before .before in
     let answer = learn (checkSays (part k)) (e .check-card .ensures .0) told in
-    rw (c .refusal .ensures ∙ ap checkRefusal told)
-    (sym (refuses-at _ _ (sized (group card) «CARD_END») (read-card k ∙ ap (inRow (group card) «CARD_END» (drop (end k) (row (s1 (k1 k))))) answer)))
+    let not = read-card k ∙ ap (inRow (group card) «CARD_END» (drop (end k) (row (s1 (k1 k))))) answer in
+    (rw (c .refusal .ensures ∙ ap checkRefusal told) (sym (refuses-at _ _ (sized (group card) «CARD_END») not)), tt)
 
 returns-4 : tie.Need-returns-4
 returns-4 c =
     let e = c .before .before .before in
     let k = e .before .before in
     let answer = learn (checkSays (part k)) (e .check-card .ensures .0) (c .before .check .given .1) in
-    sym (takes-at _ _ (sized (group card) «CARD_END») (read-card k ∙ ap (inRow (group card) «CARD_END» (drop (end k) (row (s1 (k1 k))))) answer) (part-took k .inside))
+    let its = read-card k ∙ ap (inRow (group card) «CARD_END» (drop (end k) (row (s1 (k1 k))))) answer in (
+      sym (takes-at _ _ (sized (group card) «CARD_END») its (part-took k .inside)),
+      record {
+        starts = omega (arith, part-ends k);
+        ends = part-took k .inside;
+        runs = subst (Placed (part k)) (c .before .check .given .1) (e .check-card .ensures .1);
+      },
+    )
 
 pub card-at-spec : {M : Type 1} → statement M
 card-at-spec =

@@ -1,4 +1,4 @@
--- `contact::keys_at` meets its contract: one step of the layout for each field.
+-- `parts::keys_at` meets its contract: one step of the layout for each field.
 use Prim.Native.Nat.{ℕ}
 use mathlib.Core.List.{List}
 use mathlib.Core.Path.{sym}

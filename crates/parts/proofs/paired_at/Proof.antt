@@ -1,7 +1,7 @@
--- `contact::paired_at` meets its contract: one step of the layout for each field.
+-- `parts::paired_at` meets its contract: one step of the layout for each field.
 use Prim.Native.Nat.{ℕ}
 use mathlib.Core.List.{List}
-use mathlib.Core.Path.{sym, ap, _∙_}
+use mathlib.Core.Path.{sym, ap, subst, _∙_}
 use borrow.Author.Needs.{needs}
 use Rattle.layout.specs.Questions.{«CARD_END»}
 use Rattle.layout.specs.Veil.{plain}
@@ -15,7 +15,7 @@ use Rattle.rows.proofs.Lawful.{role-lawful, mode-lawful, verification-lawful, c
 use Rattle.fields.specs.Says.{roleSays, modeSays, verificationSays, roleRefusal, modeRefusal, verificationRefusal}
 use Rattle.fields.proofs.Runs.{run-took, run-short}
 use Rattle.parts.specs.Parts.{paired}
-use Rattle.parts.specs.Places.{cardSays, cardRefusal}
+use Rattle.parts.specs.Places.{cardSays, cardRefusal, CardPlaced}
 use Rattle.parts.proofs.paired_at.Statement.{statement}
 use Rattle.parts.proofs.paired_at.Tie as tie
 
@@ -72,7 +72,7 @@ abbrev s7 : tie.After-known-told7 → tie.After-shared-slice-known
 s7 c = s6 (c .before .before .before .before)
 
 abbrev r7 : (c : tie.After-known-told7) → Read (s7 c)
-r7 c = field-yes (r6 (c .before .before .before .before) .so) (took _ _ (sized (group card) «CARD_END») (sized-lawful (group card) card-lawful «CARD_END») (by (s7 c)) (learn (cardSays (row (s7 c))) (c .before .before .before .card-at .ensures) (c .before .card-field .given .1)))
+r7 c = field-yes (r6 (c .before .before .before .before) .so) (took _ _ (sized (group card) «CARD_END») (sized-lawful (group card) card-lawful «CARD_END») (by (s7 c)) (learn (cardSays (row (s7 c))) (c .before .before .before .card-at .ensures .0) (c .before .card-field .given .1)))
 
 -- ---- what is asked
 role-at-requires : tie.Need-role-at-requires
@@ -90,8 +90,8 @@ refusal-requires c κs = search needs
 returns : tie.Need-returns
 returns c =
     let told = c .before .enum-told .given .1 in
-    rw (c .refusal .ensures ∙ ap roleRefusal told)
-    (sym (refuses-at _ _ (group paired) (field-no (r0 (c .before .before .before .before) .so) (refused-at _ _ role (learn roleSays (c .before .before .before .role-at .ensures) told)))))
+    let not = field-no (r0 (c .before .before .before .before) .so) (refused-at _ _ role (learn roleSays (c .before .before .before .role-at .ensures) told)) in
+    (rw (c .refusal .ensures ∙ ap roleRefusal told) (sym (refuses-at _ _ (group paired) not)), tt)
 
 mode-at-requires : tie.Need-mode-at-requires
 mode-at-requires c κs = search needs
@@ -108,8 +108,8 @@ refusal-requires-2 c κs = search needs
 returns-2 : tie.Need-returns-2
 returns-2 c =
     let told = c .before .enum-told2 .given .1 in
-    rw (c .refusal2 .ensures ∙ ap modeRefusal told)
-    (sym (refuses-at _ _ (group paired) (field-no (r1 (c .before .before .before .before) .so) (refused-at _ _ mode (learn modeSays (c .before .before .before .mode-at .ensures) told)))))
+    let not = field-no (r1 (c .before .before .before .before) .so) (refused-at _ _ mode (learn modeSays (c .before .before .before .mode-at .ensures) told)) in
+    (rw (c .refusal2 .ensures ∙ ap modeRefusal told) (sym (refuses-at _ _ (group paired) not)), tt)
 
 verification-at-requires : tie.Need-verification-at-requires
 verification-at-requires c κs = search needs
@@ -126,8 +126,8 @@ refusal-requires-3 c κs = search needs
 returns-3 : tie.Need-returns-3
 returns-3 c =
     let told = c .before .enum-told3 .given .1 in
-    rw (c .refusal3 .ensures ∙ ap verificationRefusal told)
-    (sym (refuses-at _ _ (group paired) (field-no (r2 (c .before .before .before .before) .so) (refused-at _ _ verification (learn verificationSays (c .before .before .before .verification-at .ensures) told)))))
+    let not = field-no (r2 (c .before .before .before .before) .so) (refused-at _ _ verification (learn verificationSays (c .before .before .before .verification-at .ensures) told)) in
+    (rw (c .refusal3 .ensures ∙ ap verificationRefusal told) (sym (refuses-at _ _ (group paired) not)), tt)
 
 run-at-requires : tie.Need-run-at-requires
 run-at-requires c κs = search needs
@@ -139,7 +139,9 @@ enum-told-4 : tie.Need-enum-told-4
 enum-told-4 c = search needs
 
 returns-4 : tie.Need-returns-4
-returns-4 c = sym (refuses-at _ _ (group paired) (field-no (r3 (c .before .before .before) .so) (run-short _ _ plain 16 (c .before .before .run-at .ensures .0) (c .enum-told4 .given .1))))
+returns-4 c =
+    let stop = field-no (r3 (c .before .before .before) .so) (run-short _ _ plain 16 (c .before .before .run-at .ensures .0) (c .enum-told4 .given .1)) in
+    (sym (refuses-at _ _ (group paired) stop), tt)
 
 run-at-requires-2 : tie.Need-run-at-requires-2
 run-at-requires-2 c κs = search needs
@@ -151,7 +153,9 @@ enum-told-5 : tie.Need-enum-told-5
 enum-told-5 c = search needs
 
 returns-5 : tie.Need-returns-5
-returns-5 c = sym (refuses-at _ _ (group paired) (field-no (r4 (c .before .before .before) .so) (run-short _ _ plain 48 (c .before .before .run-at2 .ensures .0) (c .enum-told5 .given .1))))
+returns-5 c =
+    let stop = field-no (r4 (c .before .before .before) .so) (run-short _ _ plain 48 (c .before .before .run-at2 .ensures .0) (c .enum-told5 .given .1)) in
+    (sym (refuses-at _ _ (group paired) stop), tt)
 
 run-at-requires-3 : tie.Need-run-at-requires-3
 run-at-requires-3 c κs = search needs
@@ -163,7 +167,9 @@ enum-told-6 : tie.Need-enum-told-6
 enum-told-6 c = search needs
 
 returns-6 : tie.Need-returns-6
-returns-6 c = sym (refuses-at _ _ (group paired) (field-no (r5 (c .before .before .before) .so) (run-short _ _ plain 16 (c .before .before .run-at3 .ensures .0) (c .enum-told6 .given .1))))
+returns-6 c =
+    let stop = field-no (r5 (c .before .before .before) .so) (run-short _ _ plain 16 (c .before .before .run-at3 .ensures .0) (c .enum-told6 .given .1)) in
+    (sym (refuses-at _ _ (group paired) stop), tt)
 
 card-at-requires : tie.Need-card-at-requires
 card-at-requires c κs = search needs
@@ -180,11 +186,13 @@ refusal-requires-4 c κs = search needs
 returns-7 : tie.Need-returns-7
 returns-7 c =
     let told = c .before .enum-told7 .given .1 in
-    rw (c .refusal4 .ensures ∙ ap cardRefusal told)
-    (sym (refuses-at _ _ (group paired) (field-no (r6 (c .before .before .before .before) .so) (refused-at _ _ (sized (group card) «CARD_END») (learn (cardSays _) (c .before .before .before .card-at .ensures) told)))))
+    let not = field-no (r6 (c .before .before .before .before) .so) (refused-at _ _ (sized (group card) «CARD_END») (learn (cardSays _) (c .before .before .before .card-at .ensures .0) told)) in
+    (rw (c .refusal4 .ensures ∙ ap cardRefusal told) (sym (refuses-at _ _ (group paired) not)), tt)
 
 returns-8 : tie.Need-returns-8
-returns-8 c = let t = took _ _ (sized (group card) «CARD_END») (sized-lawful (group card) card-lawful «CARD_END») (by (s7 c)) (learn (cardSays (row (s7 c))) (c .before .before .before .card-at .ensures) (c .before .card-field .given .1)) in sym (takes-at _ _ (group paired) (done-yes (r7 c .so)) (t .inside))
+returns-8 c =
+    let t = took _ _ (sized (group card) «CARD_END») (sized-lawful (group card) card-lawful «CARD_END») (by (s7 c)) (learn (cardSays (row (s7 c))) (c .before .before .before .card-at .ensures .0) (c .before .card-field .given .1)) in
+    (sym (takes-at _ _ (group paired) (done-yes (r7 c .so)) (t .inside)), subst (CardPlaced (row (s7 c))) (c .before .card-field .given .1) (c .before .before .before .card-at .ensures .1))
 
 pub paired-at-spec : {M : Type 1} → statement M
 paired-at-spec =
