@@ -17,7 +17,7 @@ use Rattle.layout.specs.Write as write
 use Rattle.layout.proofs.Front.{length-bytesOf, byte-print}
 use Rattle.rows.specs.Values as value
 use Rattle.rows.specs.Checks.{sealedQueued}
-use Rattle.rows.specs.Rows.{envelope, queued}
+use Rattle.rows.specs.Rows.{ownEnvelope, queued}
 use Rattle.rows.proofs.Proved.{proved}
 use Rattle.queued.specs.Queued as spec
 use Rattle.queued.specs.Queued.{envelopeOf, valueOf, ownImage, image, OwnTyped, QueuedTyped}
@@ -30,21 +30,21 @@ pub own-absent : (q : Queued) → q .envelope ≡ Absent → ownImage q ≡ 0 �
 unfolding spec.ownImage layout.print
 own-absent q e = rw e
 
-envelope-print : (e : value.Envelope) → e .copies < 256
-    → print envelope e ≡ e .tag ++ (e .s ++ (bytesOf 4 (e .«expiry_min») ++ ((e .copies ∷ []) ++ (flagByte (e .renewed) ∷ []))))
+envelope-print : (e : value.OwnEnvelope) → e .copies < 256
+    → print ownEnvelope e ≡ e .tag ++ (e .s ++ (bytesOf 4 (e .«expiry_min») ++ ((e .copies ∷ []) ++ (flagByte (e .renewed) ∷ []))))
 unfolding layout.print
 envelope-print e few = ap (λ (l : List ℕ). e .tag ++ (e .s ++ (bytesOf 4 (e .«expiry_min») ++ (l ++ (flagByte (e .renewed) ∷ []))))) (byte-print (e .copies) few)
 
-flagged : (e : value.Envelope) → (optional (group envelope)) .print (some e) ≡ 1 ∷ print envelope e
+flagged : (e : value.OwnEnvelope) → (optional (group ownEnvelope)) .print (some e) ≡ 1 ∷ print ownEnvelope e
 unfolding layout.print
-flagged e = ap (λ (l : List ℕ). 1 ∷ l) (append-nil (print envelope e))
+flagged e = ap (λ (l : List ℕ). 1 ∷ l) (append-nil (print ownEnvelope e))
 
 module _ (q : Queued) (ty : QueuedTyped q) {expiry copies : ℕ} {renewed : Bool} (e : q .envelope ≡ Present expiry copies renewed) where
   pub own-present : ownImage q ≡ (1 ∷ []) ++ (q .tag ++ (q .s ++ (bytesOf 4 expiry ++ ((copies ∷ []) ++ (flagByte renewed ∷ [])))))
   unfolding spec.ownImage
   own-present =
-      let its : value.Envelope = record { tag = q .tag; s = q .s; «expiry_min» = expiry; copies = copies; renewed = renewed } in
-      ap (λ (own : OwnEnvelope). (optional (group envelope)) .print (envelopeOf own (q .tag) (q .s))) e ∙ flagged its
+      let its : value.OwnEnvelope = record { tag = q .tag; s = q .s; «expiry_min» = expiry; copies = copies; renewed = renewed } in
+      ap (λ (own : OwnEnvelope). (optional (group ownEnvelope)) .print (envelopeOf own (q .tag) (q .s))) e ∙ flagged its
       ∙ ap (λ (l : List ℕ). 1 ∷ l) (envelope-print its (subst OwnTyped e (ty .envelope) .1))
 
   pub length-present : length (ownImage q) ≡ 39
@@ -66,7 +66,7 @@ module _ (q : Queued) (ty : QueuedTyped q) (sealed : List ℕ) where
   flag-fits true = refl
   flag-fits false = refl
 
-  own-fits : (own : OwnEnvelope) → OwnTyped own → (post : List ℕ) → (optional (group envelope)) .fits (envelopeOf own (q .tag) (q .s)) post
+  own-fits : (own : OwnEnvelope) → OwnTyped own → (post : List ℕ) → (optional (group ownEnvelope)) .fits (envelopeOf own (q .tag) (q .s)) post
   own-fits Absent t post = (refl, (tt, refl))
   own-fits (Present expiry copies renewed) t post = (refl, ((ty .tag, (ty .s, (t .0, (t .1, (flag-fits renewed, refl))))), refl))
 
@@ -74,7 +74,7 @@ module _ (q : Queued) (ty : QueuedTyped q) (sealed : List ℕ) where
   unfolding layout.print
   fits = (ty .«created_s», (own-fits (q .envelope) (ty .envelope) _, (ty .«gen_», (ty .idx, (refl, (refl, refl))))))
 
-  own-granted : (own : OwnEnvelope) → (optional (group envelope)) .refusal (envelopeOf own (q .tag) (q .s)) ≡ none
+  own-granted : (own : OwnEnvelope) → (optional (group ownEnvelope)) .refusal (envelopeOf own (q .tag) (q .s)) ≡ none
   unfolding layout.refusalOf
   own-granted Absent = refl
   own-granted (Present expiry copies renewed) = refl

@@ -12,7 +12,7 @@ use Rattle.layout.specs.RowLaws.{Bytes}
 use Rattle.layout.specs.Write.{stored, writes}
 use Rattle.layout.specs.Write as write
 use Rattle.rows.specs.Values as value
-use Rattle.rows.specs.Rows.{envelope, queued}
+use Rattle.rows.specs.Rows.{ownEnvelope, queued}
 use Rattle.rows.specs.Answers.{leaves}
 use Rattle.rows.specs.declared.Verdict.the-variants.{Accepted}
 use Rattle.rows.specs.declared.Written.the-variants.{Length}
@@ -26,12 +26,12 @@ use Rattle.queued.proofs.Image.{fits}
 
 -- ---- a row's last bytes are its sealed text
 front : value.Queued → List ℕ
-front v = bytesOf 8 (v .«created_s») ++ ((optional (group envelope)) .print (v .envelope) ++ (bytesOf 1 (v .gen) ++ lebPrint 4 (v .idx)))
+front v = bytesOf 8 (v .«created_s») ++ ((optional (group ownEnvelope)) .print (v .envelope) ++ (bytesOf 1 (v .gen) ++ lebPrint 4 (v .idx)))
 
 print-is : (version : ℕ) (v : value.Queued) → print (queued version) v ≡ front v ++ v .sealed
 unfolding layout.print front
 print-is version v =
-    let own = (optional (group envelope)) .print (v .envelope) in
+    let own = (optional (group ownEnvelope)) .print (v .envelope) in
     ap (λ (l : List ℕ). bytesOf 8 (v .«created_s») ++ (own ++ (bytesOf 1 (v .gen) ++ (lebPrint 4 (v .idx) ++ l)))) (append-nil (v .sealed)) ∙ sym (
     append-assoc (bytesOf 8 (v .«created_s»)) (own ++ (bytesOf 1 (v .gen) ++ lebPrint 4 (v .idx))) (v .sealed)
     ∙ ap (λ (l : List ℕ). bytesOf 8 (v .«created_s») ++ l) (append-assoc own (bytesOf 1 (v .gen) ++ lebPrint 4 (v .idx)) (v .sealed))
@@ -57,13 +57,13 @@ module _ (q : Queued) (sealed out left : List ℕ) (n : ℕ) (contract : leaves 
   write-sealed = sealed-last 3 (valueOf q sealed) (take n left) (sym (held .front))
 
 -- ---- read, then write
-own-back : (o : Option value.Envelope) → envelopeOf (ownOf o) (tagOf o) (sOf o) ≡ o
+own-back : (o : Option value.OwnEnvelope) → envelopeOf (ownOf o) (tagOf o) (sOf o) ≡ o
 own-back none = refl
 own-back (some e) = refl
 
 value-back : (v : value.Queued) → valueOf (queuedOf v) (v .sealed) ≡ v
 value-back v =
-    ap (λ (o : Option value.Envelope). record { «created_s» = v .«created_s»; envelope = o; gen = v .gen; idx = v .idx; sealed = v .sealed }) (own-back (v .envelope))
+    ap (λ (o : Option value.OwnEnvelope). record { «created_s» = v .«created_s»; envelope = o; gen = v .gen; idx = v .idx; sealed = v .sealed }) (own-back (v .envelope))
 
 read-write : (version : ℕ) (row : List ℕ) → Bytes row → (read : QueuedRead) → read ≡ decoded row (readRow (queued version) row) → read .verdict ≡ Accepted
     → (out : List ℕ) → writes (queued 3) (image (read .queued) (drop (read .«sealed_at») row)) out ≡ stored row out

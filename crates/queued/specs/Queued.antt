@@ -11,7 +11,7 @@ use Rattle.layout.specs.Layout.{Answer, accepted, refusedBy, readRow, print, gr
 use Rattle.layout.specs.RowLaws.{Bytes}
 use Rattle.layout.specs.Write.{stored, writes}
 use Rattle.rows.specs.Values as value
-use Rattle.rows.specs.Rows.{envelope, queued}
+use Rattle.rows.specs.Rows.{ownEnvelope, queued}
 use Rattle.rows.specs.Answers.{verdictOf, leaves}
 use Rattle.rows.specs.declared.Verdict.the-variants.{Accepted}
 use Rattle.rows.specs.declared.Written.the-variants.{Length}
@@ -38,7 +38,7 @@ lebRefusal (leb.Value n next) = 0
 lebRefusal (leb.Refused q) = q
 
 -- the envelope that stands at these places of the row
-abbrev pub envelopeFrom : List ℕ → EnvelopeAt → value.Envelope
+abbrev pub envelopeFrom : List ℕ → EnvelopeAt → value.OwnEnvelope
 envelopeFrom row at = record {
   tag = take 16 (drop (at .tag) row);
   s = take 16 (drop (at .s) row);
@@ -52,7 +52,7 @@ pub record EnvelopePlaces (row : List ℕ) (at : EnvelopeAt) : Type 0 where
   pub tag : at .tag + 16 ≤ length row
   pub s : at .s + 16 ≤ length row
 
-abbrev pub envelopeSays : List ℕ → EnvelopeField → Field value.Envelope
+abbrev pub envelopeSays : List ℕ → EnvelopeField → Field value.OwnEnvelope
 envelopeSays row (envelopeField.Value at next) = takes (envelopeFrom row at) next
 envelopeSays row (envelopeField.Refused q) = refuses q
 
@@ -65,7 +65,7 @@ envelopeRefusal (envelopeField.Value at next) = 0
 envelopeRefusal (envelopeField.Refused q) = q
 
 -- ... if the row has one
-abbrev pub ownFrom : List ℕ → OwnEnvelopeAt → Option value.Envelope
+abbrev pub ownFrom : List ℕ → OwnEnvelopeAt → Option value.OwnEnvelope
 ownFrom row ownAt.Absent = none
 ownFrom row (ownAt.Present at) = some (envelopeFrom row at)
 
@@ -73,7 +73,7 @@ abbrev pub OwnPlaces : List ℕ → OwnEnvelopeAt → Type 0
 OwnPlaces row ownAt.Absent = Unit {0}
 OwnPlaces row (ownAt.Present at) = EnvelopePlaces row at
 
-abbrev pub ownSays : List ℕ → OwnEnvelopeField → Field (Option value.Envelope)
+abbrev pub ownSays : List ℕ → OwnEnvelopeField → Field (Option value.OwnEnvelope)
 ownSays row (ownField.Value at next) = takes (ownFrom row at) next
 ownSays row (ownField.Refused q) = refuses q
 
@@ -112,15 +112,15 @@ Placed row (check.Fields at) = Places row at
 Placed row (check.Refused q) = Unit {0}
 
 -- ---- reading: 0 stands where the flag leaves something out, and everywhere after a refusal
-abbrev pub ownOf : Option value.Envelope → OwnEnvelope
+abbrev pub ownOf : Option value.OwnEnvelope → OwnEnvelope
 ownOf none = own.Absent
 ownOf (some e) = own.Present (e .«expiry_min») (e .copies) (e .renewed)
 
-abbrev pub tagOf : Option value.Envelope → List ℕ
+abbrev pub tagOf : Option value.OwnEnvelope → List ℕ
 tagOf none = zeros 16
 tagOf (some e) = e .tag
 
-abbrev pub sOf : Option value.Envelope → List ℕ
+abbrev pub sOf : Option value.OwnEnvelope → List ℕ
 sOf none = zeros 16
 sOf (some e) = e .s
 
@@ -150,7 +150,7 @@ abbrev pub decoded : List ℕ → Answer value.Queued → QueuedRead
 decoded row a = record { «sealed_at» = length row - length (sealedOf a); verdict = verdictOf a; queued = queuedOrZeros a }
 
 -- ---- writing: the row that would be written is the print of the value that the struct and the sealed text stand for
-abbrev pub envelopeOf : OwnEnvelope → List ℕ → List ℕ → Option value.Envelope
+abbrev pub envelopeOf : OwnEnvelope → List ℕ → List ℕ → Option value.OwnEnvelope
 envelopeOf own.Absent tag s = none
 envelopeOf (own.Present expiry copies renewed) tag s =
     some (record { tag = tag; s = s; «expiry_min» = expiry; copies = copies; renewed = renewed })
@@ -165,7 +165,7 @@ valueOf q sealed = record {
 }
 
 unfoldable pub ownImage : Queued → List ℕ
-ownImage q = (optional (group envelope)) .print (envelopeOf (q .envelope) (q .tag) (q .s))
+ownImage q = (optional (group ownEnvelope)) .print (envelopeOf (q .envelope) (q .tag) (q .s))
 
 unfoldable pub image : Queued → List ℕ → List ℕ
 image q sealed = print (queued 3) (valueOf q sealed)

@@ -17,7 +17,7 @@ ghost use Rattle.layout.specs.Field.{readAt};
 ghost use Rattle.layout.specs.Layout.{group, optional, readRow};
 ghost use Rattle.layout.specs.Write.{asked, writes};
 ghost use Rattle.put.specs.Put.{Wrote};
-ghost use Rattle.rows.specs.Rows.{envelope, queued};
+ghost use Rattle.rows.specs.Rows.{ownEnvelope, queued};
 ghost use Rattle.rows.specs.Answers.{writtenSays, leaves};
 ghost use Rattle.queued.specs.Queued.{lebRefusal, envelopeSays, EnvelopePlaced, envelopeRefusal, ownSays, OwnPlaced, ownRefusal};
 ghost use Rattle.queued.specs.Queued.{checkSays, Placed, checkRefusal};
@@ -137,7 +137,7 @@ fn leb128_refusal(field: Leb128Field) -> u8
 
 // The fields of an own envelope.
 fn envelope_at(row: &[u8], at: usize) -> EnvelopeField
-    ensures { λ r. ⌜ (envelopeSays (now (row .entry)) r ≡ readAt (group envelope) (now (row .entry)) at) × EnvelopePlaced (now (row .entry)) r ⌝ }
+    ensures { λ r. ⌜ (envelopeSays (now (row .entry)) r ≡ readAt (group ownEnvelope) (now (row .entry)) at) × EnvelopePlaced (now (row .entry)) r ⌝ }
 {
     let RunField::Value(tag, at1) = fields::run_at(row, at, 16) else {
         return EnvelopeField::Refused(question::FIELD);
@@ -169,7 +169,7 @@ fn envelope_at(row: &[u8], at: usize) -> EnvelopeField
 
 // The flag, and the envelope if it is 1.
 fn own_envelope_at(row: &[u8], at: usize) -> OwnEnvelopeField
-    ensures { λ r. ⌜ (ownSays (now (row .entry)) r ≡ readAt (optional (group envelope)) (now (row .entry)) at) × OwnPlaced (now (row .entry)) r ⌝ }
+    ensures { λ r. ⌜ (ownSays (now (row .entry)) r ≡ readAt (optional (group ownEnvelope)) (now (row .entry)) at) × OwnPlaced (now (row .entry)) r ⌝ }
 {
     let flag = fields::flag_at(row, at);
     let FlagField::Value(present, at1) = flag else {

@@ -22,7 +22,7 @@ use Rattle.layout.proofs.Derived.{optional-lawful, list-lawful, sized-lawful, o
 use Rattle.rows.specs.Values.{Range}
 use Rattle.rows.specs.Checks.{kci, place, sealedQueued, sealedCarried, count, distinct, samePlace}
 use Rattle.rows.specs.Rows.{roleOf, roleByte, modeOf, modeByte, verificationOf, verificationByte, dirOf, dirByte, role, mode, verification, dir}
-use Rattle.rows.specs.Rows.{device, card, cardRow, pending, send, chain, skipped, range, contact, envelope, queued, carried, tombstone, courier}
+use Rattle.rows.specs.Rows.{device, card, cardRow, pending, send, chain, skipped, range, contact, ownEnvelope, queued, carried, tombstone, courier}
 use Rattle.rows.specs.declared.PairingRole.{PairingRole}
 use Rattle.rows.specs.declared.PairingRole.the-variants.{A, B}
 use Rattle.rows.specs.declared.Verification.{Verification}
@@ -256,29 +256,29 @@ contact-lawful version =
     (contact-blind version)
 
 -- ---- queued
-envelope-blind : (lv : Level) → Blind lv (Like envelope lv) envelope envelope
+ownEnvelope-blind : (lv : Level) → Blind lv (Like ownEnvelope lv) ownEnvelope ownEnvelope
 unfolding layout.blankOf
-envelope-blind lv =
+ownEnvelope-blind lv =
     run 16 (λ tag. b-field (bytes-lawful veiled 16) (λ s s′ e. num 4 (λ expiry. num 1 (λ copies. flg (λ renewed.
     b-done (λ i. record { tag = tag; s = e i; «expiry_min» = expiry; copies = copies; renewed = renewed }))))))
 
-pub envelope-lawful : Lawful (group envelope)
-envelope-lawful =
-    group-lawful envelope
+pub ownEnvelope-lawful : Lawful (group ownEnvelope)
+ownEnvelope-lawful =
+    group-lawful ownEnvelope
     (s-any (bytes-lawful plain 16) (λ tag. s-any (bytes-lawful veiled 16) (λ s. s-any (number-lawful 4) (λ expiry. s-any (number-lawful 1) (λ copies. s-any flag-lawful (λ renewed.
     s-done (((((tt, refl), refl), refl), refl), refl)))))))
-    envelope-blind
+    ownEnvelope-blind
 
 queued-blind : (version : ℕ) (lv : Level) → Blind lv (Like (queued version) lv) (queued version) (queued version)
 unfolding layout.blankOf
 queued-blind version lv =
-    b-ask refl (num 8 (λ created. b-field (optional-lawful (group envelope) envelope-lawful) (λ env env′ e. num 1 (λ gen. b-plain leb128-lawful (λ n. refl) (λ idx.
+    b-ask refl (num 8 (λ created. b-field (optional-lawful (group ownEnvelope) ownEnvelope-lawful) (λ env env′ e. num 1 (λ gen. b-plain leb128-lawful (λ n. refl) (λ idx.
     b-field (toEnd-lawful veiled «SEALED_LENGTH» sealedQueued) (λ t t′ f. fin «ROW_END» (b-done (λ i. record { «created_s» = created; envelope = e i; gen = gen; idx = idx; sealed = f i }))))))))
 
 pub queued-lawful : (version : ℕ) → Lawful (group (queued version))
 queued-lawful version =
     group-lawful (queued version)
-    (s-ask (s-any (number-lawful 8) (λ created. s-any (optional-lawful (group envelope) envelope-lawful) (λ env. s-any (number-lawful 1) (λ gen. s-any leb128-lawful (λ idx.
+    (s-ask (s-any (number-lawful 8) (λ created. s-any (optional-lawful (group ownEnvelope) ownEnvelope-lawful) (λ env. s-any (number-lawful 1) (λ gen. s-any leb128-lawful (λ idx.
     s-any (toEnd-lawful veiled «SEALED_LENGTH» sealedQueued) (λ t. s-any (noMore-lawful «ROW_END») (λ u. s-done ((((((tt, refl), refl), refl), refl), refl), refl)))))))))
     (queued-blind version)
 

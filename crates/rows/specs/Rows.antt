@@ -11,7 +11,7 @@ use Rattle.layout.specs.Veil.{plain, veiled}
 use Rattle.layout.specs.Form.{Form, bytes, letter, u8, u16, u32, u64, flag, leb128, toEnd, onlyIf, either}
 use Rattle.layout.specs.Layout.{Layout, done, field, ask, end, group, optional, list, sized, _>>=_, _>>_}
 use Rattle.rows.specs.Utf8.{utf8}
-use Rattle.rows.specs.Values.{Device, Card, Pending, Send, Chain, Skipped, Range, Contact, Envelope, Queued, Carried, Tombstone, Courier}
+use Rattle.rows.specs.Values.{Device, Card, Pending, Send, Chain, Skipped, Range, Contact, OwnEnvelope, Queued, Carried, Tombstone, Courier}
 use Rattle.rows.specs.Checks.{versionKnown, capsKnown, kci, nameShort, courierAllowed, sealedQueued, sealedCarried, notZero}
 use Rattle.rows.specs.Checks.{oneChainAtMost, gensDistinct, placesDistinct, fewSkipped, ackedSent, rising, canonical, noneAbove}
 use Rattle.rows.specs.declared.PairingRole.{PairingRole}
@@ -209,8 +209,8 @@ contact version = do
   })
 
 -- ---- Queued
-abbrev pub envelope : Layout Envelope
-envelope = do
+abbrev pub ownEnvelope : Layout OwnEnvelope
+ownEnvelope = do
   tag ← field (bytes plain 16) (λ e. e .tag)
   s ← field (bytes veiled 16) (λ e. e .s)
   «expiry_min» ← field u32 (λ e. e .«expiry_min»)
@@ -222,7 +222,7 @@ abbrev pub queued : ℕ → Layout Queued
 queued version = do
   ask VERSION (versionKnown version)
   «created_s» ← field u64 (λ q. q .«created_s»)
-  own ← field (optional (group envelope)) (λ q. q .envelope)
+  own ← field (optional (group ownEnvelope)) (λ q. q .envelope)
   gen ← field u8 (λ q. q .gen)
   idx ← field leb128 (λ q. q .idx)
   sealed ← field (toEnd veiled «SEALED_LENGTH» sealedQueued) (λ q. q .sealed)

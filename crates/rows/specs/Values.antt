@@ -78,7 +78,7 @@ pub record Contact : Type 0 where
   pub unacked : List ℕ
   pub expired : List Range
 
-pub record Envelope : Type 0 where
+pub record OwnEnvelope : Type 0 where
   pub tag : List ℕ
   pub s : List ℕ
   pub «expiry_min» : ℕ
@@ -87,7 +87,7 @@ pub record Envelope : Type 0 where
 
 pub record Queued : Type 0 where
   pub «created_s» : ℕ
-  pub envelope : Option Envelope
+  pub envelope : Option OwnEnvelope
   pub gen : ℕ
   pub idx : ℕ
   pub sealed : List ℕ

@@ -16,8 +16,8 @@ use Rattle.layout.proofs.Derived.{optional-lawful}
 use Rattle.layout.proofs.At.{Took, took, refused-at, learn, typed}
 use Rattle.layout.proofs.Steps.{Reached, start, field-yes, field-no, ask-yes, ask-no, end-yes, done-yes}
 use Rattle.rows.specs.Checks.{sealedQueued}
-use Rattle.rows.specs.Rows.{envelope, queued}
-use Rattle.rows.proofs.Lawful.{envelope-lawful}
+use Rattle.rows.specs.Rows.{ownEnvelope, queued}
+use Rattle.rows.proofs.Lawful.{ownEnvelope-lawful}
 use Rattle.fields.specs.Says.{u8Says, u64Says}
 use Rattle.data.specs.Says.{leb128Says}
 use Rattle.sealed.proofs.Text.{text-took, text-refused}
@@ -55,7 +55,7 @@ s3 c = s2 (c .before .before .before .before)
 abbrev r3 : (c : tie.After-known-told2) → Read (s3 c)
 r3 c =
     field-yes (r2 (c .before .before .before .before) .so)
-    (took _ _ (optional (group envelope)) (optional-lawful (group envelope) envelope-lawful) (by (s3 c))
+    (took _ _ (optional (group ownEnvelope)) (optional-lawful (group ownEnvelope) ownEnvelope-lawful) (by (s3 c))
     (learn (ownSays (row (s3 c))) (c .before .before .before .own-envelope-at .ensures .0) (c .before .own .given .1)))
 
 abbrev s4 : tie.After-known-told3 → tie.After-shared-slice-known
@@ -117,7 +117,7 @@ returns-3 c =
     let told = c .before .enum-told2 .given .1 in
     let k = c .before .before .before .before in
     let not = field-no (r2 k .so)
-    (refused-at _ _ (optional (group envelope)) (learn (ownSays (row (s2 k))) (c .before .before .before .own-envelope-at .ensures .0) told)) in
+    (refused-at _ _ (optional (group ownEnvelope)) (learn (ownSays (row (s2 k))) (c .before .before .before .own-envelope-at .ensures .0) told)) in
     (rw (c .refusal .ensures ∙ ap ownRefusal told) (sym (ap answer not)), tt)
 
 byte-at-requires : tie.Need-byte-at-requires

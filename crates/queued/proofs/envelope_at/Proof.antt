@@ -12,7 +12,7 @@ use Rattle.layout.specs.RowLaws.{Bytes}
 use Rattle.layout.proofs.Front.{number-lawful, flag-lawful}
 use Rattle.layout.proofs.At.{Took, took, refused-at, takes-at, refuses-at, learn, typed}
 use Rattle.layout.proofs.Steps.{Reached, start, field-yes, field-no, done-yes}
-use Rattle.rows.specs.Rows.{envelope}
+use Rattle.rows.specs.Rows.{ownEnvelope}
 use Rattle.fields.specs.Says.{Ends, u8Says, u32Says, flagSays, flagRefusal}
 use Rattle.fields.proofs.Runs.{run-took, run-short}
 use Rattle.queued.proofs.envelope_at.Statement.{statement}
@@ -26,7 +26,7 @@ abbrev from : tie.After-shared-slice-known → ℕ
 from s = s .before .args .at
 
 abbrev Read : tie.After-shared-slice-known → Type 1
-Read s = Reached envelope (row s) (from s)
+Read s = Reached ownEnvelope (row s) (from s)
 
 by : (s : tie.After-shared-slice-known) → Bytes (row s)
 by s = typed (row s) (s .shared-slice-known .given)
@@ -103,7 +103,7 @@ enum-told c = search needs
 returns : tie.Need-returns
 returns c =
     let stop = field-no (r0 (c .before .before .before) .so) (run-short _ _ plain 16 (c .before .before .run-at .ensures .0) (c .enum-told .given .1)) in
-    (sym (refuses-at _ _ (group envelope) stop), tt)
+    (sym (refuses-at _ _ (group ownEnvelope) stop), tt)
 
 run-at-requires-2 : tie.Need-run-at-requires-2
 run-at-requires-2 c κs = search needs
@@ -117,7 +117,7 @@ enum-told-2 c = search needs
 returns-2 : tie.Need-returns-2
 returns-2 c =
     let stop = field-no (r1 (c .before .before .before) .so) (run-short _ _ veiled 16 (c .before .before .run-at2 .ensures .0) (c .enum-told2 .given .1)) in
-    (sym (refuses-at _ _ (group envelope) stop), tt)
+    (sym (refuses-at _ _ (group ownEnvelope) stop), tt)
 
 u32-at-requires : tie.Need-u32-at-requires
 u32-at-requires c κs = search needs
@@ -131,7 +131,7 @@ enum-told-3 c = search needs
 returns-3 : tie.Need-returns-3
 returns-3 c =
     let stop = field-no (r2 (c .before .before .before) .so) (refused-at _ _ u32 (learn u32Says (c .before .before .u32-at .ensures) (c .enum-told3 .given .1))) in
-    (sym (refuses-at _ _ (group envelope) stop), tt)
+    (sym (refuses-at _ _ (group ownEnvelope) stop), tt)
 
 byte-at-requires : tie.Need-byte-at-requires
 byte-at-requires c κs = search needs
@@ -145,7 +145,7 @@ enum-told-4 c = search needs
 returns-4 : tie.Need-returns-4
 returns-4 c =
     let stop = field-no (r3 (c .before .before .before) .so) (refused-at _ _ u8 (learn u8Says (c .before .before .byte-at .ensures) (c .enum-told4 .given .1))) in
-    (sym (refuses-at _ _ (group envelope) stop), tt)
+    (sym (refuses-at _ _ (group ownEnvelope) stop), tt)
 
 flag-at-requires : tie.Need-flag-at-requires
 flag-at-requires c κs = search needs
@@ -163,14 +163,14 @@ returns-5 : tie.Need-returns-5
 returns-5 c =
     let told = c .before .enum-told5 .given .1 in
     let not = field-no (r4 (c .before .before .before .before) .so) (refused-at _ _ flag (learn flagSays (c .before .before .before .flag-at .ensures) told)) in
-    (rw (c .refusal .ensures ∙ ap flagRefusal told) (sym (refuses-at _ _ (group envelope) not)), tt)
+    (rw (c .refusal .ensures ∙ ap flagRefusal told) (sym (refuses-at _ _ (group ownEnvelope) not)), tt)
 
 returns-6 : tie.Need-returns-6
 returns-6 c =
     let k = c .before .before .before .before in
     let k2 = k .before .before .before .before .before .before .before .before in
     let t = took _ _ flag flag-lawful (by (s4 k)) (learn flagSays (c .before .before .before .flag-at .ensures) (c .before .flag .given .1)) in (
-      sym (takes-at _ _ (group envelope) (done-yes (field-yes (r4 k .so) t .so)) (t .inside)),
+      sym (takes-at _ _ (group ownEnvelope) (done-yes (field-yes (r4 k .so) t .so)) (t .inside)),
       record { tag = omega (arith, tag-ends (k1 k2), tag-took (k1 k2) .inside); s = omega (arith, key-ends k2, key-took k2 .inside) },
     )
 

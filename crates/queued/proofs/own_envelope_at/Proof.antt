@@ -10,8 +10,8 @@ use Rattle.layout.specs.RowLaws.{Bytes}
 use Rattle.layout.proofs.Front.{flag-lawful}
 use Rattle.layout.proofs.At.{Took, took, refused-at, takes-at, refuses-at, learn, typed}
 use Rattle.layout.proofs.Steps.{optional-some, optional-none, optional-no-flag, optional-no}
-use Rattle.rows.specs.Rows.{envelope}
-use Rattle.rows.proofs.Lawful.{envelope-lawful}
+use Rattle.rows.specs.Rows.{ownEnvelope}
+use Rattle.rows.proofs.Lawful.{ownEnvelope-lawful}
 use Rattle.fields.specs.Says.{flagSays, flagRefusal}
 use Rattle.queued.specs.Queued.{envelopeSays, envelopeRefusal, EnvelopePlaced}
 use Rattle.queued.proofs.own_envelope_at.Statement.{statement}
@@ -55,8 +55,8 @@ returns : tie.Need-returns
 returns c =
     let told = c .before .enum-told .given .1 in
     let s = c .before .before .before .before in
-    let not = optional-no-flag (group envelope) (row s) (here s) (refused-at _ _ flag (learn flagSays (c .before .before .before .flag-at .ensures) told)) in
-    (rw (c .refusal .ensures ∙ ap flagRefusal told) (sym (refuses-at _ _ (optional (group envelope)) not)), tt)
+    let not = optional-no-flag (group ownEnvelope) (row s) (here s) (refused-at _ _ flag (learn flagSays (c .before .before .before .flag-at .ensures) told)) in
+    (rw (c .refusal .ensures ∙ ap flagRefusal told) (sym (refuses-at _ _ (optional (group ownEnvelope)) not)), tt)
 
 envelope-at-requires : tie.Need-envelope-at-requires
 envelope-at-requires c κs = search needs
@@ -75,24 +75,24 @@ returns-2 c =
     let told = c .before .enum-told2 .given .1 in
     let t = c .before .before .before .before in
     let s = s1 (t .before) in
-    let not = optional-no (group envelope) (row s) (here s) (set t)
-    (refused-at _ _ (group envelope) (learn (envelopeSays (row s)) (c .before .before .before .envelope-at .ensures .0) told)) in
-    (rw (c .refusal2 .ensures ∙ ap envelopeRefusal told) (sym (refuses-at _ _ (optional (group envelope)) not)), tt)
+    let not = optional-no (group ownEnvelope) (row s) (here s) (set t)
+    (refused-at _ _ (group ownEnvelope) (learn (envelopeSays (row s)) (c .before .before .before .envelope-at .ensures .0) told)) in
+    (rw (c .refusal2 .ensures ∙ ap envelopeRefusal told) (sym (refuses-at _ _ (optional (group ownEnvelope)) not)), tt)
 
 returns-3 : tie.Need-returns-3
 returns-3 c =
     let a = c .before .before .before in
     let t = a .before in
     let s = s1 (t .before) in
-    let its = took _ _ (group envelope) envelope-lawful (by s) (learn (envelopeSays (row s)) (a .envelope-at .ensures .0) (c .before .envelope .given .1)) in
-    let o = optional-some (group envelope) (row s) (here s) (set t) its in
-    (sym (takes-at _ _ (optional (group envelope)) (o .reads) (o .inside)), subst (EnvelopePlaced (row s)) (c .before .envelope .given .1) (a .envelope-at .ensures .1))
+    let its = took _ _ (group ownEnvelope) ownEnvelope-lawful (by s) (learn (envelopeSays (row s)) (a .envelope-at .ensures .0) (c .before .envelope .given .1)) in
+    let o = optional-some (group ownEnvelope) (row s) (here s) (set t) its in
+    (sym (takes-at _ _ (optional (group ownEnvelope)) (o .reads) (o .inside)), subst (EnvelopePlaced (row s)) (c .before .envelope .given .1) (a .envelope-at .ensures .1))
 
 returns-4 : tie.Need-returns-4
 returns-4 c =
     let s = s1 (c .before) in
-    let o = optional-none (group envelope) (row s) (here s) (clear c) in
-    (sym (takes-at _ _ (optional (group envelope)) (o .reads) (o .inside)), tt)
+    let o = optional-none (group ownEnvelope) (row s) (here s) (clear c) in
+    (sym (takes-at _ _ (optional (group ownEnvelope)) (o .reads) (o .inside)), tt)
 
 pub own-envelope-at-spec : {M : Type 1} → statement M
 own-envelope-at-spec =
