@@ -250,8 +250,8 @@ fn carried_from(row: &[u8], at: CarriedAt) -> Held
     requires { ⌜ CarriedPlaces (now row) at ⌝ }
     ensures { λ r. ⌜ r ≡ heldOf (inl (carriedFrom (now (row .entry)) at)) ⌝ }
 {
-    let tag = sealed::copy_16(row, at.tag);
-    let c = sealed::copy_16(row, at.c);
+    let tag = put::copy_16(row, at.tag);
+    let c = put::copy_16(row, at.c);
     let depositor = at.depositor;
     Held {
         depositor,
@@ -268,8 +268,8 @@ fn tombstone_from(row: &[u8], at: TombstoneAt) -> Held
     requires { ⌜ TombstonePlaces (now row) at ⌝ }
     ensures { λ r. ⌜ r ≡ heldOf (inr (tombstoneFrom (now (row .entry)) at)) ⌝ }
 {
-    let tag = sealed::copy_16(row, at.tag);
-    let s = sealed::copy_16(row, at.s);
+    let tag = put::copy_16(row, at.tag);
+    let s = put::copy_16(row, at.s);
     Held {
         depositor: ContactId(0),
         expiry_min: at.expiry_min,

@@ -66,8 +66,8 @@ impl Envelope {
         let U8Field::Value(copies, at4) = fields::byte_at(input, at3) else {
             return short(end);
         };
-        let tag = sealed::copy_16(input, tag_at);
-        let c = sealed::copy_16(input, c_at);
+        let tag = put::copy_16(input, tag_at);
+        let c = put::copy_16(input, c_at);
         EnvelopeRead {
             ct_at: at4,
             verdict: Verdict::Accepted,

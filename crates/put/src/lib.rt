@@ -74,6 +74,16 @@ pub fn put_32(out: &mut [u8], at: usize, src: &[u8; 32]) -> usize
     put_run(out, at, src, 0, 32)
 }
 
+// The 16 bytes of `src` from a place, as an array.
+pub fn copy_16(src: &[u8], from: usize) -> [u8; 16]
+    requires { ⌜ from + 16 ≤ length (now src) ⌝ }
+    ensures { λ r. ⌜ r ≡ take 16 (drop from (now (src .entry))) ⌝ }
+{
+    let mut bytes = [0u8; 16];
+    put_run(&mut bytes, 0, src, from, 16);
+    bytes
+}
+
 // The 32 bytes of `src` from a place, as an array.
 pub fn copy_32(src: &[u8], from: usize) -> [u8; 32]
     requires { ⌜ from + 32 ≤ length (now src) ⌝ }

@@ -241,8 +241,8 @@ fn queued_from(row: &[u8], at: QueuedAt) -> Queued
             s: [0; 16],
         };
     };
-    let tag = sealed::copy_16(row, envelope.tag);
-    let s = sealed::copy_16(row, envelope.s);
+    let tag = put::copy_16(row, envelope.tag);
+    let s = put::copy_16(row, envelope.s);
     Queued {
         created_s: at.created_s,
         idx: at.idx,

@@ -1,7 +1,6 @@
-// What the rows that hold a sealed text share: which lengths are allowed, the text as a part of its row, and 16 bytes as an array.
+// What the rows that hold a sealed text share: which lengths are allowed, and the text as a part of its row.
 ghost use mathlib.Core.Path.{_≡_};
-ghost use Prim.Native.Nat.{_+_, _≤_};
-ghost use lib.ListN.{length, take, drop};
+ghost use lib.ListN.{drop};
 ghost use lib.Dec.{eqb};
 ghost use Rattle.rows.specs.Checks.{any, «INNER_BUCKETS», sealedQueued, sealedCarried};
 
@@ -61,14 +60,4 @@ pub fn sealed_text(row: &[u8], at: usize) -> &[u8]
         return &row[at..];
     }
     &row[len..]
-}
-
-// The 16 bytes of a row from a place, as an array.
-pub fn copy_16(row: &[u8], from: usize) -> [u8; 16]
-    requires { ⌜ from + 16 ≤ length (now row) ⌝ }
-    ensures { λ r. ⌜ r ≡ take 16 (drop from (now (row .entry))) ⌝ }
-{
-    let mut bytes = [0u8; 16];
-    put::put_run(&mut bytes, 0, row, from, 16);
-    bytes
 }
