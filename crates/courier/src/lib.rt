@@ -349,7 +349,7 @@ fn typed(held: Held) -> bool
 }
 
 // The length of the row with this sealed text, or the question that reading it would answer no.
-pub fn courier_size(held: Held, sealed: &[u8]) -> Written
+fn courier_size(held: Held, sealed: &[u8]) -> Written
     ensures { λ r. ⌜ writtenSays r ≡ asked (courier 3) (image held (now (sealed .entry))) ⌝ }
 {
     typed(held);
@@ -371,7 +371,7 @@ pub fn courier_size(held: Held, sealed: &[u8]) -> Written
 }
 
 // Writes the row, where there is room; the place behind it.
-pub fn put_courier(out: &mut [u8], at: usize, held: Held, sealed: &[u8]) -> usize
+fn put_courier(out: &mut [u8], at: usize, held: Held, sealed: &[u8]) -> usize
     requires { ⌜ at + length (image held (now sealed)) ≤ length (now out) ⌝ }
     ensures { λ r. ⌜ (r ≡ at + length (image held (now (sealed .entry)))) × Wrote (now (out .entry)) at (image held (now (sealed .entry))) (now (out .exit)) r ⌝ }
 {

@@ -244,7 +244,7 @@ fn typed(device: Device) -> bool
 }
 
 // The length of the device's row, or the question that reading it would answer no.
-pub fn device_size(device: Device) -> Written
+fn device_size(device: Device) -> Written
     ensures { λ r. ⌜ writtenSays r ≡ asked (layouts.device 3) (image device) ⌝ }
 {
     typed(device);
@@ -260,7 +260,7 @@ pub fn device_size(device: Device) -> Written
 }
 
 // Writes the device's row where there is room; the place behind it.
-pub fn put_device(out: &mut [u8], at: usize, device: Device) -> usize
+fn put_device(out: &mut [u8], at: usize, device: Device) -> usize
     requires { ⌜ at + length (image device) ≤ length (now out) ⌝ }
     ensures { λ r. ⌜ (r ≡ at + length (image device)) × Wrote (now (out .entry)) at (image device) (now (out .exit)) r ⌝ }
 {

@@ -328,7 +328,7 @@ fn typed(outgoing: Queued) -> bool
 }
 
 // The length of the row with this sealed text, or the question that reading it would answer no.
-pub fn queued_size(outgoing: Queued, sealed: &[u8]) -> Written
+fn queued_size(outgoing: Queued, sealed: &[u8]) -> Written
     ensures { λ r. ⌜ writtenSays r ≡ asked (queued 3) (image outgoing (now (sealed .entry))) ⌝ }
 {
     typed(outgoing);
@@ -345,7 +345,7 @@ pub fn queued_size(outgoing: Queued, sealed: &[u8]) -> Written
 }
 
 // Writes the row, where there is room; the place behind it.
-pub fn put_queued(out: &mut [u8], at: usize, outgoing: Queued, sealed: &[u8]) -> usize
+fn put_queued(out: &mut [u8], at: usize, outgoing: Queued, sealed: &[u8]) -> usize
     requires { ⌜ at + length (image outgoing (now sealed)) ≤ length (now out) ⌝ }
     ensures { λ r. ⌜ (r ≡ at + length (image outgoing (now (sealed .entry)))) × Wrote (now (out .entry)) at (image outgoing (now (sealed .entry))) (now (out .exit)) r ⌝ }
 {
