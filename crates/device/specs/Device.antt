@@ -37,11 +37,11 @@ abbrev pub defaultConfig : CourierConfig
 defaultConfig = configOf true 6 1440
 
 -- ---- checking
--- the device that stands at these places of the row
+-- the device of these numbers: its key stands at 4
 abbrev pub deviceFrom : List ℕ → DeviceAt → value.Device
 deviceFrom row at = record {
   «beacon_day» = at .«beacon_day»;
-  «beacon_key» = take 32 (drop (at .«beacon_key») row);
+  «beacon_key» = take 32 (drop 4 row);
   «next_contact» = at .«next_contact»;
   «read_receipts» = at .«read_receipts»;
   enabled = at .courier .enabled;
@@ -50,8 +50,8 @@ deviceFrom row at = record {
 }
 
 -- the key lies in the row
-abbrev pub Places : List ℕ → DeviceAt → Type 0
-Places row at = at .«beacon_key» + 32 ≤ length row
+abbrev pub Places : List ℕ → Type 0
+Places row = 4 + 32 ≤ length row
 
 abbrev pub checkSays : List ℕ → DeviceCheck → Answer value.Device
 checkSays row (check.Fields at) = accepted (deviceFrom row at)
@@ -62,7 +62,7 @@ checkRefusal (check.Fields at) = 0
 checkRefusal (check.Refused q) = q
 
 abbrev pub Placed : List ℕ → DeviceCheck → Type 0
-Placed row (check.Fields at) = Places row at
+Placed row (check.Fields at) = Places row
 Placed row (check.Refused q) = Unit {0}
 
 -- ---- reading: 0 stands everywhere after a refusal

@@ -90,9 +90,11 @@ pub struct Device {
     pub beacon_key: [u8; 32],
 }
 
-// A device row's numbers, and where its key starts in the row.
+// Where a device row's key starts.
+const BEACON_KEY_AT: usize = 4;
+
+// A device row's numbers.
 pub struct DeviceAt {
-    pub beacon_key: usize,
     pub next_contact: u64,
     pub beacon_day: u32,
     pub courier: CourierConfig,
@@ -132,7 +134,7 @@ pub fn check_device(version: u32, row: &[u8]) -> DeviceCheck
     let U32Field::Value(beacon_day, at1) = fields::u32_at(row, 0) else {
         return DeviceCheck::Refused(question::FIELD);
     };
-    let RunField::Value(beacon_key, at2) = fields::run_at(row, at1, 32) else {
+    let RunField::Value(_beacon_key, at2) = fields::run_at(row, at1, 32) else {
         return DeviceCheck::Refused(question::FIELD);
     };
     let U64Field::Value(next_contact, at3) = fields::u64_at(row, at2) else {
@@ -159,7 +161,6 @@ pub fn check_device(version: u32, row: &[u8]) -> DeviceCheck
         return DeviceCheck::Refused(question::ROW_END);
     }
     DeviceCheck::Fields(DeviceAt {
-        beacon_key,
         next_contact,
         beacon_day,
         courier,
@@ -167,12 +168,12 @@ pub fn check_device(version: u32, row: &[u8]) -> DeviceCheck
     })
 }
 
-// The device at the places that check_device found.
+// The device of the numbers that check_device found.
 fn device_from(row: &[u8], at: DeviceAt) -> Device
-    requires { ⌜ Places (now row) at ⌝ }
+    requires { ⌜ Places (now row) ⌝ }
     ensures { λ r. ⌜ r ≡ deviceOf (deviceFrom (now (row .entry)) at) ⌝ }
 {
-    let beacon_key = put::copy_32(row, at.beacon_key);
+    let beacon_key = put::copy_32(row, BEACON_KEY_AT);
     let courier = at.courier;
     Device {
         next_contact: at.next_contact,

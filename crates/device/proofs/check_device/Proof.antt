@@ -7,16 +7,16 @@ use native.Mathlib.Omega.{arith}
 use lib.ListN.{take, drop}
 use borrow.Author.Needs.{needs}
 use borrow.Author.Tests.{eq-eqb, ne-eqb}
-use Rattle.layout.specs.Veil.{veiled}
+use Rattle.layout.specs.Veil.{plain, veiled}
 use Rattle.layout.specs.Form.{bytes, u8, u16, u32, u64, flag}
 use Rattle.layout.specs.Layout.{answer}
 use Rattle.layout.specs.RowLaws.{Bytes}
 use Rattle.layout.proofs.Front.{number-lawful, flag-lawful}
-use Rattle.layout.proofs.At.{Took, took, refused-at, learn, typed}
+use Rattle.layout.proofs.At.{Took, took, refused-at, number-next, bytes-next, learn, typed}
 use Rattle.layout.proofs.Steps.{Reached, start, field-yes, field-no, ask-yes, ask-no, end-yes, end-no, done-yes}
 use Rattle.rows.specs.Checks.{courierAllowed}
 use Rattle.rows.specs.Rows.{device}
-use Rattle.fields.specs.Says.{Ends, u8Says, u16Says, u32Says, u64Says, flagSays, flagRefusal}
+use Rattle.fields.specs.Says.{Ends, runSays, u8Says, u16Says, u32Says, u64Says, flagSays, flagRefusal}
 use Rattle.fields.proofs.Runs.{run-took, run-short}
 use Rattle.device.specs.Device.{configOf}
 use Rattle.device.specs.declared.CourierConfig.{CourierConfig}
@@ -49,17 +49,27 @@ abbrev s2 : tie.After-known-told2 → tie.After-shared-slice-known
 s2 c = s1 (c .before .before .before .before)
 
 abbrev key : tie.After-known-told2 → ℕ
-key c = c .before .beacon-key .given .0 .0
+key c = c .before .-beacon-key .given .0 .0
 
 abbrev key-end : tie.After-known-told2 → ℕ
-key-end c = c .before .beacon-key .given .0 .1 .0
-
-key-took : (c : tie.After-known-told2)
-    → Took (bytes veiled 32) (row (s2 c)) (r1 (c .before .before .before .before) .here) (take 32 (drop (key c) (row (s2 c)))) (key-end c)
-key-took c = run-took _ _ veiled 32 (c .before .before .before .run-at .ensures .0) (by (s2 c)) (c .before .beacon-key .given .1)
+key-end c = c .before .-beacon-key .given .0 .1 .0
 
 key-ends : (c : tie.After-known-told2) → key-end c ≡ key c + 32
-key-ends c = subst (Ends 32) (c .before .beacon-key .given .1) (c .before .before .before .run-at .ensures .1)
+key-ends c = subst (Ends 32) (c .before .-beacon-key .given .1) (c .before .before .before .run-at .ensures .1)
+
+-- the key stands at 4
+key-place : (c : tie.After-known-told2) → key c ≡ 4
+key-place c =
+    let k = c .before .before .before .before in
+    let day = learn u32Says (k .before .before .before .u32-at .ensures) (k .before .beacon-day .given .1) in
+    let four = number-next (row (s1 k)) 0 4 (by (s1 k)) day (omega arith) in
+    let read = learn (runSays 32 (row (s2 c))) (c .before .before .before .run-at .ensures .0) (c .before .-beacon-key .given .1) in
+    let inside = took _ _ u32 (number-lawful 4) (by (s1 k)) day .inside in
+    omega (arith, four, key-ends c, bytes-next (row (s2 c)) (k .before .beacon-day .given .0 .1 .0) 32 plain (by (s2 c)) read inside)
+
+key-took : (c : tie.After-known-told2)
+    → Took (bytes veiled 32) (row (s2 c)) (r1 (c .before .before .before .before) .here) (take 32 (drop 4 (row (s2 c)))) (key-end c)
+key-took c = rw (key-place c) at (run-took _ _ veiled 32 (c .before .before .before .run-at .ensures .0) (by (s2 c)) (c .before .-beacon-key .given .1))
 
 abbrev r2 : (c : tie.After-known-told2) → Read (s2 c)
 r2 c = field-yes (r1 (c .before .before .before .before) .so) (key-took c)
@@ -149,8 +159,8 @@ returns-2 c =
 run-at-requires : tie.Need-run-at-requires
 run-at-requires c κs = search needs
 
-enum-known-beacon-key : tie.Need-enum-known-beacon-key
-enum-known-beacon-key c = search needs
+enum-known--beacon-key : tie.Need-enum-known--beacon-key
+enum-known--beacon-key c = search needs
 
 enum-told-2 : tie.Need-enum-told-2
 enum-told-2 c = search needs
@@ -256,7 +266,7 @@ returns-10 c = (sym (ap answer (end-no (r8 (c .before) .so) (c .if2 .taken))), t
 returns-11 : tie.Need-returns-11
 returns-11 c =
     let k = c .before in
-    (rw (allowed k .1) (sym (ap answer (done-yes (end-yes (r8 k .so) (c .if2 .left) .so)))), omega (arith, key-ends (e2 k), key-took (e2 k) .inside))
+    (rw (allowed k .1) (sym (ap answer (done-yes (end-yes (r8 k .so) (c .if2 .left) .so)))), omega (arith, key-place (e2 k), key-ends (e2 k), key-took (e2 k) .inside))
 
 pub check-device-spec : {M : Type 1} → statement M
 check-device-spec =
@@ -268,7 +278,7 @@ check-device-spec =
     enum-told
     returns-2
     run-at-requires
-    enum-known-beacon-key
+    enum-known--beacon-key
     enum-told-2
     returns-3
     u64-at-requires
