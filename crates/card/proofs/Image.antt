@@ -1,6 +1,6 @@
 -- The row that a card stands for: what reading it would answer, and which bytes it is.
 -- Assumes nothing.
-use Prim.Native.Nat.{ℕ, _+_, _≤_}
+use Prim.Native.Nat.{ℕ, _+_, _^_, _≤_, _<_}
 use mathlib.Core.List.{List, [], _∷_, _++_, append-nil}
 use mathlib.Core.Bool.{Bool, true, false, cond}
 use mathlib.Core.Option.{none, some}
@@ -52,6 +52,17 @@ module _ (c : Card) (ty : CardTyped c) where
   pub fits : fitsOf cardRow (valueOf c) []
   unfolding layout.print
   fits = ((ty .caps, (ty .«beacon_day», (ty .«beacon_key», (rw name-whole (ty .«name_len»), (refl, (key-fits (kci (c .caps)), refl)))))), (refl, refl))
+
+  -- a card's length stays below 2^16, whatever its name's length says
+  pub print-short : length (print card (valueOf c)) < 256 ^ 2
+  unfolding layout.print
+  print-short =
+      let key : length (printIf (bytes plain 1184) (valueOf c .«static_ek»)) ≤ 1184 = go (kci (c .caps)) in
+      rw append-nil (simp (length-append, length-bytesOf) (omega (arith, key, ty .«beacon_key», name-whole, ty .«name_len»)))
+    where
+      go : (t : Bool) → length (printIf (bytes plain 1184) (cond t (some (c .«static_ek»)) none)) ≤ 1184
+      go true = omega (arith, ty .«static_ek»)
+      go false = omega arith
 
   refused-row : {q : ℕ} → refusalOf cardRow (valueOf c) ≡ some q → asked cardRow (image c) ≡ refuses q
   unfolding image write.asked

@@ -86,7 +86,7 @@ afterKeys p k = embed chained chainedOf (afterChained p k)
 abbrev pub afterPaired : Paired → Layout Contact
 afterPaired p = embed keys keysOf (afterKeys p)
 
-in-parts : (version : ℕ) → contact version ≡ ask VERSION (versionKnown version) (embed paired pairedOf afterPaired)
+pub in-parts : (version : ℕ) → contact version ≡ ask VERSION (versionKnown version) (embed paired pairedOf afterPaired)
 unfolding embed
 in-parts version = refl
 
