@@ -48,6 +48,11 @@ module _ {B : Type 0} (f : Form B) where
     pub starts : first ≤ length row
     pub ends : ended (readAt (times f count) row first) ≡ takes tt next
 
+  -- the same, up to some place
+  pub record Stands (row : List ℕ) (first count : ℕ) : Type 0 where
+    pub next : ℕ
+    pub so : Listed row first count next
+
   abbrev pub ListedAt : List ℕ → ListField → Type 0
   ListedAt row (list.Value at) = Listed row (at .first) (at .count) (at .next)
   ListedAt row (list.Refused q) = Unit {0}

@@ -6,12 +6,17 @@ use lib.ListN.{length, take, drop}
 use Rattle.layout.specs.Read.{Read, value, andThen, onto}
 use Rattle.layout.specs.Veil.{zeros}
 use Rattle.layout.specs.Form.{Form}
+use Rattle.lists.specs.Lists.{itemsOf}
 
 module _ {B : Type 0} (w : ℕ) (f : Form B) where
   -- the records of the first n places, or the first refusal
   unfoldable pub readPlaces : ℕ → List ℕ → Read (List B)
   readPlaces zero l = value [] l
   readPlaces (suc n) l = andThen (f .read (take w l)) (λ b rest. onto (λ bs. b ∷ bs) (readPlaces n (drop w l)))
+
+  -- ... and none after a refusal
+  unfoldable pub placesOf : ℕ → List ℕ → List B
+  placesOf n l = itemsOf f (readPlaces n l)
 
   -- places filled with these records
   unfoldable pub printPlaces : List B → List ℕ
