@@ -1,0 +1,5 @@
+pub mod Turns
+pub mod Cells
+pub mod Fields
+pub mod Distinct
+pub mod Chains

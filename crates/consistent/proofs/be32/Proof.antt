@@ -1,0 +1,97 @@
+-- `consistent::be32` meets its contract.
+use Prim.Native.Nat.{ℕ, _+_, _*_}
+use mathlib.Core.List.{List}
+use mathlib.Core.Path.{_≡_}
+use native.Mathlib.Omega.{arith}
+use native.Mathlib.Nat.{add-zero}
+use lib.ListN.{getD, drop}
+use Rattle.layout.specs.Form.{bigEndian}
+use lib.Seq.{getD-drop}
+use Rattle.layout.specs.Form as form
+use borrow.Author.Needs.{needs}
+use Rattle.consistent.proofs.be32.Statement.{statement}
+use Rattle.consistent.proofs.be32.Tie as tie
+
+shared-slice-read-wide : tie.Need-shared-slice-read-wide
+shared-slice-read-wide c = search needs
+
+wide-requires : tie.Need-wide-requires
+wide-requires c κs = search needs
+
+mul-high : tie.Need-mul-high
+mul-high c = search needs
+
+add-wide : tie.Need-add-wide
+add-wide c = search needs
+
+shared-slice-read-wide-2 : tie.Need-shared-slice-read-wide-2
+shared-slice-read-wide-2 c = search needs
+
+wide-requires-2 : tie.Need-wide-requires-2
+wide-requires-2 c κs = search needs
+
+add-high : tie.Need-add-high
+add-high c = search needs
+
+add-wide-2 : tie.Need-add-wide-2
+add-wide-2 c = search needs
+
+shared-slice-read-wide-3 : tie.Need-shared-slice-read-wide-3
+shared-slice-read-wide-3 c = search needs
+
+wide-requires-3 : tie.Need-wide-requires-3
+wide-requires-3 c κs = search needs
+
+mul-low : tie.Need-mul-low
+mul-low c = search needs
+
+add-wide-3 : tie.Need-add-wide-3
+add-wide-3 c = search needs
+
+shared-slice-read-wide-4 : tie.Need-shared-slice-read-wide-4
+shared-slice-read-wide-4 c = search needs
+
+wide-requires-4 : tie.Need-wide-requires-4
+wide-requires-4 c κs = search needs
+
+add-low : tie.Need-add-low
+add-low c = search needs
+
+mul-result : tie.Need-mul-result
+mul-result c = search needs
+
+add-result : tie.Need-add-result
+add-result c = search needs
+
+-- the four bytes of a number
+four : (l : List ℕ) (at a b c d : ℕ) → a ≡ getD l at 0 → b ≡ getD l (at + 1) 0 → c ≡ getD l (at + 2) 0 → d ≡ getD l (at + 3) 0 → (a * 256 + b) * 65536 + (c * 256 + d) ≡ bigEndian 4 (drop at l)
+unfolding form.bigEndian
+four l at a b c d ea eb ec ed = simp (getD-drop, add-zero) (omega arith)
+
+returns : tie.Need-returns
+returns c =
+    let s = c .before .before .before .before .before .before .before .before .before in
+    (four (s .args .bytes .now) (s .args .at) _ _ _ _ (c .before .before .before .before .before .before .wide .ensures .0) (c .before .before .before .before .wide2 .ensures .0) (c .before .before .wide3 .ensures .0) (c .wide4 .ensures .0), search needs)
+
+pub be32-spec : {M : Type 1} → statement M
+be32-spec =
+    tie.close
+    (tie.spec
+    shared-slice-read-wide
+    wide-requires
+    mul-high
+    add-wide
+    shared-slice-read-wide-2
+    wide-requires-2
+    add-high
+    add-wide-2
+    shared-slice-read-wide-3
+    wide-requires-3
+    mul-low
+    add-wide-3
+    shared-slice-read-wide-4
+    wide-requires-4
+    add-low
+    mul-result
+    add-result
+    returns)

@@ -1,0 +1,39 @@
+-- `consistent::place_at` meets its contract.
+use native.Mathlib.Nat.{add-zero}
+use lib.Seq.{getD-drop, drop-drop}
+use borrow.Author.Needs.{needs}
+use Rattle.consistent.proofs.place_at.Statement.{statement}
+use Rattle.consistent.proofs.place_at.Tie as tie
+
+shared-slice-read-wide : tie.Need-shared-slice-read-wide
+shared-slice-read-wide c = search needs
+
+wide-requires : tie.Need-wide-requires
+wide-requires c κs = search needs
+
+mul-result : tie.Need-mul-result
+mul-result c = search needs
+
+add-be32 : tie.Need-add-be32
+add-be32 c = search needs
+
+be32-requires : tie.Need-be32-requires
+be32-requires c κs = search needs
+
+add-result : tie.Need-add-result
+add-result c = search needs
+
+returns : tie.Need-returns
+returns c = (rw (getD-drop, add-zero, drop-drop, ← c .before .wide .ensures .0, ← c .be32 .ensures .0), search needs)
+
+pub place-at-spec : {M : Type 1} → statement M
+place-at-spec =
+    tie.close
+    (tie.spec
+    shared-slice-read-wide
+    wide-requires
+    mul-result
+    add-be32
+    be32-requires
+    add-result
+    returns)

@@ -1,0 +1,45 @@
+-- `consistent::skipped_distinct` meets its contract: places that rise are distinct.
+use Prim.Native.Nat.{ℕ}
+use mathlib.Core.List.{List}
+use mathlib.Core.Path.{_≡_, sym, ap, _∙_}
+use lib.ListN.{drop}
+use lib.Dec.{eqb}
+use Rattle.layout.specs.Layout.{group}
+use Rattle.layout.proofs.At.{typed, bytes-drop}
+use Rattle.rows.specs.Checks.{distinct, place, samePlace, placesDistinct}
+use Rattle.rows.specs.Rows.{skipped}
+use Rattle.lists.specs.Lists.{items}
+use Rattle.consistent.specs.Cells.{placeAt, placeNumbers}
+use Rattle.consistent.proofs.Cells.{Many, standing}
+use Rattle.consistent.proofs.Fields.{skipped-shows}
+use Rattle.consistent.proofs.Distinct.{distinct-number, ascending-distinct}
+use Rattle.consistent.proofs.skipped_distinct.Statement.{statement}
+use Rattle.consistent.proofs.skipped_distinct.Tie as tie
+
+abbrev part : tie.After-shared-slice-known → List ℕ
+part s = drop (s .before .args .first) (s .before .args .bytes .now)
+
+keys : (s : tie.After-shared-slice-known) → Many (λ l. 46) placeAt place (s .before .args .count) (part s) (items (group skipped) (s .before .args .count) (part s))
+keys s = let a = s .before .args in standing (λ l. 46) placeAt place (group skipped) skipped-shows (a .bytes .now) (a .first) (a .count) (s .before .pre)
+
+-- the question, of numbers
+asked : (s : tie.After-shared-slice-known) → distinct eqb (placeNumbers (s .before .args .count) (part s)) ≡ placesDistinct (items (group skipped) (s .before .args .count) (part s))
+asked s =
+    let row = s .before .args .bytes .now in
+    sym (ap (distinct samePlace) (keys s .are) ∙ distinct-number (s .before .args .count) (part s) (bytes-drop (s .before .args .first) row (typed row (s .shared-slice-known .given))))
+
+places-rise-requires : tie.Need-places-rise-requires
+places-rise-requires c κs = keys c .rooms
+
+returns : tie.Need-returns
+returns c = let s = c .before .before in sym (ascending-distinct 0 (placeNumbers (s .before .args .count) (part s)) (sym (c .before .places-rise .ensures) ∙ c .if1 .taken)) ∙ asked s
+
+places-differ-requires : tie.Need-places-differ-requires
+places-differ-requires c κs = keys (c .before .before) .rooms
+
+returns-2 : tie.Need-returns-2
+returns-2 c = c .places-differ .ensures ∙ asked (c .before .before .before)
+
+pub skipped-distinct-spec : {M : Type 1} → statement M
+skipped-distinct-spec =
+    tie.close (tie.spec places-rise-requires returns places-differ-requires returns-2)
