@@ -3,3 +3,4 @@ pub mod Cells
 pub mod Fields
 pub mod Distinct
 pub mod Chains
+pub mod Callers
