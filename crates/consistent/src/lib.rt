@@ -36,7 +36,7 @@ pub struct ChainsAsked {
     pub gens_distinct: bool,
 }
 
-// Where the chain behind the one at a position stands.
+// Where the chain behind the one at a position starts.
 fn after_chain(bytes: &[u8], at: usize, padded: bool) -> usize
     requires { ⌜ at + chainWidth padded (drop at (now bytes)) ≤ length (now bytes) ⌝ }
     ensures { λ r. ⌜ r ≡ at + chainWidth padded (drop at (now (bytes .entry))) ⌝ }
@@ -58,7 +58,7 @@ fn current_at(bytes: &[u8], at: usize) -> usize
     if bytes[at + 42] == 1 { 0 } else { 1 }
 }
 
-// 17
+// 17: at most one chain is not superseded. Padded chains stand in places of 51 bytes.
 fn one_current(bytes: &[u8], first: usize, count: usize, padded: bool) -> bool
     requires { ⌜ ChainsStand padded count (drop first (now bytes)) ⌝ }
     ensures { λ r. ⌜ r ≡ oneCurrent 0 (supersededs padded count (drop first (now (bytes .entry)))) ⌝ }
@@ -77,7 +77,7 @@ fn one_current(bytes: &[u8], first: usize, count: usize, padded: bool) -> bool
     true
 }
 
-// 18
+// 18: no two chains have the same gen.
 fn gens_distinct(bytes: &[u8], first: usize, count: usize, padded: bool) -> bool
     requires { ⌜ ChainsStand padded count (drop first (now bytes)) ⌝ }
     ensures { λ r. ⌜ r ≡ distinct eqb (gens padded count (drop first (now (bytes .entry)))) ⌝ }
