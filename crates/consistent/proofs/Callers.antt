@@ -23,14 +23,13 @@ use Rattle.rows.specs.Values.{Skipped}
 use Rattle.rows.specs.Checks.{canonical, noneAbove}
 use Rattle.rows.specs.Rows.{skipped, range}
 use Rattle.rows.proofs.Lawful.{skipped-lawful}
-use Rattle.lists.specs.Lists.{items}
+use Rattle.lists.specs.Lists.{items, Stands}
 use Rattle.lists.specs.Lists as lists
-use Rattle.lists.specs.Places.{readPlaces}
+use Rattle.lists.specs.Places.{readPlaces, placesOf}
 use Rattle.lists.specs.Places as places
 use Rattle.received.specs.Lent.{pairs}
 use Rattle.received.specs.Lent as flat
-use Rattle.consistent.specs.Asked.{Stands, Placed, placesOf}
-use Rattle.consistent.specs.Asked as asked
+use Rattle.consistent.specs.Asked.{Placed}
 use Rattle.consistent.specs.Cells.{cells}
 use Rattle.consistent.specs.Cells as stand
 use Rattle.consistent.proofs.Cells.{standing, all-shown}
@@ -102,7 +101,7 @@ module _ (lent : List ℕ) (count : ℕ) (by : Bytes lent) (p : Placed 46 (group
       record { next = length lent - length (s .left); so = record { starts = omega arith; ends = rw (s .reads) } }
 
   pub skipped-items : items (group skipped) count lent ≡ placesOf 46 (group skipped) count lent
-  unfolding lists.items asked.placesOf
+  unfolding lists.items places.placesOf
   skipped-items =
       let s = same count lent (p .records) (p .rest) by (p .room) (p .so) in
       rw (s .reads, p .so)

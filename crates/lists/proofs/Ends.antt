@@ -13,10 +13,10 @@ use Rattle.layout.specs.Field.{Field, takes, refuses, placed, readAt}
 use Rattle.layout.specs.Field as field
 use Rattle.layout.specs.RowLaws.{Bytes}
 use Rattle.layout.proofs.Lawful.{Lawful}
-use Rattle.layout.proofs.At.{Took, took, refused-at, takes-at, refuses-at, learn}
+use Rattle.layout.proofs.At.{Took, took, fits-at, refused-at, takes-at, refuses-at, learn}
 use Rattle.layout.proofs.Parts.{times-lawful}
 use Rattle.layout.proofs.Steps.{list-yes, list-no, list-no-count}
-use Rattle.lists.specs.Lists.{ended, endSays, foundAt, listSays, ListedAt, items, itemsOf}
+use Rattle.lists.specs.Lists.{ended, endSays, foundAt, listSays, ListedAt, items, itemsOf, Listed}
 use Rattle.lists.specs.Lists as lists
 use Rattle.lists.specs.declared.EndField.{EndField}
 use Rattle.lists.specs.declared.EndField.the-variants.{Value, Refused}
@@ -54,6 +54,11 @@ module _ {B : Type 0} (f : Form B) (row : List ℕ) where
       go : (x : Read (List B)) → ended (placed row x) ≡ takes tt next → placed row x ≡ takes (itemsOf f x) next
       go (value bs rest) e = let same : length row - length rest ≡ next = cc in rw same
       go (refused q) e = absurd (let z : _≡_ {A = ℕ} 0 1 = cc in omega arith)
+
+-- items that stand in a row are as many as were counted, and fit
+pub listed-fits : {B : Type 0} (f : Form B) → Lawful f → {row : List ℕ} {first count next : ℕ} → Bytes row → Listed f row first count next
+    → (times f count) .fits (items f count (drop first row)) (drop next row)
+listed-fits f law {row} {first} {count} by l = fits-at row first (times f count) (times-lawful f law count) by (items-at f row count first (l .ends))
 
 -- ---- one turn of a loop over n items: the item was taken, or refused
 pub record Turned {B : Type 0} (f : Form B) (row : List ℕ) (at n i next : ℕ) : Type 0 where

@@ -1,0 +1,44 @@
+-- `contact::consistent_in_row` meets its contract: 17 to 20, and then 21 to 24.
+use Prim.Native.Nat.{ℕ}
+use mathlib.Core.Option.{Option, none, some}
+use mathlib.Core.Path.{_≡_}
+use borrow.Author.Needs.{needs}
+use Rattle.layout.specs.Read.{first}
+use Rattle.layout.proofs.At.{learn}
+use Rattle.contact.specs.Consistent.{refusalIn}
+use Rattle.contact.proofs.consistent_in_row.Statement.{statement}
+use Rattle.contact.proofs.consistent_in_row.Tie as tie
+
+-- the first refusal stands; where there is none, the second is the answer
+stands : {a x : Option ℕ} {q : ℕ} (y : Option ℕ) → a ≡ x → x ≡ some q → a ≡ first x y
+stands y e p = rw (e, p)
+
+goes-on : {a x y : Option ℕ} → a ≡ y → x ≡ none → a ≡ first x y
+goes-on e p = rw (e, p)
+
+chains-consistent-requires : tie.Need-chains-consistent-requires
+chains-consistent-requires c κs = c .before .before .pre .chained
+
+enum-told : tie.Need-enum-told
+enum-told c = search needs
+
+enum-told-2 : tie.Need-enum-told-2
+enum-told-2 c = search needs
+
+returns : tie.Need-returns
+returns c =
+    let r = c .before .before in
+    stands _ (r .chains-consistent .ensures) (learn refusalIn (r .chains-consistent .ensures) (c .enum-told2 .given .1))
+
+numbers-consistent-requires : tie.Need-numbers-consistent-requires
+numbers-consistent-requires c κs = c .before .before .before .before .before .before .pre .numbers
+
+returns-2 : tie.Need-returns-2
+returns-2 c =
+    let t = c .before .before in
+    goes-on (c .numbers-consistent .ensures) (learn refusalIn (t .before .before .chains-consistent .ensures) (t .enum-told .given .1))
+
+pub consistent-in-row-spec : {M : Type 1} → statement M
+consistent-in-row-spec =
+    tie.close
+    (tie.spec chains-consistent-requires enum-told enum-told-2 returns numbers-consistent-requires returns-2)

@@ -1,0 +1,3 @@
+pub mod Consistent
+pub mod Check
+pub mod Contact

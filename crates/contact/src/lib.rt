@@ -1,0 +1,196 @@
+// Contact rows, as state.rs has them: checked, and read into a struct and five lent lists.
+use card::Card;
+use layout::question;
+use parts::ChainedAt;
+use parts::ChainedField;
+use parts::KeysAt;
+use parts::KeysField;
+use parts::NumbersAt;
+use parts::NumbersField;
+use parts::PairedAt;
+use parts::PairedField;
+use rows::Dir;
+use rows::PairingRole;
+use rows::Verdict;
+use rows::Verification;
+ghost use mathlib.Core.Path.{_≡_};
+ghost use Prim.Native.Nat.{_^_, _<_};
+ghost use Rattle.layout.specs.Layout.{readRow};
+ghost use Rattle.rows.specs.Rows as layouts;
+ghost use Rattle.parts.specs.Places.{ChainedLists, NumbersLists, chainedFrom, numbersFrom};
+ghost use Rattle.contact.specs.Consistent.{chainsRefusal, numbersRefusal, inconsistency, refusalIn};
+ghost use Rattle.contact.specs.Check.{contactFrom, Places, checkSays, Placed, checkRefusal};
+
+// The send chain's numbers; its key stands beside it. Absent until the first Resume.
+pub enum SendChain {
+    Absent,
+    Present { gen_: u8, dir: Dir, idx: u32 },
+}
+
+// A contact but for the items of its lists, which the caller lends: chains to expired say how many items of each there are.
+// What a flag leaves out is 0: pending_chain_key and pending_msg_seed, and send_key.
+pub struct Contact {
+    pub resume_index: u64,
+    pub chains: usize,
+    pub skipped: usize,
+    pub above: usize,
+    pub unacked: usize,
+    pub expired: usize,
+    pub sent_msgno: u32,
+    pub peer_acked: u32,
+    pub peer_read: u32,
+    pub read_marked: u32,
+    pub contiguous: u32,
+    pub send: SendChain,
+    pub role: PairingRole,
+    pub verification: Verification,
+    pub pending: bool,
+    pub peer: Card,
+    pub pair_id: [u8; 16],
+    pub th: [u8; 48],
+    pub nonce_b: [u8; 16],
+    pub door_a_to_b: [u8; 32],
+    pub door_b_to_a: [u8; 32],
+    pub route_key: [u8; 32],
+    pub chain_key: [u8; 32],
+    pub pending_chain_key: [u8; 32],
+    pub pending_msg_seed: [u8; 32],
+    pub send_key: [u8; 32],
+}
+
+// The contact is all zeros where the verdict is a refusal.
+pub struct ContactRead {
+    pub verdict: Verdict,
+    pub contact: Contact,
+}
+
+// A contact row's numbers, and where its runs and lists stand in the row.
+pub struct ContactAt {
+    pub paired: PairedAt,
+    pub keys: KeysAt,
+    pub chained: ChainedAt,
+    pub numbers: NumbersAt,
+}
+
+pub enum ContactCheck {
+    Fields(ContactAt),
+    Refused(u8),
+}
+
+impl ContactCheck {
+    // The question that refused; 0 where none did.
+    pub fn refusal(self) -> u8
+        ensures { λ r. ⌜ r ≡ checkRefusal self ⌝ }
+    {
+        match self {
+            ContactCheck::Refused(q) => q,
+            ContactCheck::Fields(_) => 0,
+        }
+    }
+}
+
+fn wide(x: u32) -> u64
+    ensures { λ r. ⌜ (r ≡ x) × (r < 2 ^ 32) ⌝ }
+{
+    x as u64
+}
+
+// Questions 17 to 20, of chains and skipped keys that were read.
+fn chains_consistent(row: &[u8], at: ChainedAt) -> Verdict
+    requires { ⌜ ChainedLists (now row) at ⌝ }
+    ensures { λ r. ⌜ refusalIn r ≡ chainsRefusal (chainedFrom (now (row .entry)) at .chains) (chainedFrom (now (row .entry)) at .skipped) ⌝ }
+{
+    let chains = at.chains;
+    let asked = consistent::chains_in_row(row, chains.first, chains.count);
+    if !asked.one_current {
+        return Verdict::Refused(question::CHAINS_CURRENT);
+    }
+    if !asked.gens_distinct {
+        return Verdict::Refused(question::CHAINS_GENS);
+    }
+    let skipped = at.skipped;
+    if !consistent::skipped_distinct(row, skipped.first, skipped.count) {
+        return Verdict::Refused(question::SKIPPED_KEYS);
+    }
+    if rows::MAX_SKIPPED < skipped.count {
+        return Verdict::Refused(question::SKIPPED_COUNT);
+    }
+    Verdict::Accepted
+}
+
+// Questions 21 to 24, of numbers that were read.
+fn numbers_consistent(row: &[u8], sent: u32, at: NumbersAt) -> Verdict
+    requires { ⌜ NumbersLists (now row) at ⌝ }
+    ensures { λ r. ⌜ refusalIn r ≡ numbersRefusal sent (at .«peer_acked») (at .contiguous) (numbersFrom (now (row .entry)) at .above) (numbersFrom (now (row .entry)) at .unacked) (numbersFrom (now (row .entry)) at .expired) ⌝ }
+{
+    if sent < at.peer_acked {
+        return Verdict::Refused(question::PEER_ACKED);
+    }
+    let unacked = at.unacked;
+    if !consistent::rising_in_row(row, unacked.first, unacked.count, sent) {
+        return Verdict::Refused(question::UNACKED);
+    }
+    let above = at.above;
+    let from = wide(at.contiguous) + 2;
+    if !consistent::canonical_in_row(row, above.first, above.count, from, u32::MAX) {
+        return Verdict::Refused(question::ABOVE);
+    }
+    let expired = at.expired;
+    if !consistent::canonical_in_row(row, expired.first, expired.count, 1, sent) {
+        return Verdict::Refused(question::EXPIRED);
+    }
+    Verdict::Accepted
+}
+
+// 17 to 24.
+fn consistent_in_row(row: &[u8], at: ContactAt) -> Verdict
+    requires { ⌜ Places (now row) at ⌝ }
+    ensures { λ r. ⌜ refusalIn r ≡ inconsistency (contactFrom (now (row .entry)) at) ⌝ }
+{
+    let chained = at.chained;
+    let chains = chains_consistent(row, chained);
+    let Verdict::Accepted = chains else {
+        return chains;
+    };
+    let numbers = at.numbers;
+    numbers_consistent(row, at.keys.sent_msgno, numbers)
+}
+
+// The questions of a contact row; nothing is copied.
+pub fn check_contact(version: u32, row: &[u8]) -> ContactCheck
+    ensures { λ r. ⌜ (checkSays (now (row .entry)) r ≡ readRow (layouts.contact version) (now (row .entry))) × Placed (now (row .entry)) r ⌝ }
+{
+    if version != rows::BLOB_VERSION {
+        return ContactCheck::Refused(question::VERSION);
+    }
+    let paired_field = parts::paired_at(row, 0);
+    let PairedField::Value(paired, at1) = paired_field else {
+        return ContactCheck::Refused(paired_field.refusal());
+    };
+    let keys_field = parts::keys_at(row, at1);
+    let KeysField::Value(keys, at2) = keys_field else {
+        return ContactCheck::Refused(keys_field.refusal());
+    };
+    let chained_field = parts::chained_at(row, at2);
+    let ChainedField::Value(chained, at3) = chained_field else {
+        return ContactCheck::Refused(chained_field.refusal());
+    };
+    let numbers_field = parts::numbers_at(row, at3);
+    let NumbersField::Value(numbers, at4) = numbers_field else {
+        return ContactCheck::Refused(numbers_field.refusal());
+    };
+    if at4 < row.len() {
+        return ContactCheck::Refused(question::ROW_END);
+    }
+    let at = ContactAt {
+        paired,
+        keys,
+        chained,
+        numbers,
+    };
+    let verdict = consistent_in_row(row, at);
+    let Verdict::Refused(q) = verdict else {
+        return ContactCheck::Fields(at);
+    };
+    ContactCheck::Refused(q)
+}
