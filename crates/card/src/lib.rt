@@ -172,7 +172,7 @@ fn static_ek_from(input: &[u8], from: usize) -> [u8; 1184]
 }
 
 // The card of the numbers that check_card found.
-fn card_from(input: &[u8], at: CardAt) -> Card
+pub fn card_from(input: &[u8], at: CardAt) -> Card
     requires { ⌜ Places (now input) at ⌝ }
     ensures { λ r. ⌜ r ≡ cardOf (cardFrom (now (input .entry)) at) ⌝ }
 {
@@ -195,7 +195,7 @@ fn card_from(input: &[u8], at: CardAt) -> Card
 
 impl Card {
     // All zeros: what stands where no card was read.
-    fn zero() -> Card
+    pub fn zero() -> Card
         ensures { λ r. ⌜ r ≡ zeroCard ⌝ }
     {
         Card {

@@ -22,6 +22,8 @@ use Rattle.contact.specs.declared.SendChain.{SendChain}
 use Rattle.contact.specs.declared.SendChain.the-variants as sendChain
 use Rattle.contact.specs.declared.Contact.{Contact}
 use Rattle.contact.specs.declared.ContactRead.{ContactRead}
+use Rattle.contact.specs.declared.PendingKeys.{PendingKeys}
+use Rattle.contact.specs.declared.Send.{Send}
 
 -- the lent lists, whole
 pub record Lists : Type 0 where
@@ -80,6 +82,13 @@ contactOf v = record {
   «pending_msg_seed» = pendingSeedOf (v .pending);
   «send_key» = sendKeyOf (v .send);
 }
+
+-- what a flag leaves out, as it is copied
+abbrev pub pendingKeysOf : Option value.Pending → PendingKeys
+pendingKeysOf p = record { present = present p; «chain_key» = pendingKeyOf p; «msg_seed» = pendingSeedOf p }
+
+abbrev pub sendPartOf : Option value.Send → Send
+sendPartOf s = record { chain = sendOf s; key = sendKeyOf s }
 
 -- what stands where no row was read
 abbrev pub zeroContact : Contact

@@ -9,6 +9,8 @@ use parts::NumbersAt;
 use parts::NumbersField;
 use parts::PairedAt;
 use parts::PairedField;
+use parts::PendingAt;
+use parts::SendAt;
 use rows::Dir;
 use rows::PairingRole;
 use rows::Verdict;
@@ -17,9 +19,13 @@ ghost use mathlib.Core.Path.{_≡_};
 ghost use Prim.Native.Nat.{_^_, _<_};
 ghost use Rattle.layout.specs.Layout.{readRow};
 ghost use Rattle.rows.specs.Rows as layouts;
+ghost use Rattle.card.specs.Card.{cardOf};
 ghost use Rattle.parts.specs.Places.{ChainedLists, NumbersLists, chainedFrom, numbersFrom};
+ghost use Rattle.parts.specs.Places.{CardPlaces, cardIn, pendingFrom, sendFrom};
 ghost use Rattle.contact.specs.Consistent.{chainsRefusal, numbersRefusal, inconsistency, refusalIn};
 ghost use Rattle.contact.specs.Check.{contactFrom, Places, checkSays, Placed, checkRefusal};
+ghost use Rattle.contact.specs.Check.{PendingRuns, SendRuns, Filling};
+ghost use Rattle.contact.specs.Contact.{pendingKeysOf, sendPartOf, contactOf, zeroContact};
 
 // The send chain's numbers; its key stands beside it. Absent until the first Resume.
 pub enum SendChain {
@@ -193,4 +199,154 @@ pub fn check_contact(version: u32, row: &[u8]) -> ContactCheck
         return ContactCheck::Fields(at);
     };
     ContactCheck::Refused(q)
+}
+
+impl Contact {
+    // All zeros: what stands where no row was read.
+    fn zero() -> Contact
+        ensures { λ r. ⌜ r ≡ zeroContact ⌝ }
+    {
+        let peer = Card::zero();
+        Contact {
+            resume_index: 0,
+            chains: 0,
+            skipped: 0,
+            above: 0,
+            unacked: 0,
+            expired: 0,
+            sent_msgno: 0,
+            peer_acked: 0,
+            peer_read: 0,
+            read_marked: 0,
+            contiguous: 0,
+            send: SendChain::Absent,
+            role: PairingRole::A,
+            verification: Verification::Unverified,
+            pending: false,
+            peer,
+            pair_id: [0; 16],
+            th: [0; 48],
+            nonce_b: [0; 16],
+            door_a_to_b: [0; 32],
+            door_b_to_a: [0; 32],
+            route_key: [0; 32],
+            chain_key: [0; 32],
+            pending_chain_key: [0; 32],
+            pending_msg_seed: [0; 32],
+            send_key: [0; 32],
+        }
+    }
+}
+
+// ---- a checked row's contact
+
+// The keys of a Resume that awaits its confirmation; 0 where there is none.
+struct PendingKeys {
+    present: bool,
+    chain_key: [u8; 32],
+    msg_seed: [u8; 32],
+}
+
+// The send chain, and its key; 0 where there is none.
+struct Send {
+    chain: SendChain,
+    key: [u8; 32],
+}
+
+fn peer_from(row: &[u8], at: PairedAt) -> Card
+    requires { ⌜ CardPlaces (now row) (at .card) ⌝ }
+    ensures { λ r. ⌜ r ≡ cardOf (cardIn (now (row .entry)) (at .card)) ⌝ }
+{
+    let place = at.card;
+    let start = place.start;
+    let end = place.end;
+    let fields = place.at;
+    card::card_from(&row[start..end], fields)
+}
+
+fn pending_from(row: &[u8], at: ChainedAt) -> PendingKeys
+    requires { ⌜ PendingRuns (now row) (at .pending) ⌝ }
+    ensures { λ r. ⌜ r ≡ pendingKeysOf (pendingFrom (now (row .entry)) (at .pending)) ⌝ }
+{
+    let pending = at.pending;
+    let PendingAt::Present(chain_key_at, msg_seed_at) = pending else {
+        return PendingKeys {
+            present: false,
+            chain_key: [0; 32],
+            msg_seed: [0; 32],
+        };
+    };
+    PendingKeys {
+        present: true,
+        chain_key: put::copy_32(row, chain_key_at),
+        msg_seed: put::copy_32(row, msg_seed_at),
+    }
+}
+
+fn send_from(row: &[u8], at: ChainedAt) -> Send
+    requires { ⌜ SendRuns (now row) (at .send) ⌝ }
+    ensures { λ r. ⌜ r ≡ sendPartOf (sendFrom (now (row .entry)) (at .send)) ⌝ }
+{
+    let send = at.send;
+    let SendAt::Present(its) = send else {
+        return Send {
+            chain: SendChain::Absent,
+            key: [0; 32],
+        };
+    };
+    let dir = its.dir;
+    let chain = SendChain::Present {
+        gen_: its.gen_,
+        dir,
+        idx: its.idx,
+    };
+    Send {
+        chain,
+        key: put::copy_32(row, its.key),
+    }
+}
+
+// The contact at the places that check_contact found; its lists' items are filled apart.
+fn contact_from(row: &[u8], at: ContactAt) -> Contact
+    requires { ⌜ Filling (now row) at ⌝ }
+    ensures { λ r. ⌜ r ≡ contactOf (contactFrom (now (row .entry)) at) ⌝ }
+{
+    let paired = at.paired;
+    let role = paired.role;
+    let verification = paired.verification;
+    let chained = at.chained;
+    let pending = pending_from(row, chained);
+    let pending_chain_key = pending.chain_key;
+    let pending_msg_seed = pending.msg_seed;
+    let send = send_from(row, chained);
+    let chain = send.chain;
+    let send_key = send.key;
+    Contact {
+        resume_index: at.keys.resume_index,
+        chains: at.chained.chains.count,
+        skipped: at.chained.skipped.count,
+        above: at.numbers.above.count,
+        unacked: at.numbers.unacked.count,
+        expired: at.numbers.expired.count,
+        sent_msgno: at.keys.sent_msgno,
+        peer_acked: at.numbers.peer_acked,
+        peer_read: at.numbers.peer_read,
+        read_marked: at.numbers.read_marked,
+        contiguous: at.numbers.contiguous,
+        send: chain,
+        role,
+        verification,
+        pending: pending.present,
+        peer: peer_from(row, paired),
+        pair_id: put::copy_16(row, at.paired.pair_id),
+        th: put::copy_48(row, at.paired.th),
+        nonce_b: put::copy_16(row, at.paired.nonce_b),
+        door_a_to_b: put::copy_32(row, at.keys.door_a_to_b),
+        door_b_to_a: put::copy_32(row, at.keys.door_b_to_a),
+        route_key: put::copy_32(row, at.keys.route_key),
+        chain_key: put::copy_32(row, at.keys.chain_key),
+        pending_chain_key,
+        pending_msg_seed,
+        send_key,
+    }
 }

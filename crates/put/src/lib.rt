@@ -93,3 +93,13 @@ pub fn copy_32(src: &[u8], from: usize) -> [u8; 32]
     put_run(&mut bytes, 0, src, from, 32);
     bytes
 }
+
+// The 48 bytes of `src` from a place, as an array.
+pub fn copy_48(src: &[u8], from: usize) -> [u8; 48]
+    requires { ⌜ from + 48 ≤ length (now src) ⌝ }
+    ensures { λ r. ⌜ r ≡ take 48 (drop from (now (src .entry))) ⌝ }
+{
+    let mut bytes = [0u8; 48];
+    put_run(&mut bytes, 0, src, from, 48);
+    bytes
+}
