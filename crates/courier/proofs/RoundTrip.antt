@@ -37,7 +37,7 @@ print-is version v =
     ∙ ap (λ (l : List ℕ). 0 ∷ (bytesOf 8 (v .depositor) ++ (v .tag ++ (v .c ++ (bytesOf 4 (v .«expiry_min») ++ (bytesOf 1 (v .copies) ++ l)))))) (append-nil (v .sealed))
     ∙ sym (simp append-assoc)
 
-sealed-last : (version : ℕ) (v : value.Courier) (row : List ℕ) → print (courier version) v ≡ row → drop (length row - length (textOf v)) row ≡ textOf v
+pub sealed-last : (version : ℕ) (v : value.Courier) (row : List ℕ) → print (courier version) v ≡ row → drop (length row - length (textOf v)) row ≡ textOf v
 sealed-last version (inl v) row e =
     subst (λ (l : List ℕ). drop (length l - length (v .sealed)) l ≡ v .sealed) (sym (print-is version v) ∙ e) (last-at (front v) (v .sealed))
 sealed-last version (inr t) row e = drop-of-length-le row {i = length row - 0} (omega arith)

@@ -38,7 +38,7 @@ print-is version v =
     ∙ ap (λ (l : List ℕ). bytesOf 8 (v .«created_s») ++ (own ++ l)) (append-assoc (bytesOf 1 (v .gen)) (lebPrint 4 (v .idx)) (v .sealed))
     )
 
-sealed-last : (version : ℕ) (v : value.Queued) (row : List ℕ) → print (queued version) v ≡ row → drop (length row - length (v .sealed)) row ≡ v .sealed
+pub sealed-last : (version : ℕ) (v : value.Queued) (row : List ℕ) → print (queued version) v ≡ row → drop (length row - length (v .sealed)) row ≡ v .sealed
 sealed-last version v row e = subst (λ (l : List ℕ). drop (length l - length (v .sealed)) l ≡ v .sealed) (sym (print-is version v) ∙ e) (last-at (front v) (v .sealed))
 
 -- ---- write, then read

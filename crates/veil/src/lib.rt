@@ -1,0 +1,66 @@
+// Veil, document 01's: a row alone, copied with 0 for its veiled bytes. The row is read, the veiled fields are set to 0, and it is written again.
+use rows::Verdict;
+use rows::Written;
+ghost use mathlib.Core.Path.{_≡_};
+ghost use Rattle.rows.specs.Rows as layouts;
+ghost use Rattle.rows.specs.Answers.{leaves};
+ghost use Rattle.veil.specs.Veil.{veils, refusalIn};
+
+// The longest sealed text.
+const SEALED_MAX: usize = 4064;
+
+// The question that refused; 0 where none did.
+fn refusal(verdict: Verdict) -> u8
+    ensures { λ r. ⌜ r ≡ refusalIn verdict ⌝ }
+{
+    match verdict {
+        Verdict::Refused(q) => q,
+        Verdict::Accepted => 0,
+    }
+}
+
+// Veiled: the beacon key.
+pub fn veil_device(version: u32, row: &[u8], out: &mut [u8]) -> Written
+    ensures { λ r. ⌜ leaves r (now (out .exit)) ≡ veils (layouts.device version) (now (row .entry)) (now (out .entry)) ⌝ }
+{
+    let read = device::read_device(version, row);
+    let verdict = read.verdict;
+    let Verdict::Accepted = verdict else {
+        return Written::Refused(refusal(verdict));
+    };
+    let mut device = read.device;
+    device.beacon_key = [0; 32];
+    device.row(out)
+}
+
+// Veiled: s of the own envelope, and the sealed text.
+pub fn veil_queued(version: u32, row: &[u8], out: &mut [u8]) -> Written
+    ensures { λ r. ⌜ leaves r (now (out .exit)) ≡ veils (layouts.queued version) (now (row .entry)) (now (out .entry)) ⌝ }
+{
+    let read = queued::read_queued(version, row);
+    let verdict = read.verdict;
+    let Verdict::Accepted = verdict else {
+        return Written::Refused(refusal(verdict));
+    };
+    let mut queued = read.queued;
+    queued.s = [0; 16];
+    let zeros = [0u8; SEALED_MAX];
+    let len = row.len() - read.sealed_at;
+    queued.row(&zeros[..len], out)
+}
+
+// Veiled: the sealed text of what is carried; s of a tombstone.
+pub fn veil_courier(version: u32, row: &[u8], out: &mut [u8]) -> Written
+    ensures { λ r. ⌜ leaves r (now (out .exit)) ≡ veils (layouts.courier version) (now (row .entry)) (now (out .entry)) ⌝ }
+{
+    let read = courier::read_courier(version, row);
+    let verdict = read.verdict;
+    let Verdict::Accepted = verdict else {
+        return Written::Refused(refusal(verdict));
+    };
+    let mut held = read.held;
+    held.s = [0; 16];
+    let zeros = [0u8; SEALED_MAX];
+    let len = row.len() - read.sealed_at;
+    held.row(&zeros[..len], out)
+}
