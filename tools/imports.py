@@ -28,7 +28,7 @@ def unused(path: pathlib.Path) -> list[str]:
             continue
         module, names, alias = match.groups()
         if names is not None:
-            wanted = [name.strip() for name in names.split(",")]
+            wanted = [name.split(" as ")[-1].strip() for name in names.split(",")]
         else:
             wanted = [alias or module.split("::")[-1]]
         missing += [name for name in wanted if not used(name, body, text)]
