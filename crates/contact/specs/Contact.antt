@@ -1,6 +1,6 @@
 -- An opened contact: a struct, and five lists that the caller lends. What reading a row leaves in them.
 -- Assumes nothing.
-use Prim.Native.Nat.{ℕ, _/_}
+use Prim.Native.Nat.{ℕ, _*_, _/_, _≤_}
 use mathlib.Core.List.{List}
 use mathlib.Core.Bool.{Bool, false, cond, _&&_}
 use mathlib.Core.Option.{Option, none, some}
@@ -8,7 +8,8 @@ use lib.ListN.{length}
 use lib.Dec.{leb}
 use Rattle.layout.specs.Questions.{LISTS}
 use Rattle.layout.specs.Veil.{zeros}
-use Rattle.layout.specs.Layout.{Answer, accepted, refusedBy, readRow, group, present}
+use Rattle.layout.specs.Layout.{Answer, readRow, group, present}
+use Rattle.layout.specs.Layout as answer
 use Rattle.rows.specs.Values as value
 use Rattle.rows.specs.Rows.{chain, skipped, contact}
 use Rattle.rows.specs.declared.PairingRole.the-variants as role
@@ -21,6 +22,8 @@ use Rattle.received.specs.Lent.{flat}
 use Rattle.contact.specs.declared.SendChain.{SendChain}
 use Rattle.contact.specs.declared.SendChain.the-variants as sendChain
 use Rattle.contact.specs.declared.Contact.{Contact}
+use Rattle.contact.specs.Check.{Places}
+use Rattle.contact.specs.declared.ContactAt.{ContactAt}
 use Rattle.contact.specs.declared.ContactRead.{ContactRead}
 use Rattle.contact.specs.declared.PendingKeys.{PendingKeys}
 use Rattle.contact.specs.declared.Send.{Send}
@@ -35,6 +38,9 @@ pub record Lists : Type 0 where
   pub above : List ℕ
   pub unacked : List ℕ
   pub expired : List ℕ
+
+abbrev pub lists : (chains skipped above unacked expired : List ℕ) → Lists
+lists chains skipped above unacked expired = record { chains = chains; skipped = skipped; above = above; unacked = unacked; expired = expired }
 
 -- ---- the struct of a value: 0 stands where a flag leaves something out
 abbrev pub sendOf : Option value.Send → SendChain
@@ -145,13 +151,26 @@ pub record Left : Type 0 where
   pub answer : ContactRead
   pub lists : Lists
 
-abbrev pub refusedWith : ℕ → Lists → Left
-refusedWith q l = record { answer = record { verdict = verdict.Refused q; contact = zeroContact }; lists = l }
+abbrev pub leaves : ContactRead → Lists → Left
+leaves r l = record { answer = r; lists = l }
+
+-- a refusal is the number alone
+abbrev pub refusedBy : ℕ → ContactRead
+refusedBy q = record { verdict = verdict.Refused q; contact = zeroContact }
 
 abbrev pub opened : Answer value.Contact → Lists → Left
-opened (accepted v) l =
-    cond (longEnough v l) (record { answer = record { verdict = verdict.Accepted; contact = contactOf v }; lists = filled v l }) (refusedWith LISTS l)
-opened (refusedBy q) l = refusedWith q l
+opened (answer.accepted v) l =
+    cond (longEnough v l) (leaves (record { verdict = verdict.Accepted; contact = contactOf v }) (filled v l)) (leaves (refusedBy LISTS) l)
+opened (answer.refusedBy q) l = leaves (refusedBy q) l
 
 unfoldable pub reads : ℕ → List ℕ → Lists → Left
 reads version row l = opened (readRow (contact version) row) l
+
+-- ---- before filling: the row's items stand there, and there are places for them
+pub record Fillable (row : List ℕ) (at : ContactAt) (l : Lists) : Type 0 where
+  pub places : Places row at
+  pub chains : 51 * at .chained .chains .count ≤ length (l .chains)
+  pub skipped : 46 * at .chained .skipped .count ≤ length (l .skipped)
+  pub above : 2 * at .numbers .above .count ≤ length (l .above)
+  pub unacked : at .numbers .unacked .count ≤ length (l .unacked)
+  pub expired : 2 * at .numbers .expired .count ≤ length (l .expired)

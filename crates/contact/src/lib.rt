@@ -16,7 +16,9 @@ use rows::PairingRole;
 use rows::Verdict;
 use rows::Verification;
 ghost use mathlib.Core.Path.{_≡_};
-ghost use Prim.Native.Nat.{_^_, _<_};
+ghost use mathlib.Core.Bool.{_&&_};
+ghost use Prim.Native.Nat.{_/_, _^_, _<_};
+ghost use lib.Dec.{leb};
 ghost use Rattle.layout.specs.Layout.{readRow};
 ghost use Rattle.rows.specs.Rows as layouts;
 ghost use Rattle.card.specs.Card.{cardOf};
@@ -25,7 +27,7 @@ ghost use Rattle.parts.specs.Places.{CardPlaces, cardIn, pendingFrom, sendFrom}
 ghost use Rattle.contact.specs.Consistent.{chainsRefusal, numbersRefusal, inconsistency, refusalIn};
 ghost use Rattle.contact.specs.Check.{contactFrom, Places, checkSays, Placed, checkRefusal};
 ghost use Rattle.contact.specs.Check.{PendingRuns, SendRuns, Filling};
-ghost use Rattle.contact.specs.Contact.{pendingKeysOf, sendPartOf, contactOf, zeroContact};
+ghost use Rattle.contact.specs.Contact.{pendingKeysOf, sendPartOf, contactOf, zeroContact, lists, filled, Fillable, refusedBy, leaves, reads};
 
 // The send chain's numbers; its key stands beside it. Absent until the first Resume.
 pub enum SendChain {
@@ -81,6 +83,17 @@ pub struct ContactAt {
 pub enum ContactCheck {
     Fields(ContactAt),
     Refused(u8),
+}
+
+impl ContactRead {
+    fn refused(q: u8) -> ContactRead
+        ensures { λ r. ⌜ r ≡ refusedBy q ⌝ }
+    {
+        ContactRead {
+            verdict: Verdict::Refused(q),
+            contact: Contact::zero(),
+        }
+    }
 }
 
 impl ContactCheck {
@@ -348,5 +361,86 @@ fn contact_from(row: &[u8], at: ContactAt) -> Contact
         pending_chain_key,
         pending_msg_seed,
         send_key,
+    }
+}
+
+// Question 36, of lists of these lengths: whether each is long enough for the row's items.
+fn long_enough(
+    at: ContactAt,
+    chains: usize,
+    skipped: usize,
+    above: usize,
+    unacked: usize,
+    expired: usize,
+) -> bool
+    ensures { λ r. ⌜ r ≡ (leb (at .chained .chains .count) (chains / 51) && leb (at .chained .skipped .count) (skipped / 46) && leb (at .numbers .above .count) (above / 2) && leb (at .numbers .unacked .count) unacked && leb (at .numbers .expired .count) (expired / 2)) ⌝ }
+{
+    if chains / lent::CHAIN_PLACE < at.chained.chains.count {
+        return false;
+    }
+    if skipped / lent::SKIPPED_PLACE < at.chained.skipped.count {
+        return false;
+    }
+    if above / 2 < at.numbers.above.count {
+        return false;
+    }
+    if unacked < at.numbers.unacked.count {
+        return false;
+    }
+    at.numbers.expired.count <= expired / 2
+}
+
+// Copies the row's items into the lent lists; places past them stay.
+fn fill_lists(
+    row: &[u8],
+    at: ContactAt,
+    chains: &mut [u8],
+    skipped: &mut [u8],
+    above: &mut [u32],
+    unacked: &mut [u32],
+    expired: &mut [u32],
+)
+    requires { ⌜ Fillable (now row) at (lists (now chains) (now skipped) (now above) (now unacked) (now expired)) ⌝ }
+    ensures { λ _. ⌜ lists (now (chains .exit)) (now (skipped .exit)) (now (above .exit)) (now (unacked .exit)) (now (expired .exit)) ≡ filled (contactFrom (now (row .entry)) at) (lists (now (chains .entry)) (now (skipped .entry)) (now (above .entry)) (now (unacked .entry)) (now (expired .entry))) ⌝ }
+{
+    let chained = at.chained;
+    let numbers = at.numbers;
+    lent::fill_chains(row, chained.chains.first, chained.chains.count, chains);
+    lent::fill_skipped(row, chained.skipped.first, chained.skipped.count, skipped);
+    lent::fill_ranges(row, numbers.above.first, numbers.above.count, above);
+    lent::fill_numbers(row, numbers.unacked.first, numbers.unacked.count, unacked);
+    lent::fill_ranges(row, numbers.expired.first, numbers.expired.count, expired);
+}
+
+// Reads the row into the struct and the lent lists. A refusal changes no list.
+pub fn read_contact(
+    version: u32,
+    row: &[u8],
+    chains: &mut [u8],
+    skipped: &mut [u8],
+    above: &mut [u32],
+    unacked: &mut [u32],
+    expired: &mut [u32],
+) -> ContactRead
+    ensures { λ r. ⌜ leaves r (lists (now (chains .exit)) (now (skipped .exit)) (now (above .exit)) (now (unacked .exit)) (now (expired .exit))) ≡ reads version (now (row .entry)) (lists (now (chains .entry)) (now (skipped .entry)) (now (above .entry)) (now (unacked .entry)) (now (expired .entry))) ⌝ }
+{
+    let check = check_contact(version, row);
+    let ContactCheck::Fields(at) = check else {
+        return ContactRead::refused(check.refusal());
+    };
+    if !long_enough(
+        at,
+        chains.len(),
+        skipped.len(),
+        above.len(),
+        unacked.len(),
+        expired.len(),
+    ) {
+        return ContactRead::refused(question::LISTS);
+    }
+    fill_lists(row, at, chains, skipped, above, unacked, expired);
+    ContactRead {
+        verdict: Verdict::Accepted,
+        contact: contact_from(row, at),
     }
 }
