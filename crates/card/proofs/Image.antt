@@ -82,7 +82,7 @@ module _ (c : Card) (ty : CardTyped c) where
       unfolding layout.refusalOf
       bad-name r = refused-row (rw (known, name-whole, le-leb _ _ few, ap utf8 (name-is few) ∙ r))
 
-      whole : utf8 (take (c .«name_len») (c .name)) ≡ true → asked cardRow (image c) ≡ wrote (length (image c))
+      pub whole : utf8 (take (c .«name_len») (c .name)) ≡ true → asked cardRow (image c) ≡ wrote (length (image c))
       unfolding layout.refusalOf image write.asked
       whole r =
           let granted : refusalOf cardRow (valueOf c) ≡ none = rw (known, name-whole, le-leb _ _ few, ap utf8 (name-is few) ∙ r, key-granted (kci (c .caps))) in
@@ -108,18 +108,15 @@ module _ (c : Card) (ty : CardTyped c) where
     pub length-image : length (image c) ≡ 37 + length (namePart c)
     length-image = rw image-is (simp (length-append, length-bytesOf) (omega (arith, ty .«beacon_key»)))
 
-    module _ (known : capsKnown (c .caps) ≡ true) (valid : utf8 (take (c .«name_len») (c .name)) ≡ true) where
-      pub with-key : kci (c .caps) ≡ true → asked cardRow (image c) ≡ wrote (38 + c .«name_len» + 1184)
-      with-key set =
-          let long : length key ≡ 1184 = rw set (ty .«static_ek») in
-          let all : length (image c) ≡ 38 + c .«name_len» + 1184 = omega (arith, length-image, length-name-part) in
-          whole known few valid ∙ ap wrote all
+    pub with-key : kci (c .caps) ≡ true → length (image c) ≡ 38 + c .«name_len» + 1184
+    with-key set =
+        let long : length key ≡ 1184 = rw set (ty .«static_ek») in
+        omega (arith, length-image, length-name-part)
 
-      pub without-key : kci (c .caps) ≡ false → asked cardRow (image c) ≡ wrote (38 + c .«name_len»)
-      without-key clear =
-          let long : length key ≡ 0 = rw clear in
-          let all : length (image c) ≡ 38 + c .«name_len» = omega (arith, length-image, length-name-part) in
-          whole known few valid ∙ ap wrote all
+    pub without-key : kci (c .caps) ≡ false → length (image c) ≡ 38 + c .«name_len»
+    without-key clear =
+        let long : length key ≡ 0 = rw clear in
+        omega (arith, length-image, length-name-part)
 
   -- a row that reading accepts has a name that is not too long
   pub asked-few : {n : ℕ} → asked cardRow (image c) ≡ wrote n → c .«name_len» ≤ 48

@@ -264,10 +264,20 @@ pub fn card_size(card: Card) -> Written
     if !names::is_utf8(&name[..n]) {
         return Written::Refused(question::NAME_UTF8);
     }
+    Written::Length(card_len(card))
+}
+
+// The length of the row of a card whose name is not too long.
+pub fn card_len(card: Card) -> usize
+    requires { ⌜ card .«name_len» ≤ 48 ⌝ }
+    ensures { λ r. ⌜ r ≡ length (image card) ⌝ }
+{
+    typed(card);
+    let name_end = NAME_AT + card.name_len as usize;
     if card.caps / 2 % 2 == 1 {
-        return Written::Length(38 + n + rows::MLKEM768_ENCAPSULATION_KEY_LEN);
+        return name_end + rows::MLKEM768_ENCAPSULATION_KEY_LEN;
     }
-    Written::Length(38 + n)
+    name_end
 }
 
 // Writes the card's row; the place behind it. For a card whose name is not too long, and where there is room.

@@ -1,14 +1,15 @@
 -- `card::card_size` meets its contract: question by question, as reading the row would ask.
 use Prim.Native.Nat.{_≤_}
 use mathlib.Core.Bool.{true}
-use mathlib.Core.Path.{_≡_, sym, _∙_}
+use mathlib.Core.Path.{_≡_, sym, ap, _∙_}
 use lib.ListN.{take}
 use borrow.Author.Needs.{needs}
-use borrow.Author.Tests.{lt-ltb, le-ltb, lt-leb, not-true, not-false, eq-eqb, ne-eqb}
+use borrow.Author.Tests.{lt-ltb, le-ltb, lt-leb, not-true, not-false}
+use Rattle.layout.specs.Write.{wrote}
 use Rattle.rows.specs.Utf8.{utf8}
 use Rattle.rows.specs.Checks.{capsKnown}
 use Rattle.card.specs.declared.Card.{Card}
-use Rattle.card.proofs.Image.{bad-caps, long-name, bad-name, name-long, with-key, without-key}
+use Rattle.card.proofs.Image.{bad-caps, long-name, bad-name, name-long, whole}
 use Rattle.card.proofs.card_size.Statement.{statement}
 use Rattle.card.proofs.card_size.Tie as tie
 
@@ -61,28 +62,17 @@ returns-3 c =
     let t = t1 (e2 (e3 u)) in
     sym (bad-name (card t) (t .typed .ensures) (known (e2 (e3 u))) (few (e3 u)) (sym (u .is-utf8 .ensures) ∙ not-true _ (c .if3 .taken)))
 
-add-t10 : tie.Need-add-t10
-add-t10 c = search needs
-
-add-t11 : tie.Need-add-t11
-add-t11 c = search needs
+card-len-requires : tie.Need-card-len-requires
+card-len-requires c κs = few (e3 (c .before))
 
 returns-4 : tie.Need-returns-4
 returns-4 c =
-    let u = c .before .before .before in
+    let v = c .before in
+    let u = v .before in
     let t = t1 (e2 (e3 u)) in
-    sym (with-key (card t) (t .typed .ensures) (few (e3 u)) (known (e2 (e3 u))) (valid (c .before .before)) (eq-eqb _ _ (c .if4 .taken)))
-
-add-t12 : tie.Need-add-t12
-add-t12 c = search needs
-
-returns-5 : tie.Need-returns-5
-returns-5 c =
-    let u = c .before .before .before in
-    let t = t1 (e2 (e3 u)) in
-    sym (without-key (card t) (t .typed .ensures) (few (e3 u)) (known (e2 (e3 u))) (valid (c .before .before)) (ne-eqb _ _ (c .if4 .left)))
+    sym (whole (card t) (t .typed .ensures) (known (e2 (e3 u))) (few (e3 u)) (valid v) ∙ ap wrote (sym (c .card-len .ensures)))
 
 pub card-size-spec : {M : Type 1} → statement M
 card-size-spec =
     tie.close
-    (tie.spec typed-requires returns cast-n returns-2 array-share-prefix-name slice-aggregate-is-utf8 is-utf8-requires returns-3 add-t10 add-t11 returns-4 add-t12 returns-5)
+    (tie.spec typed-requires returns cast-n returns-2 array-share-prefix-name slice-aggregate-is-utf8 is-utf8-requires returns-3 card-len-requires returns-4)
