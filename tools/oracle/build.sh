@@ -29,9 +29,15 @@ if [ "$model" = yes ]; then
     program=$out/oracle-no-rattle
     set -- --cfg no_rattle
 else
-    [ -f "$library/libexport.a" ] || { echo "no target/staticlib/libexport.a: run 'rt staticlib export' first" >&2; exit 2; }
+    for name in export faces; do
+        [ -f "$library/lib$name.a" ] || { echo "no target/staticlib/lib$name.a: run 'rt staticlib $name' first" >&2; exit 2; }
+    done
     program=$out/oracle
-    set -- -L "native=$library" -l static=export
+    set -- -L "native=$library" -l static=export -l static=faces
+    # Contact rows are compared once there is a function for them.
+    if grep -q sicklestar_contact "$library/libfaces.a"; then
+        set -- --cfg contact "$@"
+    fi
 fi
-rustc --edition 2024 -O --check-cfg 'cfg(no_rattle, test)' "$@" "$here/main.rs" -o "$program"
+rustc --edition 2024 -O --check-cfg 'cfg(contact, no_rattle, test)' "$@" "$here/main.rs" -o "$program"
 echo "built ${program#"$root/"}"

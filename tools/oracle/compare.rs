@@ -1,24 +1,44 @@
 //! The comparisons by name.
 
 mod card;
+mod contact;
+mod courier;
+mod device;
 mod leb128;
+mod queued;
+mod received;
+mod rows;
 mod utf8;
 
 pub use card::rust_card;
 
+/// What is compared, in this order. The number says how often the random part is repeated.
+type Run = fn(u64, usize) -> bool;
+const RUNS: [(&str, Run); 8] = [
+    ("leb128", |seed, _| leb128::run(seed)),
+    ("utf8", |seed, _| utf8::run(seed)),
+    ("card", |seed, _| card::run(seed)),
+    ("device", device::run),
+    ("queued", queued::run),
+    ("courier", courier::run),
+    ("contact", contact::run),
+    ("received", received::run),
+];
+
 /// Runs the named comparisons; whether nothing differed.
-pub fn run(name: &str, seed: u64) -> Result<bool, Box<dyn std::error::Error>> {
-    let runs: &[fn(u64) -> bool] = match name {
-        "leb128" => &[leb128::run],
-        "utf8" => &[utf8::run],
-        "card" => &[card::run],
-        "all" => &[leb128::run, utf8::run, card::run],
-        _ => return Err(crate::USAGE.into()),
-    };
+pub fn run(name: &str, seed: u64, times: usize) -> Result<bool, Box<dyn std::error::Error>> {
+    let runs: Vec<Run> = RUNS
+        .iter()
+        .filter(|(known, _)| name == "all" || name == *known)
+        .map(|(_, run)| *run)
+        .collect();
+    if runs.is_empty() {
+        return Err(crate::USAGE.into());
+    }
     println!("seed {seed}");
     if cfg!(no_rattle) {
         println!("no Rattle library: its side is the model");
     }
     // Every one is run, also after one that differs.
-    Ok(runs.iter().fold(true, |same, run| run(seed) & same))
+    Ok(runs.iter().fold(true, |same, run| run(seed, times) & same))
 }

@@ -56,6 +56,19 @@ impl Random {
         (0..size).map(|_| self.byte()).collect()
     }
 
+    pub fn array<const SIZE: usize>(&mut self) -> [u8; SIZE] {
+        std::array::from_fn(|_| self.byte())
+    }
+
+    /// A number of 32 bits; small ones are as frequent as large ones.
+    pub fn number(&mut self) -> u32 {
+        self.next() as u32 >> self.below(32)
+    }
+
+    pub fn flag(&mut self) -> bool {
+        self.below(2) == 1
+    }
+
     pub fn pick<T: Copy>(&mut self, from: &[T]) -> T {
         from[self.below(from.len())]
     }

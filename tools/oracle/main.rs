@@ -4,15 +4,24 @@ extern crate self as cairn_crypto;
 extern crate self as subtle;
 extern crate self as zeroize;
 
+mod build;
 mod cards;
 mod compare;
+mod covered;
 mod inputs;
+mod lent;
+mod model;
 mod names;
+mod original;
 mod questions;
 mod rattle;
+mod row_samples;
+mod rows;
 mod samples;
 mod shims;
+mod speed;
 mod tally;
+mod timed;
 pub use shims::*;
 
 #[allow(dead_code)]
@@ -86,26 +95,35 @@ mod resume {
     }
 }
 
-const USAGE: &str = "usage: oracle all|leb128|utf8|card [SEED]\n       oracle samples DIR";
+const USAGE: &str =
+    "usage: oracle all|leb128|utf8|card|device|queued|courier|contact|received [SEED [TIMES]]
+       oracle samples DIR
+       oracle speed";
 
 fn main() -> std::process::ExitCode {
     let words: Vec<String> = std::env::args().skip(1).collect();
     let words: Vec<&str> = words.iter().map(String::as_str).collect();
-    let same = match words[..] {
-        ["samples", folder] => samples::write(folder.as_ref()).map(|()| true),
-        [name] => compare::run(name, 1),
-        [name, seed] => match seed.parse() {
-            Ok(seed) => compare::run(name, seed),
-            Err(_) => Err(USAGE.into()),
-        },
-        _ => Err(USAGE.into()),
-    };
-    match same {
+    match run(&words) {
         Ok(true) => 0.into(),
         Ok(false) => 1.into(),
         Err(message) => {
             eprintln!("{message}");
             2.into()
         }
+    }
+}
+
+/// Whether nothing differed.
+fn run(words: &[&str]) -> Result<bool, Box<dyn std::error::Error>> {
+    match *words {
+        ["samples", folder] => samples::write(folder.as_ref()).map(|()| true),
+        ["speed"] => {
+            speed::run();
+            Ok(true)
+        }
+        [name] => compare::run(name, 1, 1),
+        [name, seed] => compare::run(name, seed.parse()?, 1),
+        [name, seed, times] => compare::run(name, seed.parse()?, times.parse()?),
+        _ => Err(USAGE.into()),
     }
 }

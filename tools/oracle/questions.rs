@@ -1,8 +1,15 @@
-//! A model of the numbered questions in the terms of document 01, RFC 3629 and DWARF 5. It shares no
-//! code with the Rust or the Rattle, and says which number a refusal has where the Rust only refuses.
+//! The numbered questions of a row, and a model of LEB128 and of names in the terms of document 01, RFC 3629 and
+//! DWARF 5. It shares no code with the Rust or the Rattle, and says which number a refusal has where the Rust only
+//! refuses. The rows themselves are in model.rs.
 
+/// Version 3?
+pub const VERSION: u32 = 3;
 /// Field wholly in the row?
 pub const WHOLE: u32 = 4;
+/// Flag 0 or 1?
+pub const FLAG: u32 = 5;
+/// Role, mode, verification, dir or kind a listed code?
+pub const CODE: u32 = 6;
 /// Caps bits 2 to 7 clear?
 pub const CAPS: u32 = 7;
 /// Name length at most 48?
@@ -11,8 +18,47 @@ pub const NAME_LENGTH: u32 = 8;
 pub const NAME: u32 = 9;
 /// Card used up?
 pub const USED_UP: u32 = 10;
+/// Copies 1 to 16 and lifetime 60 to 10,080?
+pub const COURIER: u32 = 11;
 /// LEB128 minimal, at most 2^32 - 1?
 pub const LEB128: u32 = 12;
+/// Sealed length allowed?
+pub const SEALED: u32 = 13;
+/// Carried copies not 0?
+pub const CARRIED_COPIES: u32 = 14;
+/// Carried expiry not 0?
+pub const CARRIED_EXPIRY: u32 = 15;
+/// Nothing after the last field?
+pub const END: u32 = 16;
+/// At most one chain not superseded?
+pub const ONE_CHAIN: u32 = 17;
+/// Chain gens distinct?
+pub const CHAIN_GENS: u32 = 18;
+/// Skipped (gen, idx) distinct?
+pub const SKIPPED: u32 = 19;
+/// At most 500 skipped?
+pub const SKIPPED_COUNT: u32 = 20;
+/// peer_acked at most sent_msgno?
+pub const ACKED: u32 = 21;
+/// unacked strictly rising, from 1 to sent_msgno?
+pub const UNACKED: u32 = 22;
+/// `above` canonical from contiguous + 2?
+pub const ABOVE: u32 = 23;
+/// expired canonical from 1, none above sent_msgno?
+pub const EXPIRED: u32 = 24;
+/// Each lent list long enough for the row's items?
+pub const LISTS: u32 = 36;
+/// cover, covers: 1 <= from <= to?
+pub const RANGE: u32 = 37;
+/// cover: do the resulting ranges fit the limit?
+pub const LIMIT: u32 = 38;
+/// Output long enough?
+pub const OUTPUT: u32 = 40;
+
+/// The number where the answer is no.
+pub fn ask(number: u32, yes: bool) -> Result<(), u32> {
+    if yes { Ok(()) } else { Err(number) }
+}
 
 /// The value at the front of `input` and the bytes it takes, or the question's number.
 pub fn read_leb128(input: &[u8]) -> Result<(u32, usize), u32> {
@@ -92,60 +138,4 @@ pub fn utf8(mut text: &[u8]) -> bool {
         }
     }
     true
-}
-
-/// A card's fields, as parts of the row.
-pub struct Card<'a> {
-    caps: u8,
-    beacon_day: u32,
-    beacon_key: &'a [u8],
-    name: &'a [u8],
-    static_key: Option<&'a [u8]>,
-}
-
-/// The next `size` bytes as a field; question 4.
-fn field<'a>(row: &mut &'a [u8], size: usize) -> Result<&'a [u8], u32> {
-    let (field, rest) = row.split_at_checked(size).ok_or(WHOLE)?;
-    *row = rest;
-    Ok(field)
-}
-
-fn ask(number: u32, yes: bool) -> Result<(), u32> {
-    if yes { Ok(()) } else { Err(number) }
-}
-
-/// The card that fills `row`, or the number of the first question whose answer is no.
-pub fn read_card(mut row: &[u8]) -> Result<Card<'_>, u32> {
-    let caps = field(&mut row, 1)?[0];
-    ask(CAPS, caps < 4)?;
-    let day = field(&mut row, 4)?;
-    let beacon_key = field(&mut row, 32)?;
-    let length = field(&mut row, 1)?[0];
-    ask(NAME_LENGTH, length <= 48)?;
-    let name = field(&mut row, length.into())?;
-    ask(NAME, utf8(name))?;
-    let static_key = match caps >= 2 {
-        true => Some(field(&mut row, 1184)?),
-        false => None,
-    };
-    ask(USED_UP, row.is_empty())?;
-    Ok(Card {
-        caps,
-        beacon_day: day.iter().fold(0, |day, byte| day * 256 + u32::from(*byte)),
-        beacon_key,
-        name,
-        static_key,
-    })
-}
-
-/// The row of `card`.
-pub fn card_row(card: &Card<'_>) -> Vec<u8> {
-    let day = [24, 16, 8, 0].map(|shift| (card.beacon_day >> shift) as u8);
-    let mut row = vec![card.caps];
-    row.extend(day);
-    row.extend(card.beacon_key);
-    row.push(card.name.len() as u8);
-    row.extend(card.name);
-    row.extend(card.static_key.unwrap_or_default());
-    row
 }

@@ -1,15 +1,33 @@
-//! The Rattle side: the C functions of libexport.a, each behind a safe function.
+//! The Rattle side: the C functions of libexport.a and libfaces.a, each behind a safe function.
 //! Nothing checks these declarations against the Rattle source: keep them in step by hand.
 //! With `--cfg no_rattle` the model of questions.rs stands in, so that the tools can be tried alone.
 
-pub use side::{card, leb128, read_leb128, utf8};
+use crate::lent::Lists;
+use std::cell::RefCell;
+
+pub use side::{
+    card, contact_lists, contains, courier, covers, device, insert, leb128, queued, read_leb128,
+    utf8,
+};
 
 /// Caps, day, beacon key, name length, the longest name, the static key.
 pub const LONGEST_CARD: usize = 1 + 4 + 32 + 1 + 48 + 1184;
 
+thread_local! {
+    /// Lists that are long enough for every row that is accepted.
+    static LISTS: RefCell<Lists> = RefCell::new(Lists::default().resized([1 << 17; 5]));
+}
+
+/// A contact row, with lists that are long enough.
+pub fn contact(version: u32, row: &[u8], out: &mut [u8]) -> Option<u32> {
+    LISTS.with(|lists| contact_lists(version, row, &mut lists.borrow_mut(), out))
+}
+
 #[cfg(not(no_rattle))]
 mod side {
     use super::LONGEST_CARD;
+    use crate::lent::Lists;
+    use crate::model::Range;
 
     // A slice passes as its pointer, then its length.
     unsafe extern "C" {
@@ -22,6 +40,52 @@ mod side {
         fn sicklestar_leb128(value: u32, out: *mut u8, out_len: usize) -> usize;
         fn sicklestar_utf8(name: *const u8, len: usize) -> u32;
         fn sicklestar_card(input: *const u8, len: usize, out: *mut u8, out_len: usize) -> u32;
+        fn sicklestar_device(
+            version: u32,
+            row: *const u8,
+            len: usize,
+            out: *mut u8,
+            out_len: usize,
+        ) -> u32;
+        fn sicklestar_queued(
+            version: u32,
+            row: *const u8,
+            len: usize,
+            out: *mut u8,
+            out_len: usize,
+        ) -> u32;
+        fn sicklestar_courier(
+            version: u32,
+            row: *const u8,
+            len: usize,
+            out: *mut u8,
+            out_len: usize,
+        ) -> u32;
+        fn sicklestar_contains(
+            contiguous: u32,
+            above: *const u32,
+            len: usize,
+            count: usize,
+            msgno: u32,
+        ) -> u32;
+        fn sicklestar_covers(
+            contiguous: u32,
+            above: *const u32,
+            len: usize,
+            count: usize,
+            from: u32,
+            to: u32,
+        ) -> u32;
+        fn sicklestar_insert(
+            contiguous: u32,
+            above: *mut u32,
+            len: usize,
+            count: usize,
+            from: u32,
+            to: u32,
+            answer: *mut u64,
+            answer_len: usize,
+        ) -> u32;
     }
 
     /// 0 and in `answer` the value and the bytes taken, or the number of the question.
@@ -54,12 +118,133 @@ mod side {
         // SAFETY: both slices are alive, of these lengths, and apart.
         unsafe { sicklestar_card(input.as_ptr(), input.len(), out.as_mut_ptr(), out.len()) }
     }
+
+    type Row = unsafe extern "C" fn(u32, *const u8, usize, *mut u8, usize) -> u32;
+
+    /// 0 and the row written again to the front of `out`, or the number of the question.
+    fn again(function: Row, version: u32, row: &[u8], out: &mut [u8]) -> Option<u32> {
+        // SAFETY: both slices are alive, of these lengths, and apart.
+        Some(unsafe {
+            function(
+                version,
+                row.as_ptr(),
+                row.len(),
+                out.as_mut_ptr(),
+                out.len(),
+            )
+        })
+    }
+
+    pub fn device(version: u32, row: &[u8], out: &mut [u8]) -> Option<u32> {
+        again(sicklestar_device, version, row, out)
+    }
+
+    /// As `again`, with the lists that the items are read into, which are asked for after 24 and before 40.
+    #[cfg(contact)]
+    pub fn contact_lists(
+        version: u32,
+        row: &[u8],
+        lists: &mut Lists,
+        out: &mut [u8],
+    ) -> Option<u32> {
+        unsafe extern "C" {
+            fn sicklestar_contact(
+                version: u32,
+                row: *const u8,
+                len: usize,
+                chains: *mut u8,
+                chains_len: usize,
+                skipped: *mut u8,
+                skipped_len: usize,
+                above: *mut u32,
+                above_len: usize,
+                unacked: *mut u32,
+                unacked_len: usize,
+                expired: *mut u32,
+                expired_len: usize,
+                out: *mut u8,
+                out_len: usize,
+            ) -> u32;
+        }
+        // SAFETY: all slices are alive, of these lengths, and apart.
+        Some(unsafe {
+            sicklestar_contact(
+                version,
+                row.as_ptr(),
+                row.len(),
+                lists.chains.as_mut_ptr(),
+                lists.chains.len(),
+                lists.skipped.as_mut_ptr(),
+                lists.skipped.len(),
+                lists.above.as_mut_ptr(),
+                lists.above.len(),
+                lists.unacked.as_mut_ptr(),
+                lists.unacked.len(),
+                lists.expired.as_mut_ptr(),
+                lists.expired.len(),
+                out.as_mut_ptr(),
+                out.len(),
+            )
+        })
+    }
+
+    /// The library has no such function yet.
+    #[cfg(not(contact))]
+    pub fn contact_lists(_: u32, _: &[u8], _: &mut Lists, _: &mut [u8]) -> Option<u32> {
+        None
+    }
+
+    pub fn queued(version: u32, row: &[u8], out: &mut [u8]) -> Option<u32> {
+        again(sicklestar_queued, version, row, out)
+    }
+
+    pub fn courier(version: u32, row: &[u8], out: &mut [u8]) -> Option<u32> {
+        again(sicklestar_courier, version, row, out)
+    }
+
+    /// 1 if the number is covered, else 0.
+    pub fn contains(contiguous: u32, above: &[u32], count: usize, msgno: u32) -> u32 {
+        // SAFETY: the slice is alive and of this length.
+        unsafe { sicklestar_contains(contiguous, above.as_ptr(), above.len(), count, msgno) }
+    }
+
+    /// 1 if all of from..to is covered, else 0.
+    pub fn covers(contiguous: u32, above: &[u32], count: usize, (from, to): Range) -> u32 {
+        // SAFETY: the slice is alive and of this length.
+        unsafe { sicklestar_covers(contiguous, above.as_ptr(), above.len(), count, from, to) }
+    }
+
+    /// 0 and in `answer` what covering left, or the number of the question.
+    pub fn insert(
+        contiguous: u32,
+        above: &mut [u32],
+        count: usize,
+        (from, to): Range,
+        answer: &mut [u64],
+    ) -> u32 {
+        // SAFETY: both slices are alive, of these lengths, and apart.
+        unsafe {
+            sicklestar_insert(
+                contiguous,
+                above.as_mut_ptr(),
+                above.len(),
+                count,
+                from,
+                to,
+                answer.as_mut_ptr(),
+                answer.len(),
+            )
+        }
+    }
 }
 
 #[cfg(no_rattle)]
 mod side {
     use super::LONGEST_CARD;
-    use crate::questions;
+    use crate::covered::Covered;
+    use crate::lent::Lists;
+    use crate::model::Range;
+    use crate::{model, questions};
 
     pub fn read_leb128(input: &[u8], answer: &mut [u64; 2]) -> u32 {
         match questions::read_leb128(input) {
@@ -87,12 +272,95 @@ mod side {
     }
 
     pub fn card(input: &[u8], out: &mut [u8; LONGEST_CARD]) -> u32 {
-        match questions::read_card(input) {
-            Ok(card) => {
-                let row = questions::card_row(&card);
-                out[..row.len()].copy_from_slice(&row);
-                0
-            }
+        again(model::card(input).answer.map(|card| card.row()), out)
+    }
+
+    pub fn device(version: u32, row: &[u8], out: &mut [u8]) -> Option<u32> {
+        let read = model::device(version, row).answer;
+        Some(again(read.map(|device| device.row()), out))
+    }
+
+    pub fn contact_lists(
+        version: u32,
+        row: &[u8],
+        lists: &mut Lists,
+        out: &mut [u8],
+    ) -> Option<u32> {
+        let contact = match model::contact(version, row).answer {
+            Ok(contact) => contact,
+            Err(number) => return Some(number),
+        };
+        let items = Lists::of(&contact);
+        let mut long = lists.lengths().into_iter().zip(items.lengths());
+        if !long.all(|(lent, needed)| needed <= lent) {
+            return Some(questions::LISTS);
+        }
+        let number = again(Ok(contact.row()), out);
+        if number == 0 {
+            lists.put(&items);
+        }
+        Some(number)
+    }
+
+    pub fn queued(version: u32, row: &[u8], out: &mut [u8]) -> Option<u32> {
+        let read = model::queued(version, row).answer;
+        Some(again(read.map(|queued| queued.row()), out))
+    }
+
+    pub fn courier(version: u32, row: &[u8], out: &mut [u8]) -> Option<u32> {
+        let read = model::courier(version, row).answer;
+        Some(again(read.map(|courier| courier.row()), out))
+    }
+
+    fn covered(contiguous: u32, above: &[u32], count: usize) -> Covered {
+        let pairs = above.chunks_exact(2).take(count);
+        let pairs: Vec<Range> = pairs.map(|pair| (pair[0], pair[1])).collect();
+        Covered::of(contiguous, &pairs)
+    }
+
+    pub fn contains(contiguous: u32, above: &[u32], count: usize, msgno: u32) -> u32 {
+        covered(contiguous, above, count).contains(msgno).into()
+    }
+
+    pub fn covers(contiguous: u32, above: &[u32], count: usize, (from, to): Range) -> u32 {
+        let covers = covered(contiguous, above, count).covers(from, to);
+        (covers == Ok(true)).into()
+    }
+
+    pub fn insert(
+        contiguous: u32,
+        above: &mut [u32],
+        count: usize,
+        (from, to): Range,
+        answer: &mut [u64],
+    ) -> u32 {
+        let before = covered(contiguous, above, count);
+        let (after, moved) = match before.cover(from, to, above.len() / 2) {
+            Ok(after) => after,
+            Err(number) => return number,
+        };
+        let Some(answer) = answer.get_mut(..3) else {
+            return questions::OUTPUT;
+        };
+        let ranges = after.above();
+        above[..2 * count].fill(0);
+        for (place, (from, to)) in above.chunks_exact_mut(2).zip(&ranges) {
+            place.copy_from_slice(&[*from, *to]);
+        }
+        answer.copy_from_slice(&[after.contiguous().into(), ranges.len() as u64, moved.into()]);
+        0
+    }
+
+    /// A row that was accepted, written to the front of `out`; or the number of the question.
+    fn again(row: Result<Vec<u8>, u32>, out: &mut [u8]) -> u32 {
+        match row {
+            Ok(row) => match out.get_mut(..row.len()) {
+                Some(front) => {
+                    front.copy_from_slice(&row);
+                    0
+                }
+                None => questions::OUTPUT,
+            },
             Err(number) => number,
         }
     }

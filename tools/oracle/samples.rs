@@ -4,7 +4,7 @@ use crate::cards::{KEY, Parts};
 use crate::compare::rust_card;
 use crate::inputs::{Random, each_sequence};
 use crate::tally::hex;
-use crate::{data, names, questions};
+use crate::{data, names, questions, row_samples};
 use std::collections::BTreeSet;
 use std::path::Path;
 
@@ -23,6 +23,7 @@ pub fn write(folder: &Path) -> Result<(), Box<dyn std::error::Error>> {
             "card.txt",
             card_inputs().iter().map(|row| card_line(row)).collect(),
         ),
+        ("rows.txt", row_samples::lines()),
     ];
     for (file, lines) in files {
         let lines = without_repeats(lines);

@@ -37,6 +37,15 @@ impl Tally {
         }
     }
 
+    /// As `print`; and each of these answers must have been due at least once, and no other.
+    pub fn print_all(&self, answers: &[u32]) -> bool {
+        let due: Vec<u32> = self.answers.keys().copied().collect();
+        if due != answers {
+            println!("{}: answers due were to be {answers:?}", self.name);
+        }
+        self.print() & (due == answers)
+    }
+
     /// Prints the line of this comparison; whether nothing differed.
     pub fn print(&self) -> bool {
         let answers: Vec<String> = self

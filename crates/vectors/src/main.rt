@@ -17,12 +17,15 @@ struct Tally {
     different: u64,
 }
 
-// One for each letter: L, W, N, C.
+// One for each letter: L, W, N, C, D, Q, K.
 struct Tallies {
     read: Tally,
     written: Tally,
     names: Tally,
     cards: Tally,
+    devices: Tally,
+    queued: Tally,
+    courier: Tally,
 }
 
 impl Tally {
@@ -63,16 +66,22 @@ impl Tallies {
             written: Tally::new(),
             names: Tally::new(),
             cards: Tally::new(),
+            devices: Tally::new(),
+            queued: Tally::new(),
+            courier: Tally::new(),
         }
     }
 
-    // A line whose letter is none of the four is counted nowhere.
+    // A line whose letter is none of these is counted nowhere.
     fn with(mut self, letter: u8, same: bool) -> Tallies {
         match letter {
             b'L' => self.read = self.read.with(same),
             b'W' => self.written = self.written.with(same),
             b'N' => self.names = self.names.with(same),
             b'C' => self.cards = self.cards.with(same),
+            b'D' => self.devices = self.devices.with(same),
+            b'Q' => self.queued = self.queued.with(same),
+            b'K' => self.courier = self.courier.with(same),
             _ => {}
         }
         self
@@ -83,6 +92,9 @@ impl Tallies {
         self.written.print(b'W');
         self.names.print(b'N');
         self.cards.print(b'C');
+        self.devices.print(b'D');
+        self.queued.print(b'Q');
+        self.courier.print(b'K');
     }
 }
 
@@ -159,6 +171,32 @@ fn card(case: &[u8], bytes: &mut [u8], again: &mut [u8]) -> bool {
     }
 }
 
+// What the function of the letter answers to a row.
+fn row_answer(letter: u8, version: u32, row: &[u8], again: &mut [u8]) -> u32 {
+    match letter {
+        b'D' => faces::sicklestar_device(version, row, again),
+        b'Q' => faces::sicklestar_queued(version, row, again),
+        _ => faces::sicklestar_courier(version, row, again),
+    }
+}
+
+// `VERSION HEX 0`: a row, written again as the same bytes; or `VERSION HEX NUMBER`.
+fn row(letter: u8, case: &[u8], bytes: &mut [u8], again: &mut [u8]) -> bool {
+    let Number::Value(version) = cases::decimal(cases::field(case)) else {
+        return false;
+    };
+    let blob = cases::rest(case);
+    let Written::Length(n) = cases::bytes(cases::field(blob), bytes) else {
+        return false;
+    };
+    let row = cases::first(bytes, n);
+    let number = row_answer(letter, version, row, again);
+    if number == 0 {
+        return is_number(cases::rest(blob), 0) && check::same(row, cases::first(again, n));
+    }
+    is_number(cases::rest(blob), number as u64)
+}
+
 // Whether our answer to a case is the stored one.
 fn same(letter: u8, case: &[u8], bytes: &mut [u8], again: &mut [u8]) -> bool {
     match letter {
@@ -166,6 +204,7 @@ fn same(letter: u8, case: &[u8], bytes: &mut [u8], again: &mut [u8]) -> bool {
         b'W' => leb128_written(case, bytes, again),
         b'N' => name(case, bytes),
         b'C' => card(case, bytes, again),
+        b'D' | b'Q' | b'K' => row(letter, case, bytes, again),
         _ => false,
     }
 }
@@ -214,9 +253,10 @@ fn lines(text: &[u8], bytes: &mut [u8], again: &mut [u8]) -> Tallies {
     while at < text.len() {
         let rest = &text[at..];
         let n = cases::until(rest, b'\n');
+        let next = past(at + n, text.len());
         number += 1;
         tallies = count(tallies, number, &rest[0..n], bytes, again);
-        at = past(at + n, text.len());
+        at = next;
     }
     tallies
 }
@@ -239,7 +279,7 @@ fn replay(text: &mut [u8], bytes: &mut [u8], again: &mut [u8]) {
 
 fn main() {
     let mut text = text_bytes();
-    let mut bytes = io::buffer();
-    let mut again = io::buffer();
+    let mut bytes = io::large_buffer();
+    let mut again = io::large_buffer();
     replay(&mut text, &mut bytes, &mut again);
 }

@@ -5,7 +5,7 @@ use crate::cards::{CAPS_KCI, KEY, NAME_LENGTH_AT, Parts};
 use crate::inputs::{BYTES, Random};
 use crate::rattle::LONGEST_CARD;
 use crate::tally::{Tally, hex};
-use crate::{names, questions, rattle};
+use crate::{model, names, questions, rattle};
 
 const FILL: u8 = 0xa5;
 const GENERATED: usize = 400_000;
@@ -41,7 +41,7 @@ pub fn rust_card(row: &[u8]) -> Result<Vec<u8>, u32> {
 
 fn compare(tally: &mut Tally, row: &[u8]) {
     let rust = rust_card(row);
-    let model = questions::read_card(row).map(|card| questions::card_row(&card));
+    let model = model::card(row).answer.map(|card| card.row());
     let mut out = [FILL; LONGEST_CARD];
     let number = rattle::card(row, &mut out);
     // An accepted row is written as it was read, and nothing past it; a refused one leaves the output alone.

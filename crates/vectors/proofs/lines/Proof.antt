@@ -31,6 +31,12 @@ part-rest-end c = search needs
 until-requires : tie.Need-until-requires Inv-loop μ-loop
 until-requires c κs = search needs
 
+add-past : tie.Need-add-past Inv-loop μ-loop
+add-past c = search needs
+
+past-requires : tie.Need-past-requires Inv-loop μ-loop
+past-requires c κs = search needs
+
 add-number : tie.Need-add-number Inv-loop μ-loop
 add-number c = search needs
 
@@ -45,12 +51,6 @@ part-count-end c = search needs
 
 count-requires : tie.Need-count-requires Inv-loop μ-loop
 count-requires c κs = search needs
-
-add-past : tie.Need-add-past Inv-loop μ-loop
-add-past c = search needs
-
-past-requires : tie.Need-past-requires Inv-loop μ-loop
-past-requires c κs = search needs
 
 loop-less : tie.Need-loop-less Inv-loop μ-loop
 loop-less c = search needs
@@ -70,4 +70,4 @@ returns c = search needs
 pub lines-spec : {M : Type 1} → statement M
 lines-spec =
     tie.close
-    (tie.spec Inv-loop μ-loop new-requires loop-holds sub-rest part-rest-start part-rest-end until-requires add-number sub-count part-count-start part-count-end count-requires add-past past-requires loop-less loop-again same-length same-length-2 returns)
+    (tie.spec Inv-loop μ-loop new-requires loop-holds sub-rest part-rest-start part-rest-end until-requires add-past past-requires add-number sub-count part-count-start part-count-end count-requires loop-less loop-again same-length same-length-2 returns)
