@@ -3,7 +3,7 @@
 use Prim.Native.Nat.{ℕ, _≤_}
 use mathlib.Core.List.{List}
 use mathlib.Core.Bool.{Bool, true, false}
-use mathlib.Core.Option.{none}
+use mathlib.Core.Option.{Option, none, some}
 use mathlib.Core.Path.{_≡_, refl, _∙_}
 use lib.ListN.{length, drop}
 use Rattle.layout.specs.Questions.{«CHAINS_CURRENT», «CHAINS_GENS», «SKIPPED_KEYS», «SKIPPED_COUNT», «PEER_ACKED», UNACKED, ABOVE, EXPIRED}
@@ -34,3 +34,10 @@ eight true true true true true true true true v row = refl
 module _ {l : Layout Contact} {row : List ℕ} {from here : ℕ} (p : Paired) (k : Keys) (c : Chained) (n : Numbers) (so : Came l row from (consistent p k c n) here) (whole : length row ≤ here) where
   pub all-asked : parse l (drop from row) ≡ said (inconsistency (joined p k c n)) (joined p k c n) (drop here row)
   all-asked = end-yes so whole .so .same ∙ eight _ _ _ _ _ _ _ _ (joined p k c n) (drop here row)
+
+-- two groups of questions: the first refusal stands; where there is none, the second group's answer is the answer
+pub stands : {a x : Option ℕ} {q : ℕ} (y : Option ℕ) → a ≡ x → x ≡ some q → a ≡ first x y
+stands y e p = rw (e, p)
+
+pub goes-on : {a x y : Option ℕ} → a ≡ y → x ≡ none → a ≡ first x y
+goes-on e p = rw (e, p)

@@ -34,7 +34,7 @@ fn send_typed(send: SendChain) -> u8
     }
 }
 
-fn typed(contact: Contact) -> bool
+pub fn typed(contact: Contact) -> bool
     ensures { λ r. ⌜ ContactTyped contact ⌝ }
 {
     let send = contact.send;

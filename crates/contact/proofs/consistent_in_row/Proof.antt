@@ -1,20 +1,10 @@
 -- `contact::consistent_in_row` meets its contract: 17 to 20, and then 21 to 24.
-use Prim.Native.Nat.{ℕ}
-use mathlib.Core.Option.{Option, none, some}
-use mathlib.Core.Path.{_≡_}
 use borrow.Author.Needs.{needs}
-use Rattle.layout.specs.Read.{first}
 use Rattle.layout.proofs.At.{learn}
 use Rattle.contact.specs.Consistent.{refusalIn}
+use Rattle.contact.proofs.Consistent.{stands, goes-on}
 use Rattle.contact.proofs.consistent_in_row.Statement.{statement}
 use Rattle.contact.proofs.consistent_in_row.Tie as tie
-
--- the first refusal stands; where there is none, the second is the answer
-stands : {a x : Option ℕ} {q : ℕ} (y : Option ℕ) → a ≡ x → x ≡ some q → a ≡ first x y
-stands y e p = rw (e, p)
-
-goes-on : {a x y : Option ℕ} → a ≡ y → x ≡ none → a ≡ first x y
-goes-on e p = rw (e, p)
 
 chains-consistent-requires : tie.Need-chains-consistent-requires
 chains-consistent-requires c κs = c .before .before .pre .chained
