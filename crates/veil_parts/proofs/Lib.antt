@@ -5,3 +5,4 @@ pub mod Items
 pub mod Keyed
 pub mod Chained
 pub mod Paired
+pub mod Whole
