@@ -1,18 +1,25 @@
 -- Any row: writing the value that was read, with 0 for what is veiled, leaves the veiled copy.
 -- Assumes nothing.
-use Prim.Native.Nat.{ℕ}
-use mathlib.Core.List.{List}
+use Prim.Native.Nat.{ℕ, _≤_, _<_}
+use mathlib.Core.List.{List, _++_}
 use mathlib.Core.Path.{_≡_, refl, sym, ap, subst, _∙_}
+use native.Mathlib.Omega.{arith}
+use lib.ListN.{length, drop}
+use Rattle.layout.specs.Questions.{OUTPUT}
 use Rattle.layout.specs.Veil.{veil}
-use Rattle.layout.specs.Layout.{Layout, Answer, accepted, refusedBy, readRow, hiddenRow, print, blankOf}
+use Rattle.layout.specs.Layout.{Layout, Answer, accepted, refusedBy, readRow, hiddenRow, maskOf, print, blankOf}
 use Rattle.layout.specs.RowLaws.{Bytes, Alike}
-use Rattle.layout.specs.Write.{stored, judged, writes}
+use Rattle.layout.specs.Write.{wrote, stored, judged, writes}
 use Rattle.layout.specs.Write as write
+use Rattle.layout.proofs.Hide.{length-hide}
+use Rattle.layout.proofs.Write.{stored-short, stored-row}
 use Rattle.rows.specs.Answers.{verdictOf, leaves}
 use Rattle.rows.specs.Proved.{Row}
 use Rattle.rows.specs.declared.Verdict.{Verdict}
 use Rattle.rows.specs.declared.Verdict.the-variants.{Accepted, Refused}
 use Rattle.rows.specs.declared.Written.the-variants as written
+use Rattle.put.specs.Put.{Wrote}
+use Rattle.put.proofs.Put.{put-front}
 use Rattle.sealed.proofs.RoundTrip.{accepted-not}
 use Rattle.veil.specs.Veil.{veils, refusalIn}
 
@@ -55,3 +62,24 @@ module _ {A : Type 0} (l : Layout A) (row out : List ℕ) where
       go : (a : Answer A) → Alike l veil (accepted v) a → judged a copy out ≡ stored copy out
       go (accepted u) alike = refl
       go (refusedBy q) alike = absurd alike
+
+-- ---- a copy that is stored as it is made
+module _ {A : Type 0} (l : Layout A) (row out : List ℕ) where
+  pub copy-refused : {q : ℕ} → readRow l row ≡ refusedBy q → leaves (written.Refused q) out ≡ veils l row out
+  unfolding veils
+  copy-refused e = rw e
+
+  module _ {v : A} (e : readRow l row ≡ accepted v) where
+    long : length (hiddenRow l veil row) ≡ length row
+    long = length-hide (maskOf l veil row) row
+
+    pub copy-short : length out < length row → leaves (written.Refused OUTPUT) out ≡ veils l row out
+    unfolding veils
+    copy-short h = rw e (sym (stored-short (hiddenRow l veil row) out (omega (arith, long))))
+
+    pub copy-stored : {m : List ℕ} {p : ℕ} → length row ≤ length out → Wrote out 0 (hiddenRow l veil row) m p → leaves (written.Length (length row)) m ≡ veils l row out
+    unfolding veils
+    copy-stored {m} h w =
+        let room : length (hiddenRow l veil row) ≤ length out = omega (arith, long) in
+        let is : m ≡ hiddenRow l veil row ++ drop (length (hiddenRow l veil row)) out = w .now-is ∙ put-front out (hiddenRow l veil row) room in
+        rw (e, is) (sym (stored-row (hiddenRow l veil row) out room ∙ ap (λ (n : ℕ). record { answer = wrote n; out = hiddenRow l veil row ++ drop (length (hiddenRow l veil row)) out }) long))

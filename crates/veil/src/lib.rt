@@ -1,4 +1,7 @@
-// Veil, document 01's: a row alone, copied with 0 for its veiled bytes. The row is read, the veiled fields are set to 0, and it is written again.
+// Veil, document 01's: a row alone, copied with 0 for its veiled bytes. The row is read, the veiled fields are set to 0, and it is written again;
+// a contact row is checked, and copied part by part.
+use contact::ContactCheck;
+use layout::question;
 use rows::Verdict;
 use rows::Written;
 ghost use mathlib.Core.Path.{_≡_};
@@ -63,4 +66,26 @@ pub fn veil_courier(version: u32, row: &[u8], out: &mut [u8]) -> Written
     let zeros = [0u8; SEALED_MAX];
     let len = row.len() - read.sealed_at;
     held.row(&zeros[..len], out)
+}
+
+// Veiled: the card's beacon key, and every key of the contact and of its chains.
+pub fn veil_contact(version: u32, row: &[u8], out: &mut [u8]) -> Written
+    ensures { λ r. ⌜ leaves r (now (out .exit)) ≡ veils (layouts.contact version) (now (row .entry)) (now (out .entry)) ⌝ }
+{
+    let check = contact::check_contact(version, row);
+    let ContactCheck::Fields(at) = check else {
+        return Written::Refused(check.refusal());
+    };
+    let n = row.len();
+    if out.len() < n {
+        return Written::Refused(question::OUTPUT);
+    }
+    let paired = at.paired;
+    let keys_at = veil_parts::veil_paired(out, 0, row, paired);
+    let keys = at.keys;
+    let chained_at = veil_parts::veil_keys(out, keys_at, keys);
+    let chained = at.chained;
+    let numbers_at = veil_parts::veil_chained(out, chained_at, row, chained);
+    put::put_run(out, numbers_at, row, numbers_at, n - numbers_at);
+    Written::Length(n)
 }

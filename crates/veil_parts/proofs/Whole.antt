@@ -1,12 +1,12 @@
 -- A contact row that is accepted: the row and its veiled copy, part by part.
 -- Assumes nothing.
-use Prim.Native.Nat.{ℕ, _+_}
+use Prim.Native.Nat.{ℕ, _+_, _-_}
 use mathlib.Core.List.{List, [], _∷_, _++_, append-assoc, append-nil}
 use mathlib.Core.Option.{some}
 use mathlib.Core.Path.{_≡_, refl, sym, ap, _∙_}
 use native.Mathlib.Omega.{arith}
-use lib.ListN.{length, drop, length-append}
-use lib.Seq.{drop-at}
+use lib.ListN.{length, drop, length-append, length-drop}
+use lib.Seq.{drop-at, take-all}
 use Rattle.layout.specs.Questions.{«CARD_END»}
 use Rattle.layout.specs.Veil.{veil, zeros}
 use Rattle.layout.specs.Form.{u32, u64}
@@ -20,7 +20,7 @@ use Rattle.rows.specs.Rows.{role, verification, card, pending, send, chain, ski
 use Rattle.rows.proofs.Lawful.{ranges-plain}
 use Rattle.rows.proofs.Proved.{proved}
 use Rattle.parts.specs.Parts.{paired, keys, chained, Numbers, numbers, joined}
-use Rattle.parts.specs.Places.{pairedFrom, keysFrom, pendingFrom, sendFrom, chainedFrom, numbersFrom}
+use Rattle.parts.specs.Places.{run, pairedFrom, keysFrom, pendingFrom, sendFrom, chainedFrom, numbersFrom}
 use Rattle.parts.specs.declared.PairedAt.{PairedAt}
 use Rattle.parts.specs.declared.KeysAt.{KeysAt}
 use Rattle.parts.specs.declared.PendingAt.{PendingAt}
@@ -136,9 +136,12 @@ module _ (version : ℕ) (row : List ℕ) (by : Bytes row) (p : PairedAt) (k : K
   copy-long = simp length-append at (ap length (sym veiled-copy) ∙ length-hide (maskOf (contact version) veil row) row)
 
   -- its last part, of which nothing is veiled, stands where it stands in the copy
-  pub numbers-stand : (at : ℕ) → at + length (print numbers (numbersFrom row n)) ≡ length row → drop at row ≡ print numbers (numbersFrom row n)
+  numbers-stand : (at : ℕ) → at + length (print numbers (numbersFrom row n)) ≡ length row → drop at row ≡ print numbers (numbersFrom row n)
   numbers-stand at e =
       let front = print paired (pairedFrom row p) ++ (print keys (keysFrom row k) ++ print chained (chainedFrom row c)) in
       let cut : front ++ print numbers (numbersFrom row n) ≡ row = simp append-assoc shown in
       let here : length front ≡ at = omega (arith, ap length cut, length-append front (print numbers (numbersFrom row n))) in
       ap (λ (l : List ℕ). drop at l) (sym cut) ∙ drop-at front (print numbers (numbersFrom row n)) at here
+
+  pub numbers-run : (at : ℕ) → at + length (print numbers (numbersFrom row n)) ≡ length row → run (length row - at) row at ≡ print numbers (numbersFrom row n)
+  numbers-run at e = take-all (length row - at) (drop at row) (rw length-drop (omega arith)) ∙ numbers-stand at e
