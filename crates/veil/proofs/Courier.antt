@@ -29,7 +29,7 @@ use Rattle.courier.specs.declared.Held.{Held}
 use Rattle.courier.specs.declared.HeldRead.{HeldRead}
 use Rattle.courier.proofs.RoundTrip.{sealed-last}
 use Rattle.veil.specs.Veil.{veils}
-use Rattle.veil.proofs.Veil.{Granted, granted, copied}
+use Rattle.veil.proofs.Copied.{Granted, granted, copied}
 use Rattle.veil.proofs.Text.{Tail, long, tail}
 
 -- the struct with 0 for s

@@ -19,7 +19,7 @@ use Rattle.device.specs.Device.{deviceOf, deviceRead, valueOf, image}
 use Rattle.device.specs.declared.Device.{Device}
 use Rattle.device.specs.declared.DeviceRead.{DeviceRead}
 use Rattle.veil.specs.Veil.{veils}
-use Rattle.veil.proofs.Veil.{granted, copied}
+use Rattle.veil.proofs.Copied.{granted, copied}
 
 -- the struct without its key
 abbrev pub unkeyed : Device → Device

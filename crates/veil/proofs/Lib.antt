@@ -1,5 +1,6 @@
-pub mod Veil
+pub mod Copied
 pub mod Text
 pub mod Device
 pub mod Queued
 pub mod Courier
+pub mod ByKind

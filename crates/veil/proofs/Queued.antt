@@ -26,7 +26,7 @@ use Rattle.queued.specs.declared.Queued.{Queued}
 use Rattle.queued.specs.declared.QueuedRead.{QueuedRead}
 use Rattle.queued.proofs.RoundTrip.{sealed-last}
 use Rattle.veil.specs.Veil.{veils}
-use Rattle.veil.proofs.Veil.{Granted, granted, copied}
+use Rattle.veil.proofs.Copied.{Granted, granted, copied}
 use Rattle.veil.proofs.Text.{Tail, long, tail}
 
 -- the struct with 0 for s

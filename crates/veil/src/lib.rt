@@ -7,7 +7,7 @@ use rows::Written;
 ghost use mathlib.Core.Path.{_≡_};
 ghost use Rattle.rows.specs.Rows as layouts;
 ghost use Rattle.rows.specs.Answers.{leaves};
-ghost use Rattle.veil.specs.Veil.{veils, refusalIn};
+ghost use Rattle.veil.specs.Veil.{veils, veilOf, refusalIn};
 
 // The longest sealed text.
 const SEALED_MAX: usize = 4064;
@@ -88,4 +88,17 @@ pub fn veil_contact(version: u32, row: &[u8], out: &mut [u8]) -> Written
     let numbers_at = veil_parts::veil_chained(out, chained_at, row, chained);
     put::put_run(out, numbers_at, row, numbers_at, n - numbers_at);
     Written::Length(n)
+}
+
+// A row of the kind 0 device, 1 contact, 2 queued or 3 courier. Another kind is refused before all else.
+pub fn veil(kind: u32, version: u32, row: &[u8], out: &mut [u8]) -> Written
+    ensures { λ r. ⌜ leaves r (now (out .exit)) ≡ veilOf kind version (now (row .entry)) (now (out .entry)) ⌝ }
+{
+    match kind {
+        0 => veil_device(version, row, out),
+        1 => veil_contact(version, row, out),
+        2 => veil_queued(version, row, out),
+        3 => veil_courier(version, row, out),
+        _ => Written::Refused(question::CODE),
+    }
 }

@@ -16,7 +16,7 @@ use Rattle.contact.specs.Check.{contactFrom, Places, Placed, checkSays, checkRe
 use Rattle.contact.specs.declared.ContactAt.{ContactAt}
 use Rattle.veil_parts.specs.Veiled.{Stands, veiledKeys, veiledChained}
 use Rattle.veil_parts.proofs.Whole.{paired-stands, veiled-copy, copy-long, numbers-run}
-use Rattle.veil.proofs.Veil.{copy-refused, copy-short, copy-stored}
+use Rattle.veil.proofs.Copied.{copy-refused, copy-short, copy-stored}
 use borrow.Author.Needs.{needs}
 use Rattle.veil.proofs.veil_contact.Statement.{statement}
 use Rattle.veil.proofs.veil_contact.Tie as tie

@@ -9,7 +9,7 @@ use Rattle.layout.proofs.At.{typed}
 use Rattle.rows.specs.Rows.{courier}
 use Rattle.courier.specs.Courier.{image}
 use Rattle.courier.specs.declared.HeldRead.{HeldRead}
-use Rattle.veil.proofs.Veil.{not-copied}
+use Rattle.veil.proofs.Copied.{not-copied}
 use Rattle.veil.proofs.Text.{Tail, take-zeros, prefix-long}
 use Rattle.veil.proofs.Courier.{blanked, courier-tail, courier-copied}
 use Rattle.veil.proofs.veil_courier.Statement.{statement}

@@ -4,7 +4,7 @@ use borrow.Author.Needs.{needs}
 use Rattle.layout.proofs.At.{typed}
 use Rattle.rows.specs.Rows.{device}
 use Rattle.device.specs.declared.DeviceRead.{DeviceRead}
-use Rattle.veil.proofs.Veil.{not-copied}
+use Rattle.veil.proofs.Copied.{not-copied}
 use Rattle.veil.proofs.Device.{device-copied}
 use Rattle.veil.proofs.veil_device.Statement.{statement}
 use Rattle.veil.proofs.veil_device.Tie as tie

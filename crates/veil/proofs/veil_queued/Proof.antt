@@ -9,7 +9,7 @@ use Rattle.layout.proofs.At.{typed}
 use Rattle.rows.specs.Rows.{queued}
 use Rattle.queued.specs.Queued.{image}
 use Rattle.queued.specs.declared.QueuedRead.{QueuedRead}
-use Rattle.veil.proofs.Veil.{not-copied}
+use Rattle.veil.proofs.Copied.{not-copied}
 use Rattle.veil.proofs.Text.{Tail, take-zeros, prefix-long}
 use Rattle.veil.proofs.Queued.{blanked, queued-tail, queued-copied}
 use Rattle.veil.proofs.veil_queued.Statement.{statement}
