@@ -9,12 +9,11 @@ use lib.ListN.{length, take}
 use lib.Seq.{take-at}
 use Rattle.layout.specs.Veil.{zeros, plain}
 use Rattle.layout.specs.Form.{bytes, fitsIf}
-use Rattle.layout.specs.Layout.{accepted, print, refusalOf, readRow}
-use Rattle.layout.specs.RowLaws.{Valid}
+use Rattle.layout.specs.Layout.{accepted, print, fitsOf, refusalOf, readRow}
 use Rattle.layout.proofs.Theorems.{accepted≢}
 use Rattle.rows.specs.Values as value
 use Rattle.rows.specs.Checks.{kci}
-use Rattle.rows.specs.Rows.{cardRow}
+use Rattle.rows.specs.Rows.{card, cardRow}
 use Rattle.rows.proofs.Proved.{proved}
 use Rattle.card.specs.Card.{CardTyped, CardLaws, cardOf, orZeros, valueOf, image}
 use Rattle.card.specs.declared.Card.{Card}
@@ -30,13 +29,13 @@ key-back false (some k) post h = absurd h
 name-back : (name : List ℕ) → take (length name) ((name ++ zeros (48 - length name)) ++ zeros 207) ≡ name
 name-back name = rw (append-assoc name (zeros (48 - length name)) (zeros 207)) (take-at name (zeros (48 - length name) ++ zeros 207) (length name) refl)
 
-value-back : (v : value.Card) → Valid cardRow v → valueOf (cardOf v) ≡ v
-value-back v h = λ i. record {
+pub value-back : (v : value.Card) (post : List ℕ) → fitsOf card v post → valueOf (cardOf v) ≡ v
+value-back v post h = λ i. record {
   caps = v .caps;
   «beacon_day» = v .«beacon_day»;
   «beacon_key» = v .«beacon_key»;
   name = name-back (v .name) i;
-  «static_ek» = key-back (kci (v .caps)) (v .«static_ek») _ (h .fits .0 .1 .1 .1 .1 .1 .0) i;
+  «static_ek» = key-back (kci (v .caps)) (v .«static_ek») _ (h .1 .1 .1 .1 .1 .0) i;
 }
 
 module _ (c : Card) (ty : CardTyped c) where
@@ -51,6 +50,6 @@ module _ (c : Card) (ty : CardTyped c) where
 pub card-laws : CardLaws
 unfolding image
 card-laws = record {
-  read-write = λ row by v e. ap (λ (x : value.Card). print cardRow x) (value-back v (proved .card .laws .read-valid row by v e)) ∙ proved .card .laws .read-print row by v e;
+  read-write = λ row by v e. ap (λ (x : value.Card). print cardRow x) (value-back v _ (proved .card .laws .read-valid row by v e .fits .0)) ∙ proved .card .laws .read-print row by v e;
   write-read = write-read;
 }

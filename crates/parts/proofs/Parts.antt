@@ -1,13 +1,13 @@
 -- The four parts, one after the other, and then the questions, are the contact row's layout.
 -- Assumes nothing.
 use Prim.Native.Nat.{ℕ, _+_}
-use mathlib.Core.List.{List}
+use mathlib.Core.List.{List, _++_, append-assoc, append-nil}
 use mathlib.Core.Bool.{true, false, _&&_}
-use mathlib.Core.Path.{_≡_, refl, ap, _∙_}
+use mathlib.Core.Path.{_≡_, refl, sym, ap, _∙_}
 use lib.ListN.{drop}
 use Rattle.layout.specs.Questions.{VERSION, «ROW_END», «CHAINS_CURRENT», «CHAINS_GENS», «SKIPPED_KEYS», «SKIPPED_COUNT», «PEER_ACKED», UNACKED, ABOVE, EXPIRED}
 use Rattle.layout.specs.Read.{Read, value, refused, andThen}
-use Rattle.layout.specs.Layout.{Layout, done, field, ask, end, parse, group, _>>=_, _>>_}
+use Rattle.layout.specs.Layout.{Layout, done, field, ask, end, parse, print, group, _>>=_, _>>_}
 use Rattle.layout.specs.Layout as layout
 use Rattle.layout.proofs.At.{Took}
 use Rattle.layout.proofs.Steps.{Came, ask-is}
@@ -104,3 +104,30 @@ module _ {C A : Type 0} {l : Layout C} {row : List ℕ} {from here : ℕ} (part 
 -- where the parts begin
 pub begun : (version : ℕ) (row : List ℕ) → versionKnown version ≡ true → Came (contact version) row 0 (embed paired pairedOf afterPaired) 0
 begun version row known = record { same = ap (λ (l : Layout Contact). parse l (drop 0 row)) (in-parts version) ∙ ask-is (drop 0 row) VERSION (versionKnown version) true _ known }
+
+-- ---- printing, part by part
+-- what a layout ends in, by the fields of v
+pub endsIn : {A : Type 0} → Layout A → A → A
+endsIn (done a) v = a
+endsIn (field f g l) v = endsIn (l (g v)) v
+endsIn (ask q t l) v = endsIn l v
+
+pub embed-print : {A C : Type 0} (l : Layout A) (get : C → A) (k : A → Layout C) (v : C) → print (embed l get k) v ≡ print l (get v) ++ print (k (endsIn l (get v))) v
+unfolding embed layout.print endsIn
+embed-print (done a) get k v = refl
+embed-print (field f g l) get k v =
+    ap (λ (bs : List ℕ). f .print (g (get v)) ++ bs) (embed-print (l (g (get v))) get k v)
+    ∙ sym (append-assoc (f .print (g (get v))) (print (l (g (get v))) (get v)) (print (k (endsIn (l (g (get v))) (get v))) v))
+embed-print (ask q t l) get k v = embed-print l get k v
+
+pub print-in-parts : (version : ℕ) (v : Contact) → print (contact version) v ≡ print paired (pairedOf v) ++ (print keys (keysOf v) ++ (print chained (chainedOf v) ++ print numbers (numbersOf v)))
+unfolding layout.print endsIn
+print-in-parts version v =
+    ap (λ (l : Layout Contact). print l v) (in-parts version)
+    ∙ embed-print paired pairedOf afterPaired v
+    ∙ ap (λ (bs : List ℕ). print paired (pairedOf v) ++ bs) (
+    embed-print keys keysOf (afterKeys (pairedOf v)) v
+    ∙ ap (λ (bs : List ℕ). print keys (keysOf v) ++ bs) (
+    embed-print chained chainedOf (afterChained (pairedOf v) (keysOf v)) v
+    ∙ ap (λ (bs : List ℕ). print chained (chainedOf v) ++ bs) (
+    embed-print numbers numbersOf (consistent (pairedOf v) (keysOf v) (chainedOf v)) v ∙ append-nil (print numbers (numbersOf v)))))
