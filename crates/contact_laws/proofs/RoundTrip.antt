@@ -1,7 +1,7 @@
 -- The round trips of a contact row, from the contracts of its reader and its writer alone.
 -- Assumes nothing.
 use Prim.Native.Nat.{ℕ, zero, suc, _/_, _≤_}
-use mathlib.Core.List.{List, [], _∷_, _++_}
+use mathlib.Core.List.{List, [], _∷_}
 use mathlib.Core.Bool.{Bool, true, false, cond}
 use mathlib.Core.Option.{Option, none, some}
 use mathlib.Core.Path.{_≡_, refl, sym, ap, ap₂, subst, _∙_}
@@ -10,7 +10,7 @@ use lib.ListN.{length, take, drop, length-take}
 use borrow.Author.Tests.{le-leb}
 use Rattle.layout.specs.Questions.{LISTS}
 use Rattle.layout.specs.Read.{Read, value, refused, andThen, onto, said}
-use Rattle.layout.specs.Form.{Form, readMany}
+use Rattle.layout.specs.Form.{Form}
 use Rattle.layout.specs.Layout.{Answer, accepted, refusedBy, readRow, parse, refusalOf, group}
 use Rattle.layout.specs.Layout as layout
 use Rattle.layout.specs.RowLaws.{Bytes}
@@ -31,8 +31,7 @@ use Rattle.lists.specs.Places.{readPlaces, placesOf}
 use Rattle.lists.specs.Places as places
 use Rattle.received.specs.Lent.{pairs}
 use Rattle.received.proofs.Pairs.{length-pairs}
-use Rattle.lent.specs.Lent.{chainsOf, skippedOf, chainsBytes, skippedBytes, rejoin}
-use Rattle.lent.proofs.Laws.{read-chains, read-skipped}
+use Rattle.lent.specs.Lent.{chainsOf, skippedOf}
 use Rattle.contact.specs.Consistent.{inconsistency}
 use Rattle.contact.specs.Contact as contacts
 use Rattle.contact.specs.Contact.{Lists, Left, contactOf, longEnough, filled, leaves, opened, reads}
