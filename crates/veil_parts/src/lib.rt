@@ -107,7 +107,7 @@ fn veil_send(out: &mut [u8], at: usize, s: SendAt) -> usize
     }
 }
 
-// How many bytes stand from a chain's flag on.
+// How many bytes stand from a chain's flag on: the flag, and superseded_s if it is 1.
 fn flag_len(row: &[u8], at: usize) -> usize
     requires { ⌜ at < length (now row) ⌝ }
     ensures { λ r. ⌜ r ≡ flagLength (now (row .entry)) at ⌝ }
@@ -118,7 +118,7 @@ fn flag_len(row: &[u8], at: usize) -> usize
     1
 }
 
-// The chains of a list, with 0 for each key.
+// The chains of a list, with 0 for each key: it stands behind gen, dir and next, which are 10 bytes, and before the flag of superseded_s.
 fn veil_each_chain(out: &mut [u8], at: usize, row: &[u8], l: ListAt) -> usize
     requires { ⌜ ListIn (group chain) (now row) l × (at + length (veiledMany (group chain) (listIn (group chain) (now row) l)) ≤ length (now out)) ⌝ }
     ensures { λ r. ⌜ (r ≡ at + length (veiledMany (group chain) (listIn (group chain) (now (row .entry)) l))) × Wrote (now (out .entry)) at (veiledMany (group chain) (listIn (group chain) (now (row .entry)) l)) (now (out .exit)) r ⌝ }
@@ -136,7 +136,7 @@ fn veil_each_chain(out: &mut [u8], at: usize, row: &[u8], l: ListAt) -> usize
     q
 }
 
-// The skipped keys of a list, with 0 for each key.
+// The skipped keys of a list, with 0 for each key: it stands behind gen, dir and idx, which are 6 bytes, and before the 8 bytes of created_s.
 fn veil_each_skipped(out: &mut [u8], at: usize, row: &[u8], l: ListAt) -> usize
     requires { ⌜ ListIn (group skipped) (now row) l × (at + length (veiledMany (group skipped) (listIn (group skipped) (now row) l)) ≤ length (now out)) ⌝ }
     ensures { λ r. ⌜ (r ≡ at + length (veiledMany (group skipped) (listIn (group skipped) (now (row .entry)) l))) × Wrote (now (out .entry)) at (veiledMany (group skipped) (listIn (group skipped) (now (row .entry)) l)) (now (out .exit)) r ⌝ }
