@@ -34,7 +34,7 @@ pub struct CardPlace {
     pub at: CardAt,
 }
 
-pub enum CardField {
+enum CardField {
     Value(CardPlace, usize),
     Refused(u8),
 }
@@ -52,7 +52,7 @@ impl CardField {
 }
 
 // A card behind its length.
-pub fn card_at(row: &[u8], at: usize) -> CardField
+fn card_at(row: &[u8], at: usize) -> CardField
     ensures { λ r. ⌜ (cardSays (now (row .entry)) r ≡ readAt (sized (group card) «CARD_END») (now (row .entry)) at) × CardPlaced (now (row .entry)) r ⌝ }
 {
     let U16Field::Value(len, mid) = fields::u16_at(row, at) else {
