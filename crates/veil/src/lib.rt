@@ -23,7 +23,7 @@ fn refusal(verdict: Verdict) -> u8
 }
 
 // Veiled: the beacon key.
-pub fn veil_device(version: u32, row: &[u8], out: &mut [u8]) -> Written
+fn veil_device(version: u32, row: &[u8], out: &mut [u8]) -> Written
     ensures { λ r. ⌜ leaves r (now (out .exit)) ≡ veils (layouts.device version) (now (row .entry)) (now (out .entry)) ⌝ }
 {
     let read = device::read_device(version, row);
@@ -37,7 +37,7 @@ pub fn veil_device(version: u32, row: &[u8], out: &mut [u8]) -> Written
 }
 
 // Veiled: s of the own envelope, and the sealed text.
-pub fn veil_queued(version: u32, row: &[u8], out: &mut [u8]) -> Written
+fn veil_queued(version: u32, row: &[u8], out: &mut [u8]) -> Written
     ensures { λ r. ⌜ leaves r (now (out .exit)) ≡ veils (layouts.queued version) (now (row .entry)) (now (out .entry)) ⌝ }
 {
     let read = queued::read_queued(version, row);
@@ -53,7 +53,7 @@ pub fn veil_queued(version: u32, row: &[u8], out: &mut [u8]) -> Written
 }
 
 // Veiled: the sealed text of what is carried; s of a tombstone.
-pub fn veil_courier(version: u32, row: &[u8], out: &mut [u8]) -> Written
+fn veil_courier(version: u32, row: &[u8], out: &mut [u8]) -> Written
     ensures { λ r. ⌜ leaves r (now (out .exit)) ≡ veils (layouts.courier version) (now (row .entry)) (now (out .entry)) ⌝ }
 {
     let read = courier::read_courier(version, row);
@@ -69,7 +69,7 @@ pub fn veil_courier(version: u32, row: &[u8], out: &mut [u8]) -> Written
 }
 
 // Veiled: the card's beacon key, and every key of the contact and of its chains.
-pub fn veil_contact(version: u32, row: &[u8], out: &mut [u8]) -> Written
+fn veil_contact(version: u32, row: &[u8], out: &mut [u8]) -> Written
     ensures { λ r. ⌜ leaves r (now (out .exit)) ≡ veils (layouts.contact version) (now (row .entry)) (now (out .entry)) ⌝ }
 {
     let check = contact::check_contact(version, row);
