@@ -15,6 +15,7 @@ use Rattle.layout.specs.Layout.{accepted, refusedBy, readRow, hiddenRow, maskOf
 use Rattle.layout.specs.Layout as layout
 use Rattle.rows.specs.Utf8 as utf
 use Rattle.rows.specs.Utf8.{utf8}
+use Rattle.rows.specs.Checks.{sealedQueued, sealedCarried}
 use Rattle.rows.specs.Rows.{device, cardRow, queued, courier}
 
 -- ---- LEB128 traps
@@ -26,6 +27,12 @@ leb-traps :
     × (leb128 .read (0x80 ∷ 0x80 ∷ 0x80 ∷ 0x80 ∷ 0x8f ∷ 1 ∷ []) ≡ refused LEB128)
 unfolding form.lebRead
 leb-traps = (refl, refl, refl, refl, refl, refl, refl, refl, refl)
+
+-- ---- lengths of sealed texts, at both ends and beside them
+sealed-traps :
+    (sealedQueued 47 ≡ false) × (sealedQueued 48 ≡ true) × (sealedQueued 49 ≡ false) × (sealedQueued 4064 ≡ true) × (sealedQueued 4080 ≡ false) × (sealedQueued 0 ≡ false)
+    × (sealedCarried 48 ≡ true) × (sealedCarried 2064 ≡ true) × (sealedCarried 4064 ≡ false)
+sealed-traps = (refl, refl, refl, refl, refl, refl, refl, refl, refl)
 
 -- ---- device
 -- read_receipts, enabled, copies, and the rest

@@ -1,6 +1,5 @@
 pub mod Scalars
 pub mod Lawful
-pub mod Cases
 pub mod Proved
 pub mod Samples
 pub mod Edges

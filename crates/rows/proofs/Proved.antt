@@ -10,7 +10,6 @@ use Rattle.rows.specs.Rows.{device, cardRow, contact, queued, courier}
 use Rattle.rows.specs.Proved.{Row, Proved}
 use Rattle.rows.proofs.Lawful.{device-lawful, cardRow-lawful, contact-lawful, queued-lawful, courier-lawful}
 use Rattle.rows.proofs.Scalars.{utf8-laws}
-use Rattle.rows.proofs.Cases.{proved-cases}
 
 row : {A : Type 0} (l : Layout A) → RowLaws l → Row l
 row l laws = record { laws = laws; veil = veil-laws l laws }
@@ -27,5 +26,4 @@ proved = record {
   widths = width-laws;
   leb128 = leb-laws;
   utf8 = utf8-laws;
-  cases = proved-cases;
 }

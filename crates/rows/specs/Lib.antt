@@ -4,5 +4,4 @@ pub mod Values
 pub mod Checks
 pub mod Rows
 pub mod Answers
-pub mod Cases
 pub mod Proved

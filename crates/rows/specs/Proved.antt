@@ -7,7 +7,6 @@ use Rattle.layout.specs.Dwarf.{LebLaws}
 use Rattle.layout.specs.Width.{WidthLaws}
 use Rattle.rows.specs.Scalars.{Utf8Laws}
 use Rattle.rows.specs.Rows.{device, cardRow, contact, queued, courier}
-use Rattle.rows.specs.Cases.{cases, AllHold}
 
 -- of a row: read and write undo each other, one reading, and what is hidden does not show
 pub record Row {A : Type 0} (l : Layout A) : Type 0 where
@@ -24,5 +23,3 @@ pub record Proved : Type 0 where
   pub widths : (w : ℕ) → WidthLaws w
   pub leb128 : LebLaws
   pub utf8 : Utf8Laws
-  -- document 01's (p) cases
-  pub cases : AllHold cases
