@@ -1,0 +1,36 @@
+-- `contact_face::sicklestar_check_contact` meets its contract: the number of what the check answered.
+-- Assumes nothing.
+use borrow.Author.Needs.{needs}
+use Rattle.contact_face.proofs.Answers.{checked}
+use Rattle.contact_face.proofs.sicklestar_check_contact.Statement.{statement}
+use Rattle.contact_face.proofs.sicklestar_check_contact.Tie as tie
+
+check-contact-requires : tie.Need-check-contact-requires
+check-contact-requires c κs = search needs
+
+enum-told : tie.Need-enum-told
+enum-told c = search needs
+
+returns : tie.Need-returns
+returns c =
+    let k = c .before .before in
+    let s = k .before .before in
+    checked (s .args .version) (s .args .row .now) (k .check-contact .ensures .0) (c .enum-told .given .1)
+
+enum-known-number : tie.Need-enum-known-number
+enum-known-number c = search needs
+
+cast-result : tie.Need-cast-result
+cast-result c = search needs
+
+returns-2 : tie.Need-returns-2
+returns-2 c =
+    let n = c .before in
+    let k = n .before .before in
+    let s = k .before .before in
+    checked (s .args .version) (s .args .row .now) (k .check-contact .ensures .0) (n .number .given .1)
+
+pub sicklestar-check-contact-spec : {M : Type 1} → statement M
+sicklestar-check-contact-spec =
+    tie.close
+    (tie.spec check-contact-requires enum-told returns enum-known-number cast-result returns-2)

@@ -1,0 +1,45 @@
+// The functions on contact rows that Rust and C call, under their C names. A slice passes as its pointer and its length.
+// Neither requires anything of its caller. A granted call answers 0, a refused one the question's number.
+use contact::ContactCheck;
+use rows::Verdict;
+use rows::Written;
+ghost use mathlib.Core.Path.{_≡_};
+ghost use Rattle.contact.specs.Contact.{lists};
+ghost use Rattle.contact_face.specs.Faces.{leaves, checkNumber, rewriteContact};
+
+// Whether a contact row is accepted; nothing is copied.
+#[no_mangle]
+pub extern "C" fn sicklestar_check_contact(version: u32, row: &[u8]) -> u32
+    ensures { λ r. ⌜ r ≡ checkNumber version (now (row .entry)) ⌝ }
+{
+    match contact::check_contact(version, row) {
+        ContactCheck::Fields(_) => return 0,
+        ContactCheck::Refused(number) => return number as u32,
+    }
+}
+
+// Reads a contact row into the lent lists, and writes it again to the front of the output. Where the output is too short, the lists are filled all the same.
+#[no_mangle]
+pub extern "C" fn sicklestar_contact(
+    version: u32,
+    row: &[u8],
+    chains: &mut [u8],
+    skipped: &mut [u8],
+    above: &mut [u32],
+    unacked: &mut [u32],
+    expired: &mut [u32],
+    out: &mut [u8],
+) -> u32
+    ensures { λ r. ⌜ leaves r (lists (now (chains .exit)) (now (skipped .exit)) (now (above .exit)) (now (unacked .exit)) (now (expired .exit))) (now (out .exit)) ≡ rewriteContact version (now (row .entry)) (lists (now (chains .entry)) (now (skipped .entry)) (now (above .entry)) (now (unacked .entry)) (now (expired .entry))) (now (out .entry)) ⌝ }
+{
+    let read = contact::read_contact(version, row, chains, skipped, above, unacked, expired);
+    let verdict = read.verdict;
+    if let Verdict::Refused(number) = verdict {
+        return number as u32;
+    }
+    let contact = read.contact;
+    match contact_row::write_contact(contact, chains, skipped, above, unacked, expired, out) {
+        Written::Length(_) => return 0,
+        Written::Refused(number) => return number as u32,
+    }
+}
