@@ -29,15 +29,12 @@ if [ "$model" = yes ]; then
     program=$out/oracle-no-rattle
     set -- --cfg no_rattle
 else
-    for name in export faces; do
-        [ -f "$library/lib$name.a" ] || { echo "no target/staticlib/lib$name.a: run 'rt staticlib $name' first" >&2; exit 2; }
-    done
     program=$out/oracle
-    set -- -L "native=$library" -l static=export -l static=faces
-    # Contact rows are compared once there is a function for them.
-    if grep -q sicklestar_contact "$library/libfaces.a"; then
-        set -- --cfg contact "$@"
-    fi
+    set -- -L "native=$library"
+    for name in export faces contact_face veil_face; do
+        [ -f "$library/lib$name.a" ] || { echo "no target/staticlib/lib$name.a: run 'rt staticlib $name' first" >&2; exit 2; }
+        set -- "$@" -l "static=$name"
+    done
 fi
-rustc --edition 2024 -O --check-cfg 'cfg(contact, no_rattle, test)' "$@" "$here/main.rs" -o "$program"
+rustc --edition 2024 -O --check-cfg 'cfg(no_rattle, test)' "$@" "$here/main.rs" -o "$program"
 echo "built ${program#"$root/"}"

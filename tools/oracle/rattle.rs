@@ -1,4 +1,4 @@
-//! The Rattle side: the C functions of libexport.a and libfaces.a, each behind a safe function.
+//! The Rattle side: the C functions of the four static libraries, each behind a safe function.
 //! Nothing checks these declarations against the Rattle source: keep them in step by hand.
 //! With `--cfg no_rattle` the model of questions.rs stands in, so that the tools can be tried alone.
 
@@ -6,8 +6,8 @@ use crate::lent::Lists;
 use std::cell::RefCell;
 
 pub use side::{
-    card, contact_lists, contains, courier, covers, device, insert, leb128, queued, read_leb128,
-    utf8,
+    card, check_contact, contact_lists, contains, courier, covers, device, insert, leb128, queued,
+    read_leb128, utf8, veil_contact, veil_courier, veil_device, veil_queued,
 };
 
 /// Caps, day, beacon key, name length, the longest name, the static key.
@@ -19,7 +19,7 @@ thread_local! {
 }
 
 /// A contact row, with lists that are long enough.
-pub fn contact(version: u32, row: &[u8], out: &mut [u8]) -> Option<u32> {
+pub fn contact(version: u32, row: &[u8], out: &mut [u8]) -> u32 {
     LISTS.with(|lists| contact_lists(version, row, &mut lists.borrow_mut(), out))
 }
 
@@ -55,6 +55,52 @@ mod side {
             out_len: usize,
         ) -> u32;
         fn sicklestar_courier(
+            version: u32,
+            row: *const u8,
+            len: usize,
+            out: *mut u8,
+            out_len: usize,
+        ) -> u32;
+        fn sicklestar_check_contact(version: u32, row: *const u8, len: usize) -> u32;
+        fn sicklestar_contact(
+            version: u32,
+            row: *const u8,
+            len: usize,
+            chains: *mut u8,
+            chains_len: usize,
+            skipped: *mut u8,
+            skipped_len: usize,
+            above: *mut u32,
+            above_len: usize,
+            unacked: *mut u32,
+            unacked_len: usize,
+            expired: *mut u32,
+            expired_len: usize,
+            out: *mut u8,
+            out_len: usize,
+        ) -> u32;
+        fn sicklestar_veil_device(
+            version: u32,
+            row: *const u8,
+            len: usize,
+            out: *mut u8,
+            out_len: usize,
+        ) -> u32;
+        fn sicklestar_veil_contact(
+            version: u32,
+            row: *const u8,
+            len: usize,
+            out: *mut u8,
+            out_len: usize,
+        ) -> u32;
+        fn sicklestar_veil_queued(
+            version: u32,
+            row: *const u8,
+            len: usize,
+            out: *mut u8,
+            out_len: usize,
+        ) -> u32;
+        fn sicklestar_veil_courier(
             version: u32,
             row: *const u8,
             len: usize,
@@ -121,10 +167,10 @@ mod side {
 
     type Row = unsafe extern "C" fn(u32, *const u8, usize, *mut u8, usize) -> u32;
 
-    /// 0 and the row written again to the front of `out`, or the number of the question.
-    fn again(function: Row, version: u32, row: &[u8], out: &mut [u8]) -> Option<u32> {
+    /// 0 and the row, or its veiled copy, at the front of `out`; or the number of the question.
+    fn copy(function: Row, version: u32, row: &[u8], out: &mut [u8]) -> u32 {
         // SAFETY: both slices are alive, of these lengths, and apart.
-        Some(unsafe {
+        unsafe {
             function(
                 version,
                 row.as_ptr(),
@@ -132,42 +178,47 @@ mod side {
                 out.as_mut_ptr(),
                 out.len(),
             )
-        })
-    }
-
-    pub fn device(version: u32, row: &[u8], out: &mut [u8]) -> Option<u32> {
-        again(sicklestar_device, version, row, out)
-    }
-
-    /// As `again`, with the lists that the items are read into, which are asked for after 24 and before 40.
-    #[cfg(contact)]
-    pub fn contact_lists(
-        version: u32,
-        row: &[u8],
-        lists: &mut Lists,
-        out: &mut [u8],
-    ) -> Option<u32> {
-        unsafe extern "C" {
-            fn sicklestar_contact(
-                version: u32,
-                row: *const u8,
-                len: usize,
-                chains: *mut u8,
-                chains_len: usize,
-                skipped: *mut u8,
-                skipped_len: usize,
-                above: *mut u32,
-                above_len: usize,
-                unacked: *mut u32,
-                unacked_len: usize,
-                expired: *mut u32,
-                expired_len: usize,
-                out: *mut u8,
-                out_len: usize,
-            ) -> u32;
         }
+    }
+
+    pub fn device(version: u32, row: &[u8], out: &mut [u8]) -> u32 {
+        copy(sicklestar_device, version, row, out)
+    }
+
+    pub fn queued(version: u32, row: &[u8], out: &mut [u8]) -> u32 {
+        copy(sicklestar_queued, version, row, out)
+    }
+
+    pub fn courier(version: u32, row: &[u8], out: &mut [u8]) -> u32 {
+        copy(sicklestar_courier, version, row, out)
+    }
+
+    pub fn veil_device(version: u32, row: &[u8], out: &mut [u8]) -> u32 {
+        copy(sicklestar_veil_device, version, row, out)
+    }
+
+    pub fn veil_contact(version: u32, row: &[u8], out: &mut [u8]) -> u32 {
+        copy(sicklestar_veil_contact, version, row, out)
+    }
+
+    pub fn veil_queued(version: u32, row: &[u8], out: &mut [u8]) -> u32 {
+        copy(sicklestar_veil_queued, version, row, out)
+    }
+
+    pub fn veil_courier(version: u32, row: &[u8], out: &mut [u8]) -> u32 {
+        copy(sicklestar_veil_courier, version, row, out)
+    }
+
+    /// 0 or the number of the question.
+    pub fn check_contact(version: u32, row: &[u8]) -> u32 {
+        // SAFETY: the slice is alive and of this length.
+        unsafe { sicklestar_check_contact(version, row.as_ptr(), row.len()) }
+    }
+
+    /// As `copy`, with the lists that the items are read into: 36 comes after 24, and 40 when they are filled.
+    pub fn contact_lists(version: u32, row: &[u8], lists: &mut Lists, out: &mut [u8]) -> u32 {
         // SAFETY: all slices are alive, of these lengths, and apart.
-        Some(unsafe {
+        unsafe {
             sicklestar_contact(
                 version,
                 row.as_ptr(),
@@ -185,21 +236,7 @@ mod side {
                 out.as_mut_ptr(),
                 out.len(),
             )
-        })
-    }
-
-    /// The library has no such function yet.
-    #[cfg(not(contact))]
-    pub fn contact_lists(_: u32, _: &[u8], _: &mut Lists, _: &mut [u8]) -> Option<u32> {
-        None
-    }
-
-    pub fn queued(version: u32, row: &[u8], out: &mut [u8]) -> Option<u32> {
-        again(sicklestar_queued, version, row, out)
-    }
-
-    pub fn courier(version: u32, row: &[u8], out: &mut [u8]) -> Option<u32> {
-        again(sicklestar_courier, version, row, out)
+        }
     }
 
     /// 1 if the number is covered, else 0.
@@ -243,7 +280,7 @@ mod side {
     use super::LONGEST_CARD;
     use crate::covered::Covered;
     use crate::lent::Lists;
-    use crate::model::Range;
+    use crate::model::{Range, Reading};
     use crate::{model, questions};
 
     pub fn read_leb128(input: &[u8], answer: &mut [u64; 2]) -> u32 {
@@ -275,41 +312,59 @@ mod side {
         again(model::card(input).answer.map(|card| card.row()), out)
     }
 
-    pub fn device(version: u32, row: &[u8], out: &mut [u8]) -> Option<u32> {
+    pub fn device(version: u32, row: &[u8], out: &mut [u8]) -> u32 {
         let read = model::device(version, row).answer;
-        Some(again(read.map(|device| device.row()), out))
+        again(read.map(|device| device.row()), out)
     }
 
-    pub fn contact_lists(
-        version: u32,
-        row: &[u8],
-        lists: &mut Lists,
-        out: &mut [u8],
-    ) -> Option<u32> {
+    pub fn queued(version: u32, row: &[u8], out: &mut [u8]) -> u32 {
+        let read = model::queued(version, row).answer;
+        again(read.map(|queued| queued.row()), out)
+    }
+
+    pub fn courier(version: u32, row: &[u8], out: &mut [u8]) -> u32 {
+        let read = model::courier(version, row).answer;
+        again(read.map(|courier| courier.row()), out)
+    }
+
+    pub fn veil_device(version: u32, row: &[u8], out: &mut [u8]) -> u32 {
+        veil(model::device(version, row), row, out)
+    }
+
+    pub fn veil_contact(version: u32, row: &[u8], out: &mut [u8]) -> u32 {
+        veil(model::contact(version, row), row, out)
+    }
+
+    pub fn veil_queued(version: u32, row: &[u8], out: &mut [u8]) -> u32 {
+        veil(model::queued(version, row), row, out)
+    }
+
+    pub fn veil_courier(version: u32, row: &[u8], out: &mut [u8]) -> u32 {
+        veil(model::courier(version, row), row, out)
+    }
+
+    fn veil<T>(reading: Reading<T>, row: &[u8], out: &mut [u8]) -> u32 {
+        let veiled = reading.veiled;
+        let copy = reading.answer.map(|_| model::blanked(row, &veiled));
+        again(copy, out)
+    }
+
+    pub fn check_contact(version: u32, row: &[u8]) -> u32 {
+        model::contact(version, row).answer.err().unwrap_or(0)
+    }
+
+    pub fn contact_lists(version: u32, row: &[u8], lists: &mut Lists, out: &mut [u8]) -> u32 {
         let contact = match model::contact(version, row).answer {
             Ok(contact) => contact,
-            Err(number) => return Some(number),
+            Err(number) => return number,
         };
         let items = Lists::of(&contact);
         let mut long = lists.lengths().into_iter().zip(items.lengths());
         if !long.all(|(lent, needed)| needed <= lent) {
-            return Some(questions::LISTS);
+            return questions::LISTS;
         }
-        let number = again(Ok(contact.row()), out);
-        if number == 0 {
-            lists.put(&items);
-        }
-        Some(number)
-    }
-
-    pub fn queued(version: u32, row: &[u8], out: &mut [u8]) -> Option<u32> {
-        let read = model::queued(version, row).answer;
-        Some(again(read.map(|queued| queued.row()), out))
-    }
-
-    pub fn courier(version: u32, row: &[u8], out: &mut [u8]) -> Option<u32> {
-        let read = model::courier(version, row).answer;
-        Some(again(read.map(|courier| courier.row()), out))
+        lists.put(&items);
+        again(Ok(contact.row()), out)
     }
 
     fn covered(contiguous: u32, above: &[u32], count: usize) -> Covered {
@@ -351,7 +406,7 @@ mod side {
         0
     }
 
-    /// A row that was accepted, written to the front of `out`; or the number of the question.
+    /// What is written where a row is accepted, at the front of `out`; or the number of the question.
     fn again(row: Result<Vec<u8>, u32>, out: &mut [u8]) -> u32 {
         match row {
             Ok(row) => match out.get_mut(..row.len()) {

@@ -6,6 +6,9 @@ use crate::model::{self, Reading};
 use crate::original::{NEXT_CONTACT, Restored, Store};
 use crate::{build, questions, rattle};
 
+/// Lengths of lists that are lent with a row that is refused.
+const FEW: [isize; 5] = [255, 230, 10, 5, 10];
+
 pub trait Row: Sized + PartialEq {
     const NAME: &'static str;
     /// The answers that reading such a row can have: 0, and the numbers of the questions that it is asked.
@@ -15,12 +18,13 @@ pub trait Row: Sized + PartialEq {
     /// The row of the value, by the model.
     fn written(&self) -> Vec<u8>;
     fn rust(store: &Store, version: u32, row: &[u8]) -> Restored<Self>;
-    /// The number answered, 0 if the row is granted and written again to the front of `out`; `None` where there is no
-    /// such C function yet.
-    fn rattle(version: u32, row: &[u8], out: &mut [u8]) -> Option<u32>;
+    /// The number answered, 0 if the row is granted and written again to the front of `out`.
+    fn rattle(version: u32, row: &[u8], out: &mut [u8]) -> u32;
+    /// The same of its veiled copy.
+    fn rattle_veil(version: u32, row: &[u8], out: &mut [u8]) -> u32;
 
-    /// What differs in lists that the row's items are read into; the row is one that is accepted.
-    fn list_faults(&self, _row: &[u8]) -> Vec<String> {
+    /// What else differs: of a function that only checks, and in lists that the row's items are read into.
+    fn more_faults(_answer: &Result<Self, u32>, _version: u32, _row: &[u8]) -> Vec<String> {
         Vec::new()
     }
 
@@ -46,8 +50,12 @@ impl Row for model::Device {
         store.device(version, row)
     }
 
-    fn rattle(version: u32, row: &[u8], out: &mut [u8]) -> Option<u32> {
+    fn rattle(version: u32, row: &[u8], out: &mut [u8]) -> u32 {
         rattle::device(version, row, out)
+    }
+
+    fn rattle_veil(version: u32, row: &[u8], out: &mut [u8]) -> u32 {
+        rattle::veil_device(version, row, out)
     }
 }
 
@@ -69,30 +77,45 @@ impl Row for model::Contact {
         store.contact(version, row)
     }
 
-    fn rattle(version: u32, row: &[u8], out: &mut [u8]) -> Option<u32> {
+    fn rattle(version: u32, row: &[u8], out: &mut [u8]) -> u32 {
         rattle::contact(version, row, out)
     }
 
-    /// Lists as long as the items, or longer by what is no item, are filled, and nothing behind the items; one that is
-    /// too short is 36, and an output that is too short 40, and then nothing is changed.
-    fn list_faults(&self, row: &[u8]) -> Vec<String> {
-        let items = Lists::of(self);
+    fn rattle_veil(version: u32, row: &[u8], out: &mut [u8]) -> u32 {
+        rattle::veil_contact(version, row, out)
+    }
+
+    /// `check` answers the same. Lists as long as the items, or longer by what is no item, are filled, and nothing behind
+    /// the items, also where the output is too short, which is 40; one that is too short is 36, and after this or any
+    /// number before it no list is changed.
+    fn more_faults(answer: &Result<Self, u32>, version: u32, row: &[u8]) -> Vec<String> {
         let mut faults = Vec::new();
+        let check = rattle::check_contact(version, row);
+        if check != *answer.as_ref().err().unwrap_or(&0) {
+            faults.push(format!("Rattle's check {check}"));
+        }
         let mut ask = |lists: Lists, room: usize, due: u32| {
-            let mut due_left = lists.blank();
-            let mut left = due_left.clone();
-            if due == 0 {
-                due_left = lists;
-            }
+            let mut left = lists.blank();
+            let due_left = if [0, questions::OUTPUT].contains(&due) {
+                lists
+            } else {
+                left.clone()
+            };
             let mut out = vec![0; room];
-            let number = rattle::contact_lists(3, row, &mut left, &mut out);
-            if number.is_some_and(|number| number != due || left != due_left) {
+            let number = rattle::contact_lists(version, row, &mut left, &mut out);
+            if number != due || left != due_left {
                 let lengths = left.lengths();
-                faults.push(format!(
-                    "lists of {lengths:?}: due {due}, Rattle {number:?}"
-                ));
+                faults.push(format!("lists of {lengths:?}: due {due}, Rattle {number}"));
             }
         };
+        let contact = match answer {
+            Ok(contact) => contact,
+            Err(number) => {
+                ask(Lists::default().resized(FEW), row.len(), *number);
+                return faults;
+            }
+        };
+        let items = Lists::of(contact);
         ask(items.clone(), row.len(), 0);
         ask(items.resized([50, 45, 1, 1, 1]), row.len(), 0);
         ask(
@@ -127,8 +150,12 @@ impl Row for model::Queued {
         store.queued(version, row)
     }
 
-    fn rattle(version: u32, row: &[u8], out: &mut [u8]) -> Option<u32> {
+    fn rattle(version: u32, row: &[u8], out: &mut [u8]) -> u32 {
         rattle::queued(version, row, out)
+    }
+
+    fn rattle_veil(version: u32, row: &[u8], out: &mut [u8]) -> u32 {
+        rattle::veil_queued(version, row, out)
     }
 }
 
@@ -148,8 +175,12 @@ impl Row for model::Courier {
         store.courier(version, row)
     }
 
-    fn rattle(version: u32, row: &[u8], out: &mut [u8]) -> Option<u32> {
+    fn rattle(version: u32, row: &[u8], out: &mut [u8]) -> u32 {
         rattle::courier(version, row, out)
+    }
+
+    fn rattle_veil(version: u32, row: &[u8], out: &mut [u8]) -> u32 {
+        rattle::veil_courier(version, row, out)
     }
 
     fn taken(&self) -> bool {

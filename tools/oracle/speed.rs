@@ -1,8 +1,10 @@
-//! How long reading and writing a row takes, the Rattle and the Rust on the same rows in the same program.
+//! How long checking a row, and reading and writing it, takes, the Rattle and the Rust on the same rows in the same
+//! program.
 //!
-//! Reading, Rattle: the C function with an output of no length, which reads the row into its struct, asks all its
-//! questions and answers 40. Writing, Rattle: the same with room, less the time of reading.
-//! Reading, Rust: `Device::restore` of a store with the rows, less that of the store without them. Writing: `row`.
+//! Check, Rattle: of a contact row, the C function that only checks; of another, the one that reads and writes with an
+//! output of no length, which reads the row into its struct, asks all its questions and answers 40.
+//! Read, Rust: `Device::restore` of a store with the rows, less that of the store without them; it has no check apart.
+//! Read and write, Rattle: the C function with room for the row. Read and write, Rust: the time of reading, and of `row`.
 
 use crate::build::{self, LARGE, MIDDLE, SMALL};
 use crate::inputs::Random;
@@ -19,38 +21,32 @@ const RUN: f64 = 1e7;
 pub fn run() {
     let mut random = Random::new(1);
     let store = || rows::store(&mut Random::new(2));
-    println!("| Row | Bytes | Read, Rattle | Read, Rust | Write, Rattle | Write, Rust |");
-    println!("|---|---|---|---|---|---|");
+    println!(
+        "| Row | Bytes | Check, Rattle | Read, Rust | Ratio | Read and write, Rattle | Read and write, Rust | Ratio |"
+    );
+    println!("|---|---|---|---|---|---|---|---|");
     let device = several(|| build::device(&mut random).row());
-    line("device", &device, Timed::devices(&device), rattle::device);
+    let check: Check = |version, row| rattle::device(version, row, &mut []);
+    let rust = Timed::devices(&device);
+    line("device", &device, rust, check, rattle::device);
+    let check: Check = |version, row| rattle::queued(version, row, &mut []);
     for (name, own, bucket) in [
         ("queued, 48 sealed", false, 0),
         ("queued, own envelope, 528 sealed", true, 4),
         ("queued, own envelope, 4,064 sealed", true, 7),
     ] {
         let queued = several(|| build::queued(&mut random, own, bucket).row());
-        line(
-            name,
-            &queued,
-            Timed::queued(store(), &queued),
-            rattle::queued,
-        );
+        let rust = Timed::queued(store(), &queued);
+        line(name, &queued, rust, check, rattle::queued);
     }
+    let check: Check = |version, row| rattle::courier(version, row, &mut []);
     let tombstone = several(|| build::tombstone(&mut random).row());
-    line(
-        "tombstone",
-        &tombstone,
-        Timed::courier(store(), &tombstone),
-        rattle::courier,
-    );
+    let rust = Timed::courier(store(), &tombstone);
+    line("tombstone", &tombstone, rust, check, rattle::courier);
     for (name, bucket) in [("carried, 528 sealed", 4), ("carried, 2,064 sealed", 6)] {
         let carried = several(|| build::carried(&mut random, bucket).row());
-        line(
-            name,
-            &carried,
-            Timed::courier(store(), &carried),
-            rattle::courier,
-        );
+        let rust = Timed::courier(store(), &carried);
+        line(name, &carried, rust, check, rattle::courier);
     }
     for (name, size) in [
         ("contact, small", SMALL),
@@ -58,12 +54,9 @@ pub fn run() {
         ("contact, large", LARGE),
     ] {
         let contacts = several(|| build::contact(&mut random, size).row());
-        line(
-            name,
-            &contacts,
-            Timed::contacts(store(), &contacts),
-            rattle::contact,
-        );
+        let rust = Timed::contacts(store(), &contacts);
+        let check = rattle::check_contact;
+        line(name, &contacts, rust, check, rattle::contact);
     }
 }
 
@@ -72,55 +65,55 @@ fn several(row: impl FnMut() -> Vec<u8>) -> Vec<Vec<u8>> {
     std::iter::repeat_with(row).take(ROWS).collect()
 }
 
-type Again = fn(u32, &[u8], &mut [u8]) -> Option<u32>;
+type Check = fn(u32, &[u8]) -> u32;
+type Again = fn(u32, &[u8], &mut [u8]) -> u32;
 
-/// One line of the table: nanoseconds for each row.
-fn line(name: &str, rows: &[Vec<u8>], rust: Timed, again: Again) {
+/// One line of the table: nanoseconds for each row, and how many times the Rattle's the Rust's are.
+fn line(name: &str, rows: &[Vec<u8>], rust: Timed, check: Check, again: Again) {
     let bytes = rows.iter().map(Vec::len).sum::<usize>() / rows.len();
     let mut out = vec![0; rows.iter().map(Vec::len).max().unwrap_or(0)];
-    let (read, write) = if again(3, &rows[0], &mut out) == Some(0) {
-        let (read, write) = first_and_more(
-            || each(rows, &mut [], again),
-            || each(rows, &mut out, again),
-        );
-        (shown(read), shown(write))
-    } else {
-        ("-".into(), "-".into())
-    };
-    let (_, rust_read) = first_and_more(
+    let checked = more(
+        || (),
+        || {
+            for row in rows {
+                black_box(check(3, black_box(row)));
+            }
+        },
+    );
+    let both = more(
+        || (),
+        || {
+            for row in rows {
+                black_box(again(3, black_box(row), &mut out));
+            }
+        },
+    );
+    let rust_read = more(
         || drop(black_box(rust.restore_without())),
         || drop(black_box(rust.restore())),
     );
-    let (_, rust_write) = first_and_more(|| (), || rust.write());
-    let (rust_read, rust_write) = (shown(rust_read), shown(rust_write));
-    println!("| {name} | {bytes} | {read} | {rust_read} | {write} | {rust_write} |");
+    let rust_both = rust_read + more(|| (), || rust.write());
+    let (first, second) = (ratio(checked, rust_read), ratio(both, rust_both));
+    println!(
+        "| {name} | {bytes} | {checked:.0} | {rust_read:.0} | {first} | {both:.0} | {rust_both:.0} | {second} |"
+    );
 }
 
-fn each(rows: &[Vec<u8>], out: &mut [u8], again: Again) {
-    for row in rows {
-        black_box(again(3, black_box(row), out));
-    }
+fn ratio(rattle: f64, rust: f64) -> String {
+    format!("{:.1}", rust / rattle)
 }
 
-fn shown(nanoseconds: f64) -> String {
-    format!("{:.0}", nanoseconds / ROWS as f64)
-}
-
-/// The median time of one call of the first, and of how much longer the second takes. Both are timed in each run.
-fn first_and_more(mut first: impl FnMut(), mut second: impl FnMut()) -> (f64, f64) {
+/// The median of how much longer the second takes than the first, for each row. Both are timed in each run.
+fn more(mut first: impl FnMut(), mut second: impl FnMut()) -> f64 {
     let mut calls = 1;
     while timed(&mut second, calls) < RUN {
         calls *= 2;
     }
-    let mut times = || {
+    let mut longer = || {
         let time = timed(&mut first, calls);
-        (time, timed(&mut second, calls) - time)
+        timed(&mut second, calls) - time
     };
-    let (firsts, mores): (Vec<f64>, Vec<f64>) = (0..RUNS).map(|_| times()).unzip();
-    (
-        median(firsts) / f64::from(calls),
-        median(mores) / f64::from(calls),
-    )
+    median((0..RUNS).map(|_| longer()).collect()) / f64::from(calls) / ROWS as f64
 }
 
 fn median(mut times: Vec<f64>) -> f64 {

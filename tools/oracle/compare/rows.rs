@@ -18,7 +18,6 @@ const SHOWN: usize = 1600;
 pub struct Compare<T> {
     store: Store,
     tally: Tally,
-    rattle: bool,
     kind: PhantomData<T>,
 }
 
@@ -27,7 +26,6 @@ impl<T: Row> Compare<T> {
         Self {
             store: rows::store(random),
             tally: Tally::new(T::NAME, "rows"),
-            rattle: true,
             kind: PhantomData,
         }
     }
@@ -42,10 +40,17 @@ impl<T: Row> Compare<T> {
         let reading = T::model(version, row);
         let due = number(&reading);
         let mut faults = self.rust_faults(version, row, &reading);
-        faults.extend(self.rattle_faults(version, row, due));
-        if let Ok(value) = &reading.answer {
-            faults.extend(value.list_faults(row));
-        }
+        faults.extend(rattle_faults("row", T::rattle, version, row, row, due));
+        let veiled = model::blanked(row, &reading.veiled);
+        faults.extend(rattle_faults(
+            "veiled",
+            T::rattle_veil,
+            version,
+            row,
+            &veiled,
+            due,
+        ));
+        faults.extend(T::more_faults(&reading.answer, version, row));
         self.tally.count(due, faults.is_empty(), || {
             let shown = hex(&row[..row.len().min(SHOWN)]);
             let faults = faults.join(", ");
@@ -86,38 +91,8 @@ impl<T: Row> Compare<T> {
         faults
     }
 
-    /// The Rattle answers the model's number and writes an accepted row again, and nothing behind it; into an output
-    /// that is one byte too short it writes nothing and answers 40.
-    fn rattle_faults(&mut self, version: u32, row: &[u8], due: u32) -> Vec<String> {
-        let mut faults = Vec::new();
-        for (room, due) in [
-            (row.len() + BEHIND, due),
-            (row.len().saturating_sub(1), short(row, due)),
-        ] {
-            let mut out = vec![FILL; room];
-            let Some(number) = T::rattle(version, row, &mut out) else {
-                self.rattle = false;
-                break;
-            };
-            let mut due_out = vec![FILL; room];
-            if due == 0 {
-                due_out[..row.len()].copy_from_slice(row);
-            }
-            if number != due {
-                faults.push(format!("Rattle {number} with room for {room}"));
-            }
-            if out != due_out {
-                faults.push(format!("Rattle's output, with room for {room}"));
-            }
-        }
-        faults
-    }
-
     /// Prints what was counted; whether nothing differed and every answer was due at least once.
     pub fn finish(self) -> bool {
-        if !self.rattle {
-            println!("{}: no C function yet, the Rattle is left out", T::NAME);
-        }
         self.tally.print_all(T::ANSWERS)
     }
 
@@ -158,6 +133,39 @@ impl<T: Row> Compare<T> {
             self.set(row, at..at + 1, &values);
         }
     }
+}
+
+type Copy = fn(u32, &[u8], &mut [u8]) -> u32;
+
+/// The Rattle answers the model's number and writes what is due of an accepted row, and nothing behind it; into an output
+/// that is one byte too short it writes nothing and answers 40.
+fn rattle_faults(
+    name: &str,
+    copy: Copy,
+    version: u32,
+    row: &[u8],
+    written: &[u8],
+    due: u32,
+) -> Vec<String> {
+    let mut faults = Vec::new();
+    for (room, due) in [
+        (row.len() + BEHIND, due),
+        (row.len().saturating_sub(1), short(row, due)),
+    ] {
+        let mut out = vec![FILL; room];
+        let number = copy(version, row, &mut out);
+        let mut due_out = vec![FILL; room];
+        if due == 0 {
+            due_out[..row.len()].copy_from_slice(written);
+        }
+        if number != due {
+            faults.push(format!("Rattle's {name}: {number} with room for {room}"));
+        }
+        if out != due_out {
+            faults.push(format!("Rattle's {name}: output, with room for {room}"));
+        }
+    }
+    faults
 }
 
 fn number<T>(reading: &Reading<T>) -> u32 {
