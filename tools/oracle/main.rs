@@ -7,6 +7,7 @@ extern crate self as zeroize;
 mod build;
 mod cards;
 mod compare;
+mod contact_samples;
 mod covered;
 mod inputs;
 mod lent;

@@ -1,7 +1,8 @@
 //! Rows for the samples: valid ones, and what stands at each edge of each question.
 
+use crate::contact_samples::contacts;
 use crate::inputs::Random;
-use crate::model::{BUCKETS, Courier, Device, Queued, SEAL};
+use crate::model::{BUCKETS, Contact, Courier, Device, Queued, SEAL};
 use crate::original::Store;
 use crate::rows::{self, Row};
 use crate::tally::hex;
@@ -24,6 +25,9 @@ pub fn lines() -> Vec<String> {
     for (version, row) in courier(&mut random) {
         lines.push(line::<Courier>(&store, 'K', version, &row));
     }
+    for (version, row) in contacts(&mut random) {
+        lines.push(line::<Contact>(&store, 'P', version, &row));
+    }
     lines
 }
 
@@ -39,28 +43,28 @@ fn line<T: Row>(store: &Store, letter: char, version: u32, row: &[u8]) -> String
     format!("{letter} {version} {} {number}\n", hex(row))
 }
 
-type Rows = Vec<(u32, Vec<u8>)>;
+pub type Rows = Vec<(u32, Vec<u8>)>;
 
 /// Other versions, with a row and without one.
-fn versions(row: &[u8]) -> Rows {
+pub fn versions(row: &[u8]) -> Rows {
     let versions = [0, 1, 2, 4, 259, u32::MAX];
     let mut rows: Rows = versions.map(|version| (version, row.to_vec())).to_vec();
     rows.push((2, Vec::new()));
     rows
 }
 
-fn set(row: &[u8], at: usize, bytes: &[u8]) -> (u32, Vec<u8>) {
+pub fn set(row: &[u8], at: usize, bytes: &[u8]) -> (u32, Vec<u8>) {
     let mut row = row.to_vec();
     row[at..at + bytes.len()].copy_from_slice(bytes);
     (3, row)
 }
 
-fn cut(row: &[u8], sizes: impl IntoIterator<Item = usize>) -> Rows {
+pub fn cut(row: &[u8], sizes: impl IntoIterator<Item = usize>) -> Rows {
     let cut = |size| (3, row[..size].to_vec());
     sizes.into_iter().map(cut).collect()
 }
 
-fn longer(row: &[u8], more: &[u8]) -> (u32, Vec<u8>) {
+pub fn longer(row: &[u8], more: &[u8]) -> (u32, Vec<u8>) {
     (3, [row, more].concat())
 }
 

@@ -17,7 +17,7 @@ struct Tally {
     different: u64,
 }
 
-// One for each letter: L, W, N, C, D, Q, K.
+// One for each letter: L, W, N, C, D, Q, K, P.
 struct Tallies {
     read: Tally,
     written: Tally,
@@ -26,6 +26,7 @@ struct Tallies {
     devices: Tally,
     queued: Tally,
     courier: Tally,
+    contacts: Tally,
 }
 
 impl Tally {
@@ -69,6 +70,7 @@ impl Tallies {
             devices: Tally::new(),
             queued: Tally::new(),
             courier: Tally::new(),
+            contacts: Tally::new(),
         }
     }
 
@@ -82,6 +84,7 @@ impl Tallies {
             b'D' => self.devices = self.devices.with(same),
             b'Q' => self.queued = self.queued.with(same),
             b'K' => self.courier = self.courier.with(same),
+            b'P' => self.contacts = self.contacts.with(same),
             _ => {}
         }
         self
@@ -95,6 +98,7 @@ impl Tallies {
         self.devices.print(b'D');
         self.queued.print(b'Q');
         self.courier.print(b'K');
+        self.contacts.print(b'P');
     }
 }
 
@@ -171,11 +175,31 @@ fn card(case: &[u8], bytes: &mut [u8], again: &mut [u8]) -> bool {
     }
 }
 
+// What the function of contact rows answers, with lists that are long enough for a row of 2,048 bytes.
+fn contact_answer(version: u32, row: &[u8], again: &mut [u8]) -> u32 {
+    let mut chains = [0u8; 2448];
+    let mut skipped = [0u8; 2048];
+    let mut above = [0u32; 512];
+    let mut unacked = [0u32; 512];
+    let mut expired = [0u32; 512];
+    contact_face::sicklestar_contact(
+        version,
+        row,
+        &mut chains,
+        &mut skipped,
+        &mut above,
+        &mut unacked,
+        &mut expired,
+        again,
+    )
+}
+
 // What the function of the letter answers to a row.
 fn row_answer(letter: u8, version: u32, row: &[u8], again: &mut [u8]) -> u32 {
     match letter {
         b'D' => faces::sicklestar_device(version, row, again),
         b'Q' => faces::sicklestar_queued(version, row, again),
+        b'P' => contact_answer(version, row, again),
         _ => faces::sicklestar_courier(version, row, again),
     }
 }
@@ -204,7 +228,7 @@ fn same(letter: u8, case: &[u8], bytes: &mut [u8], again: &mut [u8]) -> bool {
         b'W' => leb128_written(case, bytes, again),
         b'N' => name(case, bytes),
         b'C' => card(case, bytes, again),
-        b'D' | b'Q' | b'K' => row(letter, case, bytes, again),
+        b'D' | b'Q' | b'K' | b'P' => row(letter, case, bytes, again),
         _ => false,
     }
 }
