@@ -18,8 +18,8 @@ ghost use Rattle.rows.specs.Answers.{writtenSays};
 ghost use Rattle.export.specs.Faces.{leaves, zeroOr};
 ghost use Rattle.faces.specs.Faces.{rewriteRow, covered, answered, insertRange};
 
-// 0 where a row was written, the question's number otherwise.
-fn zero_or(written: Written) -> u32
+// 0 where a row was written, the question's number otherwise: what other crates' faces answer too.
+pub fn zero_or(written: Written) -> u32
     ensures { λ r. ⌜ r ≡ zeroOr (writtenSays written) ⌝ }
 {
     match written {
