@@ -79,28 +79,8 @@ mod side {
             out: *mut u8,
             out_len: usize,
         ) -> u32;
-        fn sicklestar_veil_device(
-            version: u32,
-            row: *const u8,
-            len: usize,
-            out: *mut u8,
-            out_len: usize,
-        ) -> u32;
-        fn sicklestar_veil_contact(
-            version: u32,
-            row: *const u8,
-            len: usize,
-            out: *mut u8,
-            out_len: usize,
-        ) -> u32;
-        fn sicklestar_veil_queued(
-            version: u32,
-            row: *const u8,
-            len: usize,
-            out: *mut u8,
-            out_len: usize,
-        ) -> u32;
-        fn sicklestar_veil_courier(
+        fn sicklestar_veil(
+            kind: u32,
             version: u32,
             row: *const u8,
             len: usize,
@@ -167,7 +147,7 @@ mod side {
 
     type Row = unsafe extern "C" fn(u32, *const u8, usize, *mut u8, usize) -> u32;
 
-    /// 0 and the row, or its veiled copy, at the front of `out`; or the number of the question.
+    /// 0 and the row at the front of `out`; or the number of the question.
     fn copy(function: Row, version: u32, row: &[u8], out: &mut [u8]) -> u32 {
         // SAFETY: both slices are alive, of these lengths, and apart.
         unsafe {
@@ -193,20 +173,35 @@ mod side {
         copy(sicklestar_courier, version, row, out)
     }
 
+    /// 0 and the veiled copy of a row of this kind at the front of `out`; or the number of the question.
+    pub fn veil(kind: u32, version: u32, row: &[u8], out: &mut [u8]) -> u32 {
+        // SAFETY: both slices are alive, of these lengths, and apart.
+        unsafe {
+            sicklestar_veil(
+                kind,
+                version,
+                row.as_ptr(),
+                row.len(),
+                out.as_mut_ptr(),
+                out.len(),
+            )
+        }
+    }
+
     pub fn veil_device(version: u32, row: &[u8], out: &mut [u8]) -> u32 {
-        copy(sicklestar_veil_device, version, row, out)
+        veil(0, version, row, out)
     }
 
     pub fn veil_contact(version: u32, row: &[u8], out: &mut [u8]) -> u32 {
-        copy(sicklestar_veil_contact, version, row, out)
+        veil(1, version, row, out)
     }
 
     pub fn veil_queued(version: u32, row: &[u8], out: &mut [u8]) -> u32 {
-        copy(sicklestar_veil_queued, version, row, out)
+        veil(2, version, row, out)
     }
 
     pub fn veil_courier(version: u32, row: &[u8], out: &mut [u8]) -> u32 {
-        copy(sicklestar_veil_courier, version, row, out)
+        veil(3, version, row, out)
     }
 
     /// 0 or the number of the question.
