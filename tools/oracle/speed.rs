@@ -48,12 +48,19 @@ pub fn run() {
         let rust = Timed::courier(store(), &carried);
         line(name, &carried, rust, check, rattle::courier);
     }
-    for (name, size) in [
-        ("contact, small", SMALL),
-        ("contact, middle", MIDDLE),
-        ("contact, large", LARGE),
+    for (name, size, rising) in [
+        ("contact, small", SMALL, true),
+        ("contact, middle", MIDDLE, true),
+        ("contact, large", LARGE, true),
+        ("contact, large, keys in no order", LARGE, false),
     ] {
-        let contacts = several(|| build::contact(&mut random, size).row());
+        let contacts = several(|| {
+            let mut contact = build::contact(&mut random, size);
+            if rising {
+                contact.skipped.sort_by_key(|key| (key.gen_, key.idx));
+            }
+            contact.row()
+        });
         let rust = Timed::contacts(store(), &contacts);
         let check = rattle::check_contact;
         line(name, &contacts, rust, check, rattle::contact);
