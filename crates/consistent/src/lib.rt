@@ -147,6 +147,17 @@ fn places_rise(bytes: &[u8], first: usize, count: usize) -> bool
     true
 }
 
+// Whether a place stands there. Two places mostly differ in the last byte of idx, which is compared first.
+fn is_place(bytes: &[u8], at: usize, place: u64) -> bool
+    requires { ⌜ at + 46 ≤ length (now bytes) ⌝ }
+    ensures { λ r. ⌜ r ≡ eqb place (placeNumber (drop at (now (bytes .entry)))) ⌝ }
+{
+    if wide(bytes[at + 5]) == place % 256 {
+        return place == place_at(bytes, at);
+    }
+    false
+}
+
 // Whether a place is among them.
 fn comes_again(bytes: &[u8], first: usize, count: usize, place: u64) -> bool
     requires { ⌜ PlacesStand count (drop first (now bytes)) ⌝ }
@@ -155,7 +166,7 @@ fn comes_again(bytes: &[u8], first: usize, count: usize, place: u64) -> bool
     let mut p = first;
     let mut i: usize = 0;
     while i < count {
-        if place == place_at(bytes, p) {
+        if is_place(bytes, p, place) {
             return true;
         }
         p += 46;

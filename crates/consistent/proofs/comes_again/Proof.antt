@@ -1,11 +1,12 @@
 -- `consistent::comes_again` meets its contract. The invariant: the places from the i-th on answer as all of them.
-use Prim.Native.Nat.{ℕ, _+_, _-_, _≤_}
-use mathlib.Core.List.{List, _∷_}
-use mathlib.Core.Path.{_≡_, refl}
+use Prim.Native.Nat.{ℕ, _-_, _≤_}
+use mathlib.Core.List.{List}
+use mathlib.Core.Path.{refl, sym, _∙_}
 use native.Mathlib.Omega.{arith}
 use native.Mathlib.Nat.{sub-zero}
 use lib.ListN.{drop}
 use borrow.Author.Needs.{needs}
+use borrow.Author.Tests.{eqb-true, eqb-false}
 use lib.Dec.{eqb}
 use Rattle.rows.specs.Checks.{any}
 use Rattle.consistent.specs.Cells.{placeNumber, placeNumbers, PlacesStand}
@@ -31,18 +32,17 @@ count l = l .before .before .args .count
 turned : (c : tie.In-loop Inv-loop μ-loop) → let l = c .before in Turn (λ l. 46) placeNumber (bytes l) (count l) (l .loop .i) (l .loop .p)
 turned c = let l = c .before in turn (λ l. 46) placeNumber (bytes l) (count l) (l .loop .i) (l .loop .p) (c .loop-test .taken) (l .loop .inv .1)
 
-here : (c : tie.After-place-at Inv-loop μ-loop) → let l = c .before .before in
-    placeNumbers (count l - l .loop .i) (drop (l .loop .p) (bytes l)) ≡ c .place-at .result ∷ placeNumbers (count l - (l .loop .i + 1)) (drop (l .loop .p + 46) (bytes l))
-here c = rw (c .place-at .ensures .0) (turned (c .before) .here)
-
 loop-holds : tie.Need-loop-holds Inv-loop μ-loop
 loop-holds c = rw sub-zero (omega arith, c .before .pre, record { so = refl })
 
-place-at-requires : tie.Need-place-at-requires Inv-loop μ-loop
-place-at-requires c κs = omega (arith, turned c .fits)
+is-place-requires : tie.Need-is-place-requires Inv-loop μ-loop
+is-place-requires c κs = omega (arith, turned c .fits)
 
 returns : tie.Need-returns Inv-loop μ-loop
-returns c = let l = c .before .before .before in among-found (l .loop .inv .2) (here (c .before)) (c .if1 .taken)
+returns c =
+    let t = c .before in
+    let l = t .before .before in
+    among-found (l .loop .inv .2) (turned (t .before) .here) (eqb-true _ _ (sym (t .is-place .ensures) ∙ c .if1 .taken))
 
 add-p : tie.Need-add-p Inv-loop μ-loop
 add-p c = omega (arith, turned (c .before .before) .fits)
@@ -54,7 +54,10 @@ loop-less : tie.Need-loop-less Inv-loop μ-loop
 loop-less c = search needs
 
 loop-again : tie.Need-loop-again Inv-loop μ-loop
-loop-again c = let u = c .before in (omega arith, turned (u .before) .rooms, among-on (u .before .before .loop .inv .2) (here u) (c .if1 .left))
+loop-again c =
+    let t = c .before in
+    let here = turned (t .before) in
+    (omega arith, here .rooms, among-on (t .before .before .loop .inv .2) (here .here) (eqb-false _ _ (sym (t .is-place .ensures) ∙ c .if1 .left)))
 
 returns-2 : tie.Need-returns-2 Inv-loop μ-loop
 returns-2 c = let l = c .before in among-end (l .loop .inv .2) (none-left (λ l. 46) placeNumber (bytes l) (count l) (l .loop .i) (l .loop .p) (c .loop-test .left))
@@ -66,7 +69,7 @@ comes-again-spec =
     Inv-loop
     μ-loop
     loop-holds
-    place-at-requires
+    is-place-requires
     returns
     add-p
     add-i

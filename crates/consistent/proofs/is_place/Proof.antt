@@ -1,0 +1,49 @@
+-- `consistent::is_place` meets its contract: places whose last bytes differ are not the same.
+use Prim.Native.Nat.{ℕ, _+_, _%_, _<_}
+use mathlib.Core.List.{List}
+use mathlib.Core.Path.{_≡_, sym, ap, _∙_}
+use native.Mathlib.Omega.{arith}
+use lib.ListN.{getD, drop}
+use lib.Seq.{getD-drop}
+use lib.Dec.{eqb}
+use borrow.Author.Needs.{needs}
+use borrow.Author.Tests.{ne-eqb}
+use Rattle.layout.specs.Form as form
+use Rattle.consistent.specs.Cells.{placeNumber}
+use Rattle.consistent.proofs.is_place.Statement.{statement}
+use Rattle.consistent.proofs.is_place.Tie as tie
+
+-- d is the last byte of idx
+last : (l : List ℕ) (at d : ℕ) → d ≡ getD l (at + 5) 0 → d < 256 → d ≡ placeNumber (drop at l) % 256
+unfolding form.bigEndian
+last l at d e small = simp getD-drop (omega arith)
+
+add-wide : tie.Need-add-wide
+add-wide c = search needs
+
+shared-slice-read-wide : tie.Need-shared-slice-read-wide
+shared-slice-read-wide c = search needs
+
+wide-requires : tie.Need-wide-requires
+wide-requires c κs = search needs
+
+place-at-requires : tie.Need-place-at-requires
+place-at-requires c κs = search needs
+
+returns : tie.Need-returns
+returns c = ap (eqb (c .before .before .before .before .before .args .place)) (c .place-at .ensures .0)
+
+returns-2 : tie.Need-returns-2
+returns-2 c =
+    let w = c .before in
+    let s = w .before .before .before in
+    let l = s .args .bytes .now in
+    let at = s .args .at in
+    sym
+    (ne-eqb (s .args .place) (placeNumber (drop at l)) (λ same.
+    c .if1 .left (last l at (w .wide .result) (w .wide .ensures .0) (w .wide .ensures .1) ∙ ap (λ (n : ℕ). n % 256) (sym same))))
+
+pub is-place-spec : {M : Type 1} → statement M
+is-place-spec =
+    tie.close
+    (tie.spec add-wide shared-slice-read-wide wide-requires place-at-requires returns returns-2)
