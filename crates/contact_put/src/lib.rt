@@ -5,6 +5,7 @@ use rows::Dir;
 use rows::PairingRole;
 use rows::Verification;
 ghost use mathlib.Core.Path.{_≡_};
+ghost use mathlib.Core.Bool.{true};
 ghost use mathlib.Core.List.{[], _∷_, _++_};
 ghost use Prim.Native.Nat.{_+_, _*_, _≤_};
 ghost use lib.ListN.{length, take};
@@ -34,8 +35,9 @@ fn send_typed(send: SendChain) -> u8
     }
 }
 
+// True; what the type of each field says, as facts.
 pub fn typed(contact: Contact) -> bool
-    ensures { λ r. ⌜ ContactTyped contact ⌝ }
+    ensures { λ r. ⌜ (r ≡ true) × ContactTyped contact ⌝ }
 {
     let send = contact.send;
     send_typed(send);

@@ -32,7 +32,7 @@ b5 c = c .before .before .before .before .before
 
 -- there is room for 140 bytes
 fit : (c : tie.After-typed) → c .before .before .args .at + 140 ≤ length (c .before .before .args .out .now)
-fit c = omega (arith, keys-long (c .before .before .args .contact) (c .typed .ensures), c .before .before .pre)
+fit c = omega (arith, keys-long (c .before .before .args .contact) (c .typed .ensures .1), c .before .before .pre)
 
 typed-requires : tie.Need-typed-requires
 typed-requires c κs = search needs

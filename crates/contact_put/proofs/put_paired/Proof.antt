@@ -30,7 +30,7 @@ b4 c = c .before .before .before .before
 
 -- there is room for 85 bytes and the card
 fit : (c : tie.After-typed) → c .before .before .args .at + (85 + length (image (c .before .before .args .contact .peer))) ≤ length (c .before .before .args .out .now)
-fit c = omega (arith, paired-long (c .before .before .args .contact) (c .typed .ensures), c .before .before .pre .1)
+fit c = omega (arith, paired-long (c .before .before .args .contact) (c .typed .ensures .1), c .before .before .pre .1)
 
 typed-requires : tie.Need-typed-requires
 typed-requires c κs = search needs
@@ -50,7 +50,7 @@ put-run-requires : tie.Need-put-run-requires
 put-run-requires c κs =
     let b = c .before .before .before .before .before in
     let a = b1 b in
-    (room 48 (stored (a .put-codes .ensures) on stored (b .put-16 .ensures)) (omega (arith, fit (t a))), omega (arith, t a .typed .ensures .th))
+    (room 48 (stored (a .put-codes .ensures) on stored (b .put-16 .ensures)) (omega (arith, fit (t a))), omega (arith, t a .typed .ensures .1 .th))
 
 put-16-requires-2 : tie.Need-put-16-requires-2
 put-16-requires-2 c κs =
@@ -83,7 +83,7 @@ returns c =
     let its = t a .before .before .args .contact in
     wrote-as (paired-is its)
     (a .put-codes .ensures .1 then (b .put-16 .ensures .1 then (
-    whole-run {s = its .th} 48 (t a .typed .ensures .th) (d .put-run .ensures .1) then (e .put-162 .ensures .1 then p .put-peer .ensures .1)
+    whole-run {s = its .th} 48 (t a .typed .ensures .1 .th) (d .put-run .ensures .1) then (e .put-162 .ensures .1 then p .put-peer .ensures .1)
     )))
 
 pub put-paired-spec : {M : Type 1} → statement M

@@ -25,7 +25,7 @@ b2 c = c .before .before .before .before .before .before
 fit : (c : tie.Then1) → let s = c .before .before .before in s .args .at + 65 ≤ length (s .args .out .now)
 fit c =
     let s = c .before .before .before in
-    omega (arith, pending-long (s .args .contact) (c .before .typed .ensures) (c .if1 .taken), s .pre)
+    omega (arith, pending-long (s .args .contact) (c .before .typed .ensures .1) (c .if1 .taken), s .pre)
 
 typed-requires : tie.Need-typed-requires
 typed-requires c κs = search needs
@@ -59,7 +59,7 @@ put-byte-requires-2 : tie.Need-put-byte-requires-2
 put-byte-requires-2 c κs =
     let e = c .before in
     let s = e .before .before .before in
-    omega (arith, pending-absent (s .args .contact) (e .before .typed .ensures) (e .if1 .left), s .pre)
+    omega (arith, pending-absent (s .args .contact) (e .before .typed .ensures .1) (e .if1 .left), s .pre)
 
 same-length-2 : tie.Need-same-length-2
 same-length-2 c = search needs

@@ -33,7 +33,7 @@ b4 c = c .before .before .before .before .before .before
 fit : (c : tie.After-known-told) → let s = c .before .before .before .before .before in s .args .at + 39 ≤ length (s .args .out .now)
 fit c =
     let s = c .before .before .before .before .before in
-    omega (arith, send-long (s .args .contact) (c .before .before .before .typed .ensures) (c .before .send .given .1), s .pre)
+    omega (arith, send-long (s .args .contact) (c .before .before .before .typed .ensures .1) (c .before .send .given .1), s .pre)
 
 typed-requires : tie.Need-typed-requires
 typed-requires c κs = search needs
@@ -48,7 +48,7 @@ put-byte-requires : tie.Need-put-byte-requires
 put-byte-requires c κs =
     let t = c .before in
     let s = t .before .before .before .before in
-    omega (arith, send-absent (s .args .contact) (t .before .before .typed .ensures) (t .enum-told .given .1), s .pre)
+    omega (arith, send-absent (s .args .contact) (t .before .before .typed .ensures .1) (t .enum-told .given .1), s .pre)
 
 same-length : tie.Need-same-length
 same-length c = search needs
@@ -106,7 +106,7 @@ returns-2 c =
     let a = b1 b in
     let known = k a .before in
     let dir = wrote-as (ap (λ (n : ℕ). n ∷ []) (sym (d .before .dir-byte .ensures))) (d .put-byte4 .ensures .1) .1 in
-    wrote-as (send-some (known .before .before .before .before .args .contact) (known .before .before .typed .ensures) (known .send .given .1))
+    wrote-as (send-some (known .before .before .before .before .args .contact) (known .before .before .typed .ensures .1) (known .send .given .1))
     (a .put-byte2 .ensures .1 then (b .put-byte3 .ensures .1 then (dir then (e .put-be .ensures .1 then f .put-32 .ensures .1))))
 
 pub put-send-spec : {M : Type 1} → statement M

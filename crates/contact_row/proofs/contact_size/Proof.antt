@@ -54,7 +54,7 @@ abbrev t1 : tie.Else1 → tie.After-typed
 t1 c = c .before .before
 
 counts : (c : tie.Else1) → counted (contact (t1 c)) (lent (t1 c)) ≡ true
-counts c = let t = t1 c in counted-is (contact t) (t .typed .ensures) (lent t) (bytes t) (c .before .counts-fit .ensures) ∙ not-false _ (c .if1 .left)
+counts c = let t = t1 c in counted-is (contact t) (t .typed .ensures .1) (lent t) (bytes t) (c .before .counts-fit .ensures) ∙ not-false _ (c .if1 .left)
 
 all : (c : tie.Else1) → AllCounted (contact (t1 c)) (lent (t1 c))
 all c = all-counted (contact (t1 c)) (lent (t1 c)) (counts c)
@@ -108,8 +108,8 @@ counts-fit-requires c κs = search needs
 returns : tie.Need-returns
 returns c =
     let t = c .before .before in
-    sym (not-counted (contact t) (t .typed .ensures) (lent t) (bytes t)
-    (counted-is (contact t) (t .typed .ensures) (lent t) (bytes t) (c .before .counts-fit .ensures) ∙ not-true _ (c .if1 .taken)))
+    sym (not-counted (contact t) (t .typed .ensures .1) (lent t) (bytes t)
+    (counted-is (contact t) (t .typed .ensures .1) (lent t) (bytes t) (c .before .counts-fit .ensures) ∙ not-true _ (c .if1 .taken)))
 
 card-size-requires : tie.Need-card-size-requires
 card-size-requires c κs = search needs
@@ -126,7 +126,7 @@ returns-2 c =
     let r = c .before .before in
     let e = r .before .before in
     let t = t1 e in
-    ap writtenSays told ∙ sym (bad-card (contact t) (t .typed .ensures) (lent t) (bytes t) (counts e) (learn writtenSays (r .card-size .ensures) told))
+    ap writtenSays told ∙ sym (bad-card (contact t) (t .typed .ensures .1) (lent t) (bytes t) (counts e) (learn writtenSays (r .card-size .ensures) told))
 
 chains-size-requires : tie.Need-chains-size-requires
 chains-size-requires c κs = all (e1 c) .chains .held
@@ -144,7 +144,7 @@ returns-3 c =
     let k = r .before in
     let e = e1 k in
     let t = t1 e in
-    ap writtenSays told ∙ sym (bad-chains (contact t) (t .typed .ensures) (lent t) (bytes t) (counts e) (card-asked k) (learn writtenSays (r .chains-size .ensures) told))
+    ap writtenSays told ∙ sym (bad-chains (contact t) (t .typed .ensures .1) (lent t) (bytes t) (counts e) (card-asked k) (learn writtenSays (r .chains-size .ensures) told))
 
 skipped-size-requires : tie.Need-skipped-size-requires
 skipped-size-requires c κs = all (e1 (k1 c)) .skipped .held
@@ -163,7 +163,7 @@ returns-4 c =
     let e = e1 (k1 k) in
     let t = t1 e in
     ap writtenSays told
-    ∙ sym (bad-skipped (contact t) (t .typed .ensures) (lent t) (bytes t) (counts e) (card-asked (k1 k)) (chains k .0) (learn writtenSays (r .skipped-size .ensures) told))
+    ∙ sym (bad-skipped (contact t) (t .typed .ensures .1) (lent t) (bytes t) (counts e) (card-asked (k1 k)) (chains k .0) (learn writtenSays (r .skipped-size .ensures) told))
 
 consistent-lent-requires : tie.Need-consistent-lent-requires
 consistent-lent-requires c κs =
@@ -187,7 +187,7 @@ row-size-requires c κs =
     let k = c .before .before .before in
     let e = e3 k in
     let t = t1 e in
-    let few = sizes-few (contact t) (t .typed .ensures) (lent t) (bytes t) (counts e) (card-asked (k1 (k2 k))) (chains (k2 k) .0) (skips k .0) (card-is (k1 (k2 k))) (chains (k2 k) .1) (skips k .1) in
+    let few = sizes-few (contact t) (t .typed .ensures .1) (lent t) (bytes t) (counts e) (card-asked (k1 (k2 k))) (chains (k2 k) .0) (skips k .0) (card-is (k1 (k2 k))) (chains (k2 k) .1) (skips k .1) in
     (few .0, few .1, few .2, all e .above .few, all e .unacked .few, all e .expired .few)
 
 returns-5 : tie.Need-returns-5
@@ -197,8 +197,8 @@ returns-5 c =
     let e = e3 k in
     let t = t1 e in
     let told = learn refusalIn (r .consistent-lent .ensures) (c .before .enum-told4 .given .1) in
-    ap wrote (c .row-size .ensures ∙ size-is (contact t) (t .typed .ensures) (lent t) (bytes t) (counts e) (card-asked (k1 (k2 k))) (chains (k2 k) .0) (skips k .0) (card-is (k1 (k2 k))) (chains (k2 k) .1) (skips k .1))
-    ∙ sym (whole (contact t) (t .typed .ensures) (lent t) (bytes t) (counts e) (card-asked (k1 (k2 k))) (chains (k2 k) .0) (skips k .0) told)
+    ap wrote (c .row-size .ensures ∙ size-is (contact t) (t .typed .ensures .1) (lent t) (bytes t) (counts e) (card-asked (k1 (k2 k))) (chains (k2 k) .0) (skips k .0) (card-is (k1 (k2 k))) (chains (k2 k) .1) (skips k .1))
+    ∙ sym (whole (contact t) (t .typed .ensures .1) (lent t) (bytes t) (counts e) (card-asked (k1 (k2 k))) (chains (k2 k) .0) (skips k .0) told)
 
 returns-6 : tie.Need-returns-6
 returns-6 c =
@@ -206,7 +206,7 @@ returns-6 c =
     let k = r .before in
     let e = e3 k in
     let t = t1 e in
-    sym (inconsistent (contact t) (t .typed .ensures) (lent t) (bytes t) (counts e) (card-asked (k1 (k2 k))) (chains (k2 k) .0) (skips k .0)
+    sym (inconsistent (contact t) (t .typed .ensures .1) (lent t) (bytes t) (counts e) (card-asked (k1 (k2 k))) (chains (k2 k) .0) (skips k .0)
     (learn refusalIn (r .consistent-lent .ensures) (c .before .verdict .given .1)))
 
 pub contact-size-spec : {M : Type 1} → statement M

@@ -79,7 +79,7 @@ put-row-requires c κs =
     let e = c .before in
     let k = e .before in
     let t = t1 k in
-    writable (contact t) (t .typed .ensures) (lent t) (bytes t) (out t) (size k) (omega (arith, length-is (contact t) (lent t) (out t) (size k), e .if1 .left))
+    writable (contact t) (t .typed .ensures .1) (lent t) (bytes t) (out t) (size k) (omega (arith, length-is (contact t) (lent t) (out t) (size k), e .if1 .left))
 
 same-length : tie.Need-same-length
 same-length c = search needs
