@@ -13,7 +13,7 @@ use Rattle.store.proofs.Tests.{truth, both, any-found}
 use Rattle.store.proofs.Bytes.{agree-equal}
 
 pub disjoint-apart : (run : List ℕ) (es : List Entry) → Disjoint es → Apart run es
-disjoint-apart run es h i j p a b v c =
+disjoint-apart run es h i j p a b v w c =
     let e = entryAt es j in
     let x = both (within (length run) e && covers e p) (getD (veiledIn e (partOf run e)) (p - e .start) false) v in
     let y = both (within (length run) e) (covers e p) (x .0) in
@@ -33,14 +33,14 @@ module _ (run : List ℕ) (es : List Entry) (apart : Apart run es) where
   hidden p = anyBelow (length es) (λ j. veils run (entryAt es j) p)
 
   -- a byte that is open in row i is kept
-  kept : (i p : ℕ) → i < length es → T (covers (entryAt es i) p) → T (not (veils run (entryAt es i) p)) → hidden p ≡ false
-  kept i p b c o = go (hidden p) refl
+  kept : (i p : ℕ) → i < length es → T (within (length run) (entryAt es i)) → T (covers (entryAt es i) p) → T (not (veils run (entryAt es i) p)) → hidden p ≡ false
+  kept i p b w c o = go (hidden p) refl
     where
       go : (t : Bool) → hidden p ≡ t → t ≡ false
       go false h = refl
       go true h =
           let r = any-found (length es) (λ j. veils run (entryAt es j) p) (truth (hidden p) h) in
-          absurd (T-not (veils run (entryAt es i) p) o (apart i (r .0) p b (r .1) (r .2) c))
+          absurd (T-not (veils run (entryAt es i) p) o (apart i (r .0) p b (r .1) (r .2) w c))
 
   pub blanked-equal : VeilEqual run (blanked run es) es
-  blanked-equal = agree-equal run (blanked run es) es (record { long = sym (zero-long hidden run); each = λ i p b w c o. sym (zero-at hidden run p (kept i p b c o)) })
+  blanked-equal = agree-equal run (blanked run es) es (record { long = sym (zero-long hidden run); each = λ i p b w c o. sym (zero-at hidden run p (kept i p b w c o)) })

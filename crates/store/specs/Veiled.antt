@@ -79,9 +79,11 @@ zeroIf f (b ∷ bs) = cond (f 0) 0 b ∷ zeroIf (λ p. f (suc p)) bs
 abbrev pub blanked : (run : List ℕ) → List Entry → List ℕ
 blanked run es = zeroIf (λ p. anyBelow (length es) (λ j. veils run (entryAt es j) p)) run
 
--- a byte that one row veils is open in no other
+-- a byte that one row veils is open in no other row of the run
 abbrev pub Apart : (run : List ℕ) → List Entry → Type 0
-Apart run es = (i j p : ℕ) → i < length es → j < length es → T (veils run (entryAt es j) p) → T (covers (entryAt es i) p) → T (veils run (entryAt es i) p)
+Apart run es =
+    (i j p : ℕ) → i < length es → j < length es → T (veils run (entryAt es j) p) → T (within (length run) (entryAt es i)) → T (covers (entryAt es i) p)
+    → T (veils run (entryAt es i) p)
 
 -- no byte is in two rows
 abbrev pub Disjoint : List Entry → Type 0
