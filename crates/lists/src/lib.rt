@@ -7,6 +7,7 @@ use fields::U16Field;
 use fields::U32Field;
 use fields::U64Field;
 use layout::question;
+use reader::RangeField;
 ghost use mathlib.Core.Path.{_≡_};
 ghost use Prim.Native.Nat.{_≤_};
 ghost use lib.ListN.{length};
@@ -139,13 +140,10 @@ fn skipped_ends(row: &[u8], at: usize, n: usize) -> EndField
 fn range_end(row: &[u8], at: usize) -> EndField
     ensures { λ r. ⌜ endSays r ≡ ended (readAt (group range) (now (row .entry)) at) ⌝ }
 {
-    let U32Field::Value(_from, at1) = fields::u32_at(row, at) else {
+    let RangeField::Value(_from, _to, next) = reader::range_at(row, at) else {
         return EndField::Refused(question::FIELD);
     };
-    let U32Field::Value(_to, at2) = fields::u32_at(row, at1) else {
-        return EndField::Refused(question::FIELD);
-    };
-    EndField::Value(at2)
+    EndField::Value(next)
 }
 
 // n ranges from a position.
