@@ -1,5 +1,5 @@
--- Questions 17 to 24 of a contact's value, in their order: the number of the first that is a no.
--- Assumes nothing.
+-- Questions 17 to 24 of a contact's value, in their order: the number of the first that is a no. The code's own words, which nobody has to believe:
+-- that the layout of a contact row asks the same is proved (proofs/Consistent.antt). Assumes nothing.
 use Prim.Native.Nat.{ℕ, _+_}
 use mathlib.Core.List.{List}
 use mathlib.Core.Bool.{Bool, cond, _&&_}

@@ -37,6 +37,7 @@ pub record Lists : Type 0 where
   -- from, to, from, to
   pub above : List ℕ
   pub unacked : List ℕ
+  -- from, to, from, to
   pub expired : List ℕ
 
 abbrev pub lists : (chains skipped above unacked expired : List ℕ) → Lists

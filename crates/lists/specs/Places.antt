@@ -14,7 +14,7 @@ module _ {B : Type 0} (w : ℕ) (f : Form B) where
   readPlaces zero l = value [] l
   readPlaces (suc n) l = andThen (f .read (take w l)) (λ b rest. onto (λ bs. b ∷ bs) (readPlaces n (drop w l)))
 
-  -- ... and none after a refusal
+  -- the same records; none at all where one of them is refused
   unfoldable pub placesOf : ℕ → List ℕ → List B
   placesOf n l = itemsOf f (readPlaces n l)
 

@@ -68,7 +68,7 @@ fn veil_courier(version: u32, row: &[u8], out: &mut [u8]) -> Written
     held.row(&zeros[..len], out)
 }
 
-// Veiled: the card's beacon key, and every key of the contact and of its chains.
+// Veiled: the card's beacon key, the doors, the route key, and the keys of chains, pending and skipped. The card's 1184-byte key is not.
 fn veil_contact(version: u32, row: &[u8], out: &mut [u8]) -> Written
     ensures { λ r. ⌜ leaves r (now (out .exit)) ≡ veils (layouts.contact version) (now (row .entry)) (now (out .entry)) ⌝ }
 {
