@@ -1,3 +1,1 @@
 pub mod Config
-pub mod Image
-pub mod RoundTrip

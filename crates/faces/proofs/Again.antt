@@ -13,9 +13,9 @@ use Rattle.rows.specs.Answers.{verdictOf}
 use Rattle.rows.specs.declared.Verdict.the-variants.{Accepted, Refused}
 use Rattle.rows.proofs.Proved.{proved}
 use Rattle.sealed.proofs.RoundTrip.{three, rewritten, accepted-not}
-use Rattle.device.specs.Device as spec
-use Rattle.device.specs.Device.{deviceRead, image}
-use Rattle.device.specs.declared.DeviceRead.{DeviceRead}
+use Rattle.device_row.specs.Row as spec
+use Rattle.device_row.specs.Row.{deviceRead, image}
+use Rattle.device_row.specs.declared.DeviceRead.{DeviceRead}
 use Rattle.export.specs.Faces.{leaves, zeroOr, shown}
 use Rattle.faces.specs.Faces.{rewriteRow}
 

@@ -33,7 +33,7 @@ pub fn zero_or(written: Written) -> u32
 pub extern "C" fn sicklestar_device(version: u32, row: &[u8], out: &mut [u8]) -> u32
     ensures { λ r. ⌜ leaves r (now (out .exit)) ≡ rewriteRow (device version) (now (row .entry)) (now (out .entry)) ⌝ }
 {
-    let read = device::read_device(version, row);
+    let read = device_row::read_device(version, row);
     let verdict = read.verdict;
     if let Verdict::Refused(number) = verdict {
         return number as u32;

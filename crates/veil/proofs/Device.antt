@@ -14,10 +14,10 @@ use Rattle.rows.specs.Rows.{device}
 use Rattle.rows.specs.declared.Verdict.the-variants.{Accepted}
 use Rattle.rows.proofs.Proved.{proved}
 use Rattle.sealed.proofs.RoundTrip.{three}
-use Rattle.device.specs.Device as spec
-use Rattle.device.specs.Device.{deviceOf, deviceRead, valueOf, image}
-use Rattle.device.specs.declared.Device.{Device}
-use Rattle.device.specs.declared.DeviceRead.{DeviceRead}
+use Rattle.device_row.specs.Row as spec
+use Rattle.device_row.specs.Row.{deviceOf, deviceRead, valueOf, image}
+use Rattle.device_row.specs.declared.Device.{Device}
+use Rattle.device_row.specs.declared.DeviceRead.{DeviceRead}
 use Rattle.veil.specs.Veil.{veils}
 use Rattle.veil.proofs.Copied.{granted, copied}
 

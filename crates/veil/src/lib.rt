@@ -26,7 +26,7 @@ fn refusal(verdict: Verdict) -> u8
 fn veil_device(version: u32, row: &[u8], out: &mut [u8]) -> Written
     ensures { λ r. ⌜ leaves r (now (out .exit)) ≡ veils (layouts.device version) (now (row .entry)) (now (out .entry)) ⌝ }
 {
-    let read = device::read_device(version, row);
+    let read = device_row::read_device(version, row);
     let verdict = read.verdict;
     let Verdict::Accepted = verdict else {
         return Written::Refused(refusal(verdict));

@@ -4,7 +4,7 @@ use mathlib.Core.Path.{sym, ap, _∙_}
 use borrow.Author.Needs.{needs}
 use Rattle.layout.proofs.At.{typed}
 use Rattle.rows.specs.Rows.{device}
-use Rattle.device.specs.declared.DeviceRead.{DeviceRead}
+use Rattle.device_row.specs.declared.DeviceRead.{DeviceRead}
 use Rattle.faces.proofs.Again.{refused-row, granted-row, device-read-write}
 use Rattle.faces.proofs.sicklestar_device.Statement.{statement}
 use Rattle.faces.proofs.sicklestar_device.Tie as tie

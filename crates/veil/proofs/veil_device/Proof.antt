@@ -3,7 +3,7 @@ use mathlib.Core.Path.{ap, _∙_}
 use borrow.Author.Needs.{needs}
 use Rattle.layout.proofs.At.{typed}
 use Rattle.rows.specs.Rows.{device}
-use Rattle.device.specs.declared.DeviceRead.{DeviceRead}
+use Rattle.device_row.specs.declared.DeviceRead.{DeviceRead}
 use Rattle.veil.proofs.Copied.{not-copied}
 use Rattle.veil.proofs.Device.{device-copied}
 use Rattle.veil.proofs.veil_device.Statement.{statement}

@@ -1,4 +1,4 @@
--- `device::Device::row` meets its contract: what is asked first, then the room, then the row.
+-- `device_row::Device::row` meets its contract: what is asked first, then the room, then the row.
 use mathlib.Core.List.{List}
 use Prim.Native.Nat.{ℕ}
 use mathlib.Core.Path.{_≡_, sym, ap, _∙_}
@@ -12,10 +12,10 @@ use Rattle.rows.specs.Rows.{device}
 use Rattle.rows.specs.Answers.{writtenSays, leaves}
 use Rattle.rows.specs.declared.Written.{Written}
 use Rattle.rows.specs.declared.Written.the-variants.{Length}
-use Rattle.device.specs.Device.{image}
-use Rattle.device.specs.declared.Device.{Device}
-use Rattle.device.proofs.Device.row.Statement.{statement}
-use Rattle.device.proofs.Device.row.Tie as tie
+use Rattle.device_row.specs.Row.{image}
+use Rattle.device_row.specs.declared.Device.{Device}
+use Rattle.device_row.proofs.Device.row.Statement.{statement}
+use Rattle.device_row.proofs.Device.row.Tie as tie
 
 -- the answer of device_size, once it is a length
 abbrev start : tie.After-known-told → tie.Start

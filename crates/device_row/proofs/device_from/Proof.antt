@@ -1,7 +1,7 @@
--- `device::device_from` meets its contract: the numbers, and the key copied.
+-- `device_row::device_from` meets its contract: the numbers, and the key copied.
 use borrow.Author.Needs.{needs}
-use Rattle.device.proofs.device_from.Statement.{statement}
-use Rattle.device.proofs.device_from.Tie as tie
+use Rattle.device_row.proofs.device_from.Statement.{statement}
+use Rattle.device_row.proofs.device_from.Tie as tie
 
 copy-32-requires : tie.Need-copy-32-requires
 copy-32-requires c κs = search needs

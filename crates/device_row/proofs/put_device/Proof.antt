@@ -1,14 +1,14 @@
--- `device::put_device` meets its contract: one writer behind another.
+-- `device_row::put_device` meets its contract: one writer behind another.
 use mathlib.Core.Path.{_≡_}
 use native.Mathlib.Omega.{arith}
 use lib.ListN.{length}
 use borrow.Author.Needs.{needs}
 use Rattle.put.proofs.Put.{_then_, wrote-long}
-use Rattle.device.specs.Device.{image}
-use Rattle.device.specs.declared.Device.{Device}
-use Rattle.device.proofs.Image.{image-is, length-image}
-use Rattle.device.proofs.put_device.Statement.{statement}
-use Rattle.device.proofs.put_device.Tie as tie
+use Rattle.device_row.specs.Row.{image}
+use Rattle.device_row.specs.declared.Device.{Device}
+use Rattle.device_row.proofs.Image.{image-is, length-image}
+use Rattle.device_row.proofs.put_device.Statement.{statement}
+use Rattle.device_row.proofs.put_device.Tie as tie
 
 -- ---- the places behind each store, from the next one's view
 abbrev day : tie.After-put-32 → tie.After-put-be

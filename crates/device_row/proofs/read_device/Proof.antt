@@ -1,10 +1,10 @@
--- `device::read_device` meets its contract: checked, then copied; or refused, and zeros.
+-- `device_row::read_device` meets its contract: checked, then copied; or refused, and zeros.
 use mathlib.Core.Path.{ap, subst, _∙_}
 use borrow.Author.Needs.{needs}
 use Rattle.layout.proofs.At.{learn}
 use Rattle.device.specs.Device.{checkSays, checkRefusal, Placed}
-use Rattle.device.proofs.read_device.Statement.{statement}
-use Rattle.device.proofs.read_device.Tie as tie
+use Rattle.device_row.proofs.read_device.Statement.{statement}
+use Rattle.device_row.proofs.read_device.Tie as tie
 
 check-device-requires : tie.Need-check-device-requires
 check-device-requires c κs = search needs

@@ -1,10 +1,10 @@
--- `device::device_size` meets its contract: question 11, as reading the row would ask it.
+-- `device_row::device_size` meets its contract: question 11, as reading the row would ask it.
 use mathlib.Core.Path.{sym, _∙_}
 use borrow.Author.Needs.{needs}
 use Rattle.device.proofs.Config.{config-yes, config-no}
-use Rattle.device.proofs.Image.{asked-yes, asked-no}
-use Rattle.device.proofs.device_size.Statement.{statement}
-use Rattle.device.proofs.device_size.Tie as tie
+use Rattle.device_row.proofs.Image.{asked-yes, asked-no}
+use Rattle.device_row.proofs.device_size.Statement.{statement}
+use Rattle.device_row.proofs.device_size.Tie as tie
 
 typed-requires : tie.Need-typed-requires
 typed-requires c κs = search needs

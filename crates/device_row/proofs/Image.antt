@@ -16,8 +16,8 @@ use Rattle.layout.proofs.Front.{byte-print, length-bytesOf}
 use Rattle.rows.specs.Checks.{courierAllowed}
 use Rattle.rows.specs.Rows.{device}
 use Rattle.rows.proofs.Proved.{proved}
-use Rattle.device.specs.Device.{valueOf, image, courierPart, DeviceTyped}
-use Rattle.device.specs.declared.Device.{Device}
+use Rattle.device_row.specs.Row.{valueOf, image, courierPart, DeviceTyped}
+use Rattle.device_row.specs.declared.Device.{Device}
 
 -- a & b & c is (a, (b, c))
 infixr 2 _&_

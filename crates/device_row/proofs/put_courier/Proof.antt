@@ -1,9 +1,9 @@
--- `device::put_courier` meets its contract: one writer behind another.
+-- `device_row::put_courier` meets its contract: one writer behind another.
 use borrow.Author.Needs.{needs}
 use Rattle.put.proofs.Put.{_then_}
-use Rattle.device.specs.Device as spec
-use Rattle.device.proofs.put_courier.Statement.{statement}
-use Rattle.device.proofs.put_courier.Tie as tie
+use Rattle.device_row.specs.Row as spec
+use Rattle.device_row.proofs.put_courier.Statement.{statement}
+use Rattle.device_row.proofs.put_courier.Tie as tie
 
 flag-byte-requires : tie.Need-flag-byte-requires
 flag-byte-requires c κs = search needs

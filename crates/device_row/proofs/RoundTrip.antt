@@ -26,10 +26,10 @@ use Rattle.rows.specs.declared.Verdict.the-variants as verdict
 use Rattle.rows.specs.declared.Written.{Written}
 use Rattle.rows.specs.declared.Written.the-variants.{Length, Refused}
 use Rattle.rows.proofs.Proved.{proved}
-use Rattle.device.specs.Device.{deviceRead, valueOf, image, DeviceTyped, accepts, DeviceLaws}
-use Rattle.device.specs.declared.Device.{Device}
-use Rattle.device.specs.declared.DeviceRead.{DeviceRead}
-use Rattle.device.proofs.Image.{image-read, asked-no}
+use Rattle.device_row.specs.Row.{deviceRead, valueOf, image, DeviceTyped, accepts, DeviceLaws}
+use Rattle.device_row.specs.declared.Device.{Device}
+use Rattle.device_row.specs.declared.DeviceRead.{DeviceRead}
+use Rattle.device_row.proofs.Image.{image-read, asked-no}
 
 -- ---- of any row: what a writer that answers a length has left in the output
 abbrev granted : ℕ → List ℕ → Left
