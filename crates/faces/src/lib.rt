@@ -46,7 +46,7 @@ pub extern "C" fn sicklestar_device(version: u32, row: &[u8], out: &mut [u8]) ->
 pub extern "C" fn sicklestar_queued(version: u32, row: &[u8], out: &mut [u8]) -> u32
     ensures { λ r. ⌜ leaves r (now (out .exit)) ≡ rewriteRow (queued version) (now (row .entry)) (now (out .entry)) ⌝ }
 {
-    let read = queued::read_queued(version, row);
+    let read = queued_row::read_queued(version, row);
     let verdict = read.verdict;
     if let Verdict::Refused(number) = verdict {
         return number as u32;

@@ -20,11 +20,11 @@ use Rattle.rows.specs.declared.Verdict.the-variants.{Accepted}
 use Rattle.rows.proofs.Proved.{proved}
 use Rattle.sealed.proofs.Buckets.{queued-few}
 use Rattle.sealed.proofs.RoundTrip.{three}
-use Rattle.queued.specs.Queued as spec
-use Rattle.queued.specs.Queued.{ownOf, tagOf, queuedOf, decoded, envelopeOf, valueOf, image}
-use Rattle.queued.specs.declared.Queued.{Queued}
-use Rattle.queued.specs.declared.QueuedRead.{QueuedRead}
-use Rattle.queued.proofs.RoundTrip.{sealed-last}
+use Rattle.queued_row.specs.Row as spec
+use Rattle.queued_row.specs.Row.{ownOf, tagOf, queuedOf, decoded, envelopeOf, valueOf, image}
+use Rattle.queued_row.specs.declared.Queued.{Queued}
+use Rattle.queued_row.specs.declared.QueuedRead.{QueuedRead}
+use Rattle.queued_row.proofs.RoundTrip.{sealed-last}
 use Rattle.veil.specs.Veil.{veils}
 use Rattle.veil.proofs.Copied.{Granted, granted, copied}
 use Rattle.veil.proofs.Text.{Tail, long, tail}

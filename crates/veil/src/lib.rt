@@ -40,7 +40,7 @@ fn veil_device(version: u32, row: &[u8], out: &mut [u8]) -> Written
 fn veil_queued(version: u32, row: &[u8], out: &mut [u8]) -> Written
     ensures { λ r. ⌜ leaves r (now (out .exit)) ≡ veils (layouts.queued version) (now (row .entry)) (now (out .entry)) ⌝ }
 {
-    let read = queued::read_queued(version, row);
+    let read = queued_row::read_queued(version, row);
     let verdict = read.verdict;
     let Verdict::Accepted = verdict else {
         return Written::Refused(refusal(verdict));

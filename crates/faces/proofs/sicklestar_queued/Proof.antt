@@ -7,9 +7,9 @@ use borrow.Author.Needs.{needs}
 use Rattle.layout.specs.Write.{writes}
 use Rattle.layout.proofs.At.{typed}
 use Rattle.rows.specs.Rows.{queued}
-use Rattle.queued.specs.Queued.{image}
-use Rattle.queued.specs.declared.QueuedRead.{QueuedRead}
-use Rattle.queued.proofs.RoundTrip.{queued-laws}
+use Rattle.queued_row.specs.Row.{image}
+use Rattle.queued_row.specs.declared.QueuedRead.{QueuedRead}
+use Rattle.queued_row.proofs.RoundTrip.{queued-laws}
 use Rattle.faces.proofs.Again.{refused-row, granted-row}
 use Rattle.faces.proofs.sicklestar_queued.Statement.{statement}
 use Rattle.faces.proofs.sicklestar_queued.Tie as tie

@@ -7,8 +7,8 @@ use borrow.Author.Needs.{needs}
 use Rattle.layout.specs.Write.{writes}
 use Rattle.layout.proofs.At.{typed}
 use Rattle.rows.specs.Rows.{queued}
-use Rattle.queued.specs.Queued.{image}
-use Rattle.queued.specs.declared.QueuedRead.{QueuedRead}
+use Rattle.queued_row.specs.Row.{image}
+use Rattle.queued_row.specs.declared.QueuedRead.{QueuedRead}
 use Rattle.veil.proofs.Copied.{not-copied}
 use Rattle.veil.proofs.Text.{Tail, take-zeros, prefix-long}
 use Rattle.veil.proofs.Queued.{blanked, queued-tail, queued-copied}

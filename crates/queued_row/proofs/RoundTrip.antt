@@ -18,11 +18,11 @@ use Rattle.rows.specs.declared.Verdict.the-variants.{Accepted}
 use Rattle.rows.specs.declared.Written.the-variants.{Length}
 use Rattle.rows.proofs.Proved.{proved}
 use Rattle.sealed.proofs.RoundTrip.{Stands, stands, printed-back, three, rewritten, last-at, accepted-not}
-use Rattle.queued.specs.Queued as spec
-use Rattle.queued.specs.Queued.{ownOf, tagOf, sOf, queuedOf, decoded, envelopeOf, valueOf, image, QueuedTyped, QueuedLaws}
-use Rattle.queued.specs.declared.Queued.{Queued}
-use Rattle.queued.specs.declared.QueuedRead.{QueuedRead}
-use Rattle.queued.proofs.Image.{fits}
+use Rattle.queued_row.specs.Row as spec
+use Rattle.queued_row.specs.Row.{ownOf, tagOf, sOf, queuedOf, decoded, envelopeOf, valueOf, image, QueuedTyped, QueuedLaws}
+use Rattle.queued_row.specs.declared.Queued.{Queued}
+use Rattle.queued_row.specs.declared.QueuedRead.{QueuedRead}
+use Rattle.queued_row.proofs.Image.{fits}
 
 -- ---- a row's last bytes are its sealed text
 front : value.Queued → List ℕ

@@ -1,4 +1,4 @@
--- `queued::read_queued` meets its contract: checked, then copied; or refused, and zeros.
+-- `queued_row::read_queued` meets its contract: checked, then copied; or refused, and zeros.
 use Prim.Native.Nat.{_-_, _≤_}
 use mathlib.Core.Path.{_≡_, ap, subst, _∙_}
 use native.Mathlib.Omega.{arith}
@@ -6,9 +6,9 @@ use native.Mathlib.Nat.{sub-zero}
 use lib.ListN.{length, drop, length-drop}
 use borrow.Author.Needs.{needs}
 use Rattle.layout.proofs.At.{learn}
 use Rattle.queued.specs.Queued.{checkSays, checkRefusal, Placed}
-use Rattle.queued.proofs.read_queued.Statement.{statement}
-use Rattle.queued.proofs.read_queued.Tie as tie
+use Rattle.queued_row.proofs.read_queued.Statement.{statement}
+use Rattle.queued_row.proofs.read_queued.Tie as tie
 
 check-queued-requires : tie.Need-check-queued-requires
 check-queued-requires c κs = search needs

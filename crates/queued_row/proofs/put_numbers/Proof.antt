@@ -1,9 +1,9 @@
--- `queued::put_numbers` meets its contract: one writer behind another.
+-- `queued_row::put_numbers` meets its contract: one writer behind another.
 use native.Mathlib.Omega.{arith}
 use borrow.Author.Needs.{needs}
 use Rattle.put.proofs.Put.{_then_, wrote-long}
-use Rattle.queued.proofs.put_numbers.Statement.{statement}
-use Rattle.queued.proofs.put_numbers.Tie as tie
+use Rattle.queued_row.proofs.put_numbers.Statement.{statement}
+use Rattle.queued_row.proofs.put_numbers.Tie as tie
 
 put-be-requires : tie.Need-put-be-requires
 put-be-requires c κs = search needs

@@ -1,9 +1,9 @@
--- `queued::own_typed` meets its contract: in each case, what the types of its fields say.
+-- `queued_row::own_typed` meets its contract: in each case, what the types of its fields say.
 use mathlib.Core.Path.{sym, subst}
 use borrow.Author.Needs.{needs}
-use Rattle.queued.specs.Queued.{OwnTyped}
-use Rattle.queued.proofs.own_typed.Statement.{statement}
-use Rattle.queued.proofs.own_typed.Tie as tie
+use Rattle.queued_row.specs.Row.{OwnTyped}
+use Rattle.queued_row.proofs.own_typed.Statement.{statement}
+use Rattle.queued_row.proofs.own_typed.Tie as tie
 
 enum-told : tie.Need-enum-told
 enum-told c = search needs

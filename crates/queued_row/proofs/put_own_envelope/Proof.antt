@@ -1,15 +1,15 @@
--- `queued::put_own_envelope` meets its contract: the flag alone, or the flag and one writer behind another.
+-- `queued_row::put_own_envelope` meets its contract: the flag alone, or the flag and one writer behind another.
 use mathlib.Core.Path.{_≡_, ap}
 use native.Mathlib.Omega.{arith}
 use lib.ListN.{length}
 use borrow.Author.Needs.{needs}
 use Rattle.put.proofs.Put.{_then_, wrote-long}
 use Rattle.sealed.proofs.Text.{wrote-as}
-use Rattle.queued.specs.Queued.{ownImage}
-use Rattle.queued.specs.declared.Queued.{Queued}
-use Rattle.queued.proofs.Image.{own-absent, own-present, length-present}
-use Rattle.queued.proofs.put_own_envelope.Statement.{statement}
-use Rattle.queued.proofs.put_own_envelope.Tie as tie
+use Rattle.queued_row.specs.Row.{ownImage}
+use Rattle.queued_row.specs.declared.Queued.{Queued}
+use Rattle.queued_row.proofs.Image.{own-absent, own-present, length-present}
+use Rattle.queued_row.proofs.put_own_envelope.Statement.{statement}
+use Rattle.queued_row.proofs.put_own_envelope.Tie as tie
 
 -- ---- the places on the way of an envelope
 abbrev outgoing : tie.After-known-told → Queued

@@ -1,4 +1,4 @@
--- `queued::Queued::row` meets its contract: what is asked first, then the room, then the row.
+-- `queued_row::Queued::row` meets its contract: what is asked first, then the room, then the row.
 use Prim.Native.Nat.{ℕ}
 use mathlib.Core.List.{List}
 use mathlib.Core.Path.{_≡_, sym, ap, _∙_}
@@ -12,9 +12,9 @@ use Rattle.rows.specs.Rows.{queued}
 use Rattle.rows.specs.Answers.{writtenSays, leaves}
 use Rattle.rows.specs.declared.Written.{Written}
 use Rattle.rows.specs.declared.Written.the-variants.{Length}
-use Rattle.queued.specs.Queued.{image}
-use Rattle.queued.proofs.Queued.row.Statement.{statement}
-use Rattle.queued.proofs.Queued.row.Tie as tie
+use Rattle.queued_row.specs.Row.{image}
+use Rattle.queued_row.proofs.Queued.row.Statement.{statement}
+use Rattle.queued_row.proofs.Queued.row.Tie as tie
 
 -- the answer of queued_size, once it is a length
 abbrev start : tie.After-known-told → tie.Start

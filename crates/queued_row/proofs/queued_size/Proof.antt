@@ -1,4 +1,4 @@
--- `queued::queued_size` meets its contract: question 13, and then the sum of the fields' lengths.
+-- `queued_row::queued_size` meets its contract: question 13, and then the sum of the fields' lengths.
 use Prim.Native.Nat.{ℕ, _+_, _≤_}
 use mathlib.Core.Bool.{true}
 use mathlib.Core.List.{List}
@@ -10,11 +10,11 @@ use Rattle.layout.specs.Write.{wrote}
 use Rattle.rows.specs.Checks.{sealedQueued}
 use Rattle.data.proofs.Leb.{few-printed}
 use Rattle.sealed.proofs.Buckets.{queued-few}
-use Rattle.queued.specs.Queued.{image, ownImage, QueuedTyped}
-use Rattle.queued.specs.declared.Queued.{Queued}
-use Rattle.queued.proofs.Image.{whole, bad-length, length-image, own-absent, length-present}
-use Rattle.queued.proofs.queued_size.Statement.{statement}
-use Rattle.queued.proofs.queued_size.Tie as tie
+use Rattle.queued_row.specs.Row.{image, ownImage, QueuedTyped}
+use Rattle.queued_row.specs.declared.Queued.{Queued}
+use Rattle.queued_row.proofs.Image.{whole, bad-length, length-image, own-absent, length-present}
+use Rattle.queued_row.proofs.queued_size.Statement.{statement}
+use Rattle.queued_row.proofs.queued_size.Tie as tie
 
 -- what is known once the length is allowed
 abbrev t1 : tie.After-leb128-len → tie.After-typed

@@ -1,13 +1,13 @@
--- `queued::put_queued` meets its contract: one writer behind another.
+-- `queued_row::put_queued` meets its contract: one writer behind another.
 use mathlib.Core.Path.{refl}
 use native.Mathlib.Omega.{arith}
 use lib.ListN.{length}
 use borrow.Author.Needs.{needs}
 use Rattle.put.proofs.Put.{_then_, wrote-long, whole-run}
 use Rattle.sealed.proofs.Text.{wrote-as}
-use Rattle.queued.proofs.Image.{image-is, length-image}
-use Rattle.queued.proofs.put_queued.Statement.{statement}
-use Rattle.queued.proofs.put_queued.Tie as tie
+use Rattle.queued_row.proofs.Image.{image-is, length-image}
+use Rattle.queued_row.proofs.put_queued.Statement.{statement}
+use Rattle.queued_row.proofs.put_queued.Tie as tie
 
 -- ---- the places on the way, from each writer to the one before it
 abbrev p1 : tie.After-put-own-envelope → tie.After-put-be

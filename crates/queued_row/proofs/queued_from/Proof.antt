@@ -1,9 +1,9 @@
--- `queued::queued_from` meets its contract: the numbers, and the two runs copied or zeros.
+-- `queued_row::queued_from` meets its contract: the numbers, and the two runs copied or zeros.
 use mathlib.Core.Path.{subst}
 use borrow.Author.Needs.{needs}
 use Rattle.queued.specs.Queued.{OwnPlaces, EnvelopePlaces}
-use Rattle.queued.proofs.queued_from.Statement.{statement}
-use Rattle.queued.proofs.queued_from.Tie as tie
+use Rattle.queued_row.proofs.queued_from.Statement.{statement}
+use Rattle.queued_row.proofs.queued_from.Tie as tie
 
 -- the places of the envelope lie in the row
 places : (c : tie.After-known-told) → EnvelopePlaces (c .before .before .before .before .args .row .now) (c .before .own .given .0 .0)

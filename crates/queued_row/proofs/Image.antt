@@ -19,11 +19,11 @@ use Rattle.rows.specs.Values as value
 use Rattle.rows.specs.Checks.{sealedQueued}
 use Rattle.rows.specs.Rows.{ownEnvelope, queued}
 use Rattle.rows.proofs.Proved.{proved}
-use Rattle.queued.specs.Queued as spec
-use Rattle.queued.specs.Queued.{envelopeOf, valueOf, ownImage, image, OwnTyped, QueuedTyped}
-use Rattle.queued.specs.declared.OwnEnvelope.{OwnEnvelope}
-use Rattle.queued.specs.declared.OwnEnvelope.the-variants.{Absent, Present}
-use Rattle.queued.specs.declared.Queued.{Queued}
+use Rattle.queued_row.specs.Row as spec
+use Rattle.queued_row.specs.Row.{envelopeOf, valueOf, ownImage, image, OwnTyped, QueuedTyped}
+use Rattle.queued_row.specs.declared.OwnEnvelope.{OwnEnvelope}
+use Rattle.queued_row.specs.declared.OwnEnvelope.the-variants.{Absent, Present}
+use Rattle.queued_row.specs.declared.Queued.{Queued}
 
 -- ---- the envelope's bytes
 pub own-absent : (q : Queued) → q .envelope ≡ Absent → ownImage q ≡ 0 ∷ []
