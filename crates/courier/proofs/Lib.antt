@@ -1,3 +1,1 @@
 pub mod Either
-pub mod Image
-pub mod RoundTrip

@@ -60,7 +60,7 @@ pub extern "C" fn sicklestar_queued(version: u32, row: &[u8], out: &mut [u8]) ->
 pub extern "C" fn sicklestar_courier(version: u32, row: &[u8], out: &mut [u8]) -> u32
     ensures { λ r. ⌜ leaves r (now (out .exit)) ≡ rewriteRow (courier version) (now (row .entry)) (now (out .entry)) ⌝ }
 {
-    let read = courier::read_courier(version, row);
+    let read = courier_row::read_courier(version, row);
     let verdict = read.verdict;
     if let Verdict::Refused(number) = verdict {
         return number as u32;

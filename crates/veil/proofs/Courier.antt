@@ -23,11 +23,11 @@ use Rattle.rows.specs.declared.Verdict.the-variants.{Accepted}
 use Rattle.rows.proofs.Proved.{proved}
 use Rattle.sealed.proofs.Buckets.{carried-few}
 use Rattle.sealed.proofs.RoundTrip.{three}
-use Rattle.courier.specs.Courier as spec
-use Rattle.courier.specs.Courier.{heldOf, textOf, decoded, valueOf, image}
-use Rattle.courier.specs.declared.Held.{Held}
-use Rattle.courier.specs.declared.HeldRead.{HeldRead}
-use Rattle.courier.proofs.RoundTrip.{sealed-last}
+use Rattle.courier_row.specs.Row as spec
+use Rattle.courier_row.specs.Row.{heldOf, textOf, decoded, valueOf, image}
+use Rattle.courier_row.specs.declared.Held.{Held}
+use Rattle.courier_row.specs.declared.HeldRead.{HeldRead}
+use Rattle.courier_row.proofs.RoundTrip.{sealed-last}
 use Rattle.veil.specs.Veil.{veils}
 use Rattle.veil.proofs.Copied.{Granted, granted, copied}
 use Rattle.veil.proofs.Text.{Tail, long, tail}

@@ -56,7 +56,7 @@ fn veil_queued(version: u32, row: &[u8], out: &mut [u8]) -> Written
 fn veil_courier(version: u32, row: &[u8], out: &mut [u8]) -> Written
     ensures { λ r. ⌜ leaves r (now (out .exit)) ≡ veils (layouts.courier version) (now (row .entry)) (now (out .entry)) ⌝ }
 {
-    let read = courier::read_courier(version, row);
+    let read = courier_row::read_courier(version, row);
     let verdict = read.verdict;
     let Verdict::Accepted = verdict else {
         return Written::Refused(refusal(verdict));

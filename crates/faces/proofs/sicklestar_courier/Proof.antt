@@ -7,9 +7,9 @@ use borrow.Author.Needs.{needs}
 use Rattle.layout.specs.Write.{writes}
 use Rattle.layout.proofs.At.{typed}
 use Rattle.rows.specs.Rows.{courier}
-use Rattle.courier.specs.Courier.{image}
-use Rattle.courier.specs.declared.HeldRead.{HeldRead}
-use Rattle.courier.proofs.RoundTrip.{courier-laws}
+use Rattle.courier_row.specs.Row.{image}
+use Rattle.courier_row.specs.declared.HeldRead.{HeldRead}
+use Rattle.courier_row.proofs.RoundTrip.{courier-laws}
 use Rattle.faces.proofs.Again.{refused-row, granted-row}
 use Rattle.faces.proofs.sicklestar_courier.Statement.{statement}
 use Rattle.faces.proofs.sicklestar_courier.Tie as tie

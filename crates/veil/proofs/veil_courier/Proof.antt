@@ -7,8 +7,8 @@ use borrow.Author.Needs.{needs}
 use Rattle.layout.specs.Write.{writes}
 use Rattle.layout.proofs.At.{typed}
 use Rattle.rows.specs.Rows.{courier}
-use Rattle.courier.specs.Courier.{image}
-use Rattle.courier.specs.declared.HeldRead.{HeldRead}
+use Rattle.courier_row.specs.Row.{image}
+use Rattle.courier_row.specs.declared.HeldRead.{HeldRead}
 use Rattle.veil.proofs.Copied.{not-copied}
 use Rattle.veil.proofs.Text.{Tail, take-zeros, prefix-long}
 use Rattle.veil.proofs.Courier.{blanked, courier-tail, courier-copied}

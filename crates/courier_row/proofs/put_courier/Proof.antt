@@ -1,12 +1,12 @@
--- `courier::put_courier` meets its contract: by the kind.
+-- `courier_row::put_courier` meets its contract: by the kind.
 use mathlib.Core.Path.{ap}
 use native.Mathlib.Omega.{arith}
 use lib.ListN.{length}
 use borrow.Author.Needs.{needs}
 use Rattle.sealed.proofs.Text.{wrote-as}
-use Rattle.courier.proofs.Image.{image-carried, image-tombstone}
-use Rattle.courier.proofs.put_courier.Statement.{statement}
-use Rattle.courier.proofs.put_courier.Tie as tie
+use Rattle.courier_row.proofs.Image.{image-carried, image-tombstone}
+use Rattle.courier_row.proofs.put_courier.Statement.{statement}
+use Rattle.courier_row.proofs.put_courier.Tie as tie
 
 enum-told : tie.Need-enum-told
 enum-told c = search needs

@@ -18,13 +18,13 @@ use Rattle.rows.specs.declared.Verdict.the-variants.{Accepted}
 use Rattle.rows.specs.declared.Written.the-variants.{Length}
 use Rattle.rows.proofs.Proved.{proved}
 use Rattle.sealed.proofs.RoundTrip.{Stands, stands, printed-back, three, rewritten, last-at, accepted-not}
-use Rattle.courier.specs.Courier as spec
-use Rattle.courier.specs.Courier.{heldOf, textOf, decoded, valueAs, valueOf, image, HeldTyped, CourierLaws}
 use Rattle.courier.specs.declared.Kind.{Kind}
 use Rattle.courier.specs.declared.Kind.the-variants.{Carried, Tombstone}
-use Rattle.courier.specs.declared.Held.{Held}
-use Rattle.courier.specs.declared.HeldRead.{HeldRead}
-use Rattle.courier.proofs.Image.{carried-fits, tombstone-fits}
+use Rattle.courier_row.specs.Row as spec
+use Rattle.courier_row.specs.Row.{heldOf, textOf, decoded, valueAs, valueOf, image, HeldTyped, CourierLaws}
+use Rattle.courier_row.specs.declared.Held.{Held}
+use Rattle.courier_row.specs.declared.HeldRead.{HeldRead}
+use Rattle.courier_row.proofs.Image.{carried-fits, tombstone-fits}
 
 -- ---- a row's last bytes are its sealed text
 front : value.Carried → List ℕ

@@ -1,11 +1,11 @@
--- `courier::put_tombstone` meets its contract: one writer behind another.
+-- `courier_row::put_tombstone` meets its contract: one writer behind another.
 use native.Mathlib.Omega.{arith}
 use borrow.Author.Needs.{needs}
 use Rattle.put.proofs.Put.{_then_, wrote-long}
 use Rattle.sealed.proofs.Text.{wrote-as}
-use Rattle.courier.proofs.Image.{tombstone-is, length-tombstone}
-use Rattle.courier.proofs.put_tombstone.Statement.{statement}
-use Rattle.courier.proofs.put_tombstone.Tie as tie
+use Rattle.courier_row.proofs.Image.{tombstone-is, length-tombstone}
+use Rattle.courier_row.proofs.put_tombstone.Statement.{statement}
+use Rattle.courier_row.proofs.put_tombstone.Tie as tie
 
 -- ---- the places on the way, from each writer to the one before it
 abbrev t : tie.After-put-byte → tie.After-typed

@@ -21,11 +21,11 @@ use Rattle.rows.proofs.Proved.{proved}
 use Rattle.envelope.specs.Envelope as env
 use Rattle.envelope.specs.declared.Envelope.{Envelope}
 use Rattle.envelope.proofs.Image.{length-image}
-use Rattle.courier.specs.Courier as spec
-use Rattle.courier.specs.Courier.{carriedOf, tombstoneOf, valueAs, carriedImage, tombstoneImage, image, HeldTyped}
 use Rattle.courier.specs.declared.Kind.{Kind}
 use Rattle.courier.specs.declared.Kind.the-variants.{Carried, Tombstone}
-use Rattle.courier.specs.declared.Held.{Held}
+use Rattle.courier_row.specs.Row as spec
+use Rattle.courier_row.specs.Row.{carriedOf, tombstoneOf, valueAs, carriedImage, tombstoneImage, image, HeldTyped}
+use Rattle.courier_row.specs.declared.Held.{Held}
 
 -- ---- the bytes
 -- what a courier carries for its depositor

@@ -1,9 +1,9 @@
--- `courier::held_from` meets its contract: by the kind.
+-- `courier_row::held_from` meets its contract: by the kind.
 use mathlib.Core.Path.{subst}
 use borrow.Author.Needs.{needs}
 use Rattle.courier.specs.Courier.{Places}
-use Rattle.courier.proofs.held_from.Statement.{statement}
-use Rattle.courier.proofs.held_from.Tie as tie
+use Rattle.courier_row.proofs.held_from.Statement.{statement}
+use Rattle.courier_row.proofs.held_from.Tie as tie
 
 enum-known-at : tie.Need-enum-known-at
 enum-known-at c = search needs

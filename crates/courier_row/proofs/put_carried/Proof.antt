@@ -1,11 +1,11 @@
--- `courier::put_carried` meets its contract: one writer behind another.
+-- `courier_row::put_carried` meets its contract: one writer behind another.
 use native.Mathlib.Omega.{arith}
 use borrow.Author.Needs.{needs}
 use Rattle.put.proofs.Put.{_then_, wrote-long}
 use Rattle.sealed.proofs.Text.{wrote-as}
-use Rattle.courier.proofs.Image.{carried-is, length-carried, length-in}
-use Rattle.courier.proofs.put_carried.Statement.{statement}
-use Rattle.courier.proofs.put_carried.Tie as tie
+use Rattle.courier_row.proofs.Image.{carried-is, length-carried, length-in}
+use Rattle.courier_row.proofs.put_carried.Statement.{statement}
+use Rattle.courier_row.proofs.put_carried.Tie as tie
 
 -- ---- the places on the way, from each writer to the one before it
 abbrev t : tie.After-put-byte → tie.After-typed

@@ -1,6 +1,6 @@
--- `courier::tombstone_from` meets its contract: the numbers, and two runs copied.
-use Rattle.courier.proofs.tombstone_from.Statement.{statement}
-use Rattle.courier.proofs.tombstone_from.Tie as tie
+-- `courier_row::tombstone_from` meets its contract: the numbers, and two runs copied.
+use Rattle.courier_row.proofs.tombstone_from.Statement.{statement}
+use Rattle.courier_row.proofs.tombstone_from.Tie as tie
 
 copy-16-requires : tie.Need-copy-16-requires
 copy-16-requires c κs = c .before .pre .tag

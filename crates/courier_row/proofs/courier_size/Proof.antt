@@ -1,4 +1,4 @@
--- `courier::courier_size` meets its contract: question by question, as reading the row would ask.
+-- `courier_row::courier_size` meets its contract: question by question, as reading the row would ask.
 use Prim.Native.Nat.{ℕ}
 use mathlib.Core.List.{List}
 use mathlib.Core.Bool.{true, not}
@@ -10,10 +10,10 @@ use borrow.Author.Tests.{eq-eqb, ne-eqb}
 use Rattle.layout.specs.Write.{wrote}
 use Rattle.rows.specs.Checks.{sealedCarried, notZero}
 use Rattle.sealed.proofs.Buckets.{carried-few}
-use Rattle.courier.specs.declared.Held.{Held}
-use Rattle.courier.proofs.Image.{whole-tombstone, length-tombstone, bad-expiry, bad-copies, bad-length, whole-carried, length-carried}
-use Rattle.courier.proofs.courier_size.Statement.{statement}
-use Rattle.courier.proofs.courier_size.Tie as tie
+use Rattle.courier_row.specs.declared.Held.{Held}
+use Rattle.courier_row.proofs.Image.{whole-tombstone, length-tombstone, bad-expiry, bad-copies, bad-length, whole-carried, length-carried}
+use Rattle.courier_row.proofs.courier_size.Statement.{statement}
+use Rattle.courier_row.proofs.courier_size.Tie as tie
 
 -- what is known at each place
 abbrev held : tie.After-typed → Held

@@ -1,4 +1,4 @@
--- `courier::Held::row` meets its contract: what is asked first, then the room, then the row.
+-- `courier_row::Held::row` meets its contract: what is asked first, then the room, then the row.
 use Prim.Native.Nat.{ℕ}
 use mathlib.Core.List.{List}
 use mathlib.Core.Path.{_≡_, sym, ap, _∙_}
@@ -12,9 +12,9 @@ use Rattle.rows.specs.Rows.{courier}
 use Rattle.rows.specs.Answers.{writtenSays, leaves}
 use Rattle.rows.specs.declared.Written.{Written}
 use Rattle.rows.specs.declared.Written.the-variants.{Length}
-use Rattle.courier.specs.Courier.{image}
-use Rattle.courier.proofs.Held.row.Statement.{statement}
-use Rattle.courier.proofs.Held.row.Tie as tie
+use Rattle.courier_row.specs.Row.{image}
+use Rattle.courier_row.proofs.Held.row.Statement.{statement}
+use Rattle.courier_row.proofs.Held.row.Tie as tie
 
 -- the answer of courier_size, once it is a length
 abbrev start : tie.After-known-told → tie.Start

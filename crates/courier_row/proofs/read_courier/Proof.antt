@@ -1,4 +1,4 @@
--- `courier::read_courier` meets its contract: checked, then copied; or refused, and zeros.
+-- `courier_row::read_courier` meets its contract: checked, then copied; or refused, and zeros.
 use Prim.Native.Nat.{ℕ, _-_}
 use mathlib.Core.List.{List}
 use mathlib.Core.Path.{_≡_, ap, subst, _∙_}
@@ -7,11 +7,12 @@ use native.Mathlib.Nat.{sub-zero}
 use lib.ListN.{length, length-drop}
 use borrow.Author.Needs.{needs}
 use Rattle.layout.proofs.At.{learn}
-use Rattle.courier.specs.Courier.{checkSays, checkRefusal, Placed, Places, sealedAt, textOf, heldFrom}
+use Rattle.courier.specs.Courier.{checkSays, checkRefusal, Placed, Places, sealedAt, heldFrom}
 use Rattle.courier.specs.declared.HeldAt.{HeldAt}
 use Rattle.courier.specs.declared.HeldAt.the-variants.{Carried, Tombstone}
-use Rattle.courier.proofs.read_courier.Statement.{statement}
-use Rattle.courier.proofs.read_courier.Tie as tie
+use Rattle.courier_row.specs.Row.{textOf}
+use Rattle.courier_row.proofs.read_courier.Statement.{statement}
+use Rattle.courier_row.proofs.read_courier.Tie as tie
 
 -- the sealed text starts where its length tells
 starts : (row : List ℕ) (at : HeldAt) → Places row at → length row - length (textOf (heldFrom row at)) ≡ sealedAt row at
