@@ -46,7 +46,7 @@ use Rattle.fields.proofs.U32Field.Laws as S′
 use Rattle.reader.specs.Reader.{behind, rangeOf, rangeSays}
 use Rattle.reader.specs.declared.Reader.{Reader}
 use Rattle.reader.specs.declared.RangeField.{RangeField}
-use Rattle.reader.proofs.Walk.{copied, plains, asked, calls-fn, calls-own, gone}
+use Rattle.walks.proofs.Walk.{copied, plains, asked, calls-fn, calls-own, gone}
 use Rattle.reader.proofs.Range.{range-read}
 use Rattle.reader.proofs.Reader as T
 use Rattle.reader.proofs.Reader.Laws as T′
