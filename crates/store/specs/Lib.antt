@@ -5,4 +5,5 @@ pub mod Accepted
 pub mod Veiled
 pub mod Used
 pub mod Walk
+pub mod Find
 pub mod Proved
