@@ -1,0 +1,2 @@
+mod Told
+pub mod Laws
