@@ -1,0 +1,82 @@
+-- What is read in rows.
+-- Assumes nothing.
+use Prim.Native.Nat.{ℕ}
+use mathlib.Core.List.{List}
+use mathlib.Core.Bool.{Bool, true, false, cond}
+use mathlib.Core.Option.{Option, none, some}
+use mathlib.Core.Path.{_≡_, refl, sym, ap, _∙_}
+use native.Mathlib.Omega.{arith}
+use lib.Dec.{T, eqb}
+use Rattle.layout.specs.Questions.{UNACKED}
+use Rattle.layout.specs.Read.{first}
+use Rattle.layout.specs.Form.{u32}
+use Rattle.layout.specs.Form as form
+use Rattle.layout.specs.Layout.{Layout, done, field, ask, refusalOf, Answer, accepted, refusedBy, readRow}
+use Rattle.layout.specs.Layout as layout
+use Rattle.layout.specs.RowLaws.{Bytes}
+use Rattle.rows.specs.Values.{Contact}
+use Rattle.rows.specs.Rows as rows
+use Rattle.rows.proofs.Proved.{proved}
+use Rattle.lists.specs.Lists as lists
+use Rattle.lists.proofs.Ends.{none-left}
+use Rattle.store.specs.Kinds.{contact, seenOf}
+use Rattle.contact.specs.Check.{contactFrom, Places}
+use Rattle.contact.specs.declared.ContactAt.{ContactAt}
+use Rattle.across.specs.Owner.{OwnerStands}
+use Rattle.across.specs.Across.{noOwner}
+use Rattle.across.specs.declared.Owner.{Owner}
+
+-- what an answer shows, of the row or of an equal part of the run
+pub shown : {A X : Type 0} (l : Layout A) (show : Answer A → X) {row part : List ℕ} {a : Answer A} → row ≡ part → readRow l row ≡ a → show a ≡ show (readRow l part)
+shown l show same e = ap show (sym e) ∙ ap (λ (r : List ℕ). show (readRow l r)) same
+
+-- ---- question q of a layout is a yes for a value that no question refuses
+second : (a b : Option ℕ) → first a b ≡ none → b ≡ none
+second none b e = e
+second (some p) b e = absurd (let z : _≡_ {A = ℕ} 0 1 = cc in omega arith)
+
+either : (b c : Bool) → T c → T (cond b true c)
+either true c t = tt
+either false c t = t
+
+module _ {A : Type 0} (q : ℕ) where
+  abbrev yesTo : Layout A → A → Bool
+  yesTo (done a) v = true
+  yesTo (field f get k) v = yesTo (k (get v)) v
+  yesTo (ask p t k) v = cond (eqb p q) t (yesTo k v)
+
+  said-yes : (l : Layout A) (v : A) → refusalOf l v ≡ none → T (yesTo l v)
+  unfolding layout.refusalOf
+  said-yes (done a) v e = tt
+  said-yes (field f get k) v e = said-yes (k (get v)) v (second (f .refusal (get v)) (refusalOf (k (get v)) v) e)
+  said-yes (ask p true k) v e = either (eqb p q) (yesTo k v) (said-yes k v e)
+  said-yes (ask p false k) v e = absurd (let z : _≡_ {A = ℕ} 0 1 = cc in omega arith)
+
+-- ---- a contact that was accepted, and its unacked numbers
+abbrev pub ownerAt : ContactAt → Owner
+ownerAt at = record { unacked = at .numbers .unacked .first; count = at .numbers .unacked .count; «sent_msgno» = at .keys .«sent_msgno» }
+
+pub found : (version : ℕ) (row : List ℕ) (at : ContactAt) → Bytes row
+    → readRow (rows.contact version) row ≡ accepted (contactFrom row at) → Places row at → OwnerStands version row (ownerAt at)
+found version row at by e p = record {
+  sent = sym (ap (λ (a : Answer Contact). seenOf contact a .«sent_msgno») e);
+  unacked = sym (ap (λ (a : Answer Contact). seenOf contact a .unacked) e);
+  searchable = record {
+    stands = record { next = at .numbers .unacked .next; so = p .numbers .unacked };
+    highest = at .keys .«sent_msgno»;
+    rises = said-yes UNACKED (rows.contact version) (contactFrom row at) (proved .contact version .laws .read-valid row by (contactFrom row at) e .granted);
+  };
+}
+
+-- ... and one that was not
+pub refused : (version : ℕ) (row : List ℕ) {q : ℕ} → readRow (rows.contact version) row ≡ refusedBy q → OwnerStands version row noOwner
+unfolding lists.items form.readMany
+refused version row e = record {
+  sent = sym (ap (λ (a : Answer Contact). seenOf contact a .«sent_msgno») e);
+  unacked = sym (ap (λ (a : Answer Contact). seenOf contact a .unacked) e);
+  searchable = record {
+    stands = record { next = 0; so = record { starts = omega arith; ends = none-left u32 row 0 0 0 refl (omega arith) } };
+    highest = 0;
+    rises = tt;
+  };
+}

@@ -1,0 +1,21 @@
+-- `across::begin` meets its contract.
+use mathlib.Core.Path.{sym, ap}
+use borrow.Author.Needs.{needs}
+use Rattle.across.specs.Across.{begunFrom}
+use Rattle.across.proofs.begin.Statement.{statement}
+use Rattle.across.proofs.begin.Tie as tie
+
+enum-known-asked : tie.Need-enum-known-asked
+enum-known-asked c = search needs
+
+enum-told : tie.Need-enum-told
+enum-told c = search needs
+
+returns : tie.Need-returns
+returns c = sym (ap begunFrom (c .enum-told .given .1))
+
+returns-2 : tie.Need-returns-2
+returns-2 c = sym (ap begunFrom (c .before .asked .given .1))
+
+pub begin-spec : {M : Type 1} → statement M
+begin-spec = tie.close (tie.spec enum-known-asked enum-told returns returns-2)

@@ -1,0 +1,333 @@
+// Questions 25 to 33, across the rows: of each entry in turn, against those before it. An id or slot above all earlier ones is new without a search,
+// a queued row's contact is looked for from where the last one was found on, and what is asked of that contact is kept.
+use contact::ContactCheck;
+use courier::CourierCheck;
+use courier::HeldAt;
+use device::DeviceCheck;
+use fields::U32Field;
+use layout::question;
+use store::Asked;
+use store::Entry;
+use store::Wanted;
+ghost use mathlib.Core.Path.{_≡_};
+ghost use Prim.Native.Nat.{_<_};
+ghost use lib.Dec.{ltb, eqb};
+ghost use Rattle.rows.specs.Checks.{any};
+ghost use Rattle.store.specs.Store.{partOf};
+ghost use Rattle.across.specs.Owner.{unackedAt, Searchable, OwnerStands};
+ghost use Rattle.across.specs.Across.{begunFrom, contactOf, earlier, farLimit, chosen, ownerLimit, spotOf, twinOf, pairAbove, twinBelow, twinLimit, lowIn, nextContactIn, depositorIn, deviceTurn, contactTurn, FoundTurn, courierTurn, Settled, Reusable};
+
+// What is asked of a queued row's contact: sent_msgno, and where in its row the unacked numbers start and how many they are.
+pub struct Owner {
+    pub unacked: usize,
+    pub count: usize,
+    pub sent_msgno: u32,
+}
+
+pub struct Walk {
+    pub next_contact: u64,
+    // one above the highest contact and the highest slot so far
+    pub contacts: u64,
+    pub slots: u64,
+    // the highest (contact, msgno) of a queued row so far
+    pub queued_id: u64,
+    // where the contact of the last queued row stands
+    pub spot: usize,
+    pub owner: Owner,
+    pub queued_no: u32,
+}
+
+pub enum Across {
+    Going(Walk),
+    Refused(u8, usize),
+}
+
+// How the rounds before have left it.
+pub fn begin(asked: Asked) -> Across
+    ensures { λ r. ⌜ r ≡ begunFrom asked ⌝ }
+{
+    let Asked::Refused(number, place) = asked else {
+        let owner = Owner {
+            unacked: 0,
+            count: 0,
+            sent_msgno: 0,
+        };
+        return Across::Going(Walk {
+            next_contact: 0,
+            contacts: 0,
+            slots: 0,
+            queued_id: 0,
+            spot: 0,
+            owner,
+            queued_no: 0,
+        });
+    };
+    Across::Refused(number, place)
+}
+
+// ---- what is read in rows
+
+fn next_contact(run: &[u8], e: Entry) -> u64
+    ensures { λ r. ⌜ r ≡ nextContactIn (now (run .entry)) e ⌝ }
+{
+    let row = store::part_of(run, e);
+    let DeviceCheck::Fields(at) = device::check_device(e.version, row) else {
+        return 0;
+    };
+    at.next_contact
+}
+
+// 31: asked of carried rows only.
+fn low_depositor(run: &[u8], e: Entry, next: u64) -> bool
+    ensures { λ r. ⌜ r ≡ lowIn next (depositorIn (now (run .entry)) e) ⌝ }
+{
+    let row = store::part_of(run, e);
+    let CourierCheck::Fields(held) = courier::check_courier(e.version, row) else {
+        return true;
+    };
+    let HeldAt::Carried(at) = held else {
+        return true;
+    };
+    let depositor = at.depositor;
+    depositor.0 < next
+}
+
+fn owner_in(version: u32, row: &[u8]) -> Owner
+    ensures { λ r. ⌜ OwnerStands version (now (row .entry)) r ⌝ }
+{
+    let ContactCheck::Fields(at) = contact::check_contact(version, row) else {
+        return Owner {
+            unacked: 0,
+            count: 0,
+            sent_msgno: 0,
+        };
+    };
+    let unacked = at.numbers.unacked;
+    Owner {
+        unacked: unacked.first,
+        count: unacked.count,
+        sent_msgno: at.keys.sent_msgno,
+    }
+}
+
+// 29, by halves: the numbers rise.
+fn is_unacked(row: &[u8], owner: Owner, msgno: u32) -> bool
+    requires { ⌜ Searchable (now row) owner ⌝ }
+    ensures { λ r. ⌜ r ≡ any (eqb msgno) (unackedAt (now (row .entry)) owner) ⌝ }
+{
+    let mut low: usize = 0;
+    let mut high = owner.count;
+    while low < high {
+        let mid = low + (high - low) / 2;
+        let U32Field::Value(number, _) = fields::u32_at(row, owner.unacked + 4 * mid) else {
+            return false;
+        };
+        if number == msgno {
+            return true;
+        }
+        if number < msgno {
+            low = mid + 1;
+        } else {
+            high = mid;
+        }
+    }
+    false
+}
+
+// ---- where to look
+
+pub fn contact_of(e: Entry) -> Wanted
+    ensures { λ r. ⌜ r ≡ contactOf e ⌝ }
+{
+    Wanted {
+        id: e.id,
+        msgno: 0,
+        kind: store::CONTACT,
+    }
+}
+
+pub fn earlier(a: usize, b: usize) -> usize
+    ensures { λ r. ⌜ r ≡ earlier a b ⌝ }
+{
+    if a <= b { a } else { b }
+}
+
+pub fn far_limit(p: usize, near: usize, upto: usize) -> usize
+    ensures { λ r. ⌜ r ≡ farLimit p near upto ⌝ }
+{
+    if p < upto { 0 } else { near }
+}
+
+pub fn chosen(p: usize, o: usize, far: usize, upto: usize) -> usize
+    ensures { λ r. ⌜ r ≡ chosen p o far upto ⌝ }
+{
+    if p < upto {
+        return p;
+    }
+    if o < far { o } else { upto }
+}
+
+// Nothing is looked for but a queued row's contact.
+pub fn owner_limit(e: Entry, i: usize, state: Across) -> usize
+    ensures { λ r. ⌜ r ≡ ownerLimit e i state ⌝ }
+{
+    let Across::Going(_) = state else {
+        return 0;
+    };
+    if e.kind == store::QUEUED { i } else { 0 }
+}
+
+pub fn spot_of(state: Across) -> usize
+    ensures { λ r. ⌜ r ≡ spotOf state ⌝ }
+{
+    let Across::Going(w) = state else {
+        return 0;
+    };
+    w.spot
+}
+
+pub fn twin_of(e: Entry) -> Wanted
+    ensures { λ r. ⌜ r ≡ twinOf e ⌝ }
+{
+    Wanted {
+        id: e.id,
+        msgno: e.msgno,
+        kind: e.kind,
+    }
+}
+
+fn pair_above(w: Walk, e: Entry) -> bool
+    ensures { λ r. ⌜ r ≡ pairAbove w e ⌝ }
+{
+    if w.queued_id < e.id {
+        return true;
+    }
+    w.queued_id == e.id && w.queued_no < e.msgno
+}
+
+// How far another entry of the same kind, and the same contact, message or slot is looked for: not at all where this one is above all earlier ones.
+fn twin_below(e: Entry, i: usize, w: Walk) -> usize
+    ensures { λ r. ⌜ r ≡ twinBelow e i w ⌝ }
+{
+    let kind = e.kind;
+    match kind {
+        1 => { if w.contacts <= e.id { 0 } else { i } }
+        2 => { if pair_above(w, e) { 0 } else { i } }
+        3 => { if w.slots <= e.id { 0 } else { i } }
+        _ => 0,
+    }
+}
+
+pub fn twin_limit(e: Entry, i: usize, state: Across) -> usize
+    ensures { λ r. ⌜ r ≡ twinLimit e i state ⌝ }
+{
+    let Across::Going(w) = state else {
+        return 0;
+    };
+    twin_below(e, i, w)
+}
+
+// ---- one turn. The i-th entry is e; its contact's entry is c, found at p; its twin was found at t, or t is the limit of that search
+
+fn settle_device(run: &[u8], e: Entry, w: Walk) -> Across
+    ensures { λ r. ⌜ r ≡ deviceTurn (now (run .entry)) e w ⌝ }
+{
+    let mut after = w;
+    after.next_contact = next_contact(run, e);
+    Across::Going(after)
+}
+
+fn settle_contact(e: Entry, i: usize, t: usize, w: Walk) -> Across
+    ensures { λ r. ⌜ r ≡ contactTurn e i t w ⌝ }
+{
+    if w.next_contact <= e.id {
+        return Across::Refused(question::CONTACT_BELOW_NEXT, i);
+    }
+    if t < twin_below(e, i, w) {
+        return Across::Refused(question::CONTACT_NEW, i);
+    }
+    let mut after = w;
+    if w.contacts <= e.id {
+        after.contacts = e.id + 1;
+    }
+    Across::Going(after)
+}
+
+// The contact's fields are those kept where it is the same, and are read again where it is not.
+fn owner_of(run: &[u8], c: Entry, p: usize, w: Walk) -> Owner
+    requires { ⌜ (p ≡ w .spot → OwnerStands (c .version) (partOf (now run) c) (w .owner)) ⌝ }
+    ensures { λ r. ⌜ OwnerStands (c .version) (partOf (now (run .entry)) c) r ⌝ }
+{
+    if p == w.spot {
+        return w.owner;
+    }
+    let row = store::part_of(run, c);
+    owner_in(c.version, row)
+}
+
+fn settle_queued(run: &[u8], e: Entry, c: Entry, i: usize, p: usize, t: usize, w: Walk) -> Across
+    requires { ⌜ (p < i → p ≡ w .spot → OwnerStands (c .version) (partOf (now run) c) (w .owner)) ⌝ }
+    ensures { λ r. ⌜ FoundTurn (ltb p i) (now (run .entry)) e c i p t w r ⌝ }
+{
+    if i <= p {
+        return Across::Refused(question::QUEUED_CONTACT, i);
+    }
+    let owner = owner_of(run, c, p, w);
+    if e.msgno < 1 {
+        return Across::Refused(question::QUEUED_MSGNO, i);
+    }
+    if owner.sent_msgno < e.msgno {
+        return Across::Refused(question::QUEUED_MSGNO, i);
+    }
+    let row = store::part_of(run, c);
+    if is_unacked(row, owner, e.msgno) {
+        return Across::Refused(question::QUEUED_UNACKED, i);
+    }
+    if t < twin_below(e, i, w) {
+        return Across::Refused(question::QUEUED_NEW, i);
+    }
+    let mut after = w;
+    if pair_above(w, e) {
+        after.queued_id = e.id;
+        after.queued_no = e.msgno;
+    }
+    after.spot = p;
+    after.owner = owner;
+    Across::Going(after)
+}
+
+fn settle_courier(run: &[u8], e: Entry, i: usize, t: usize, w: Walk) -> Across
+    ensures { λ r. ⌜ r ≡ courierTurn (now (run .entry)) e i t w ⌝ }
+{
+    if !low_depositor(run, e, w.next_contact) {
+        return Across::Refused(question::DEPOSITOR, i);
+    }
+    if t < twin_below(e, i, w) {
+        return Across::Refused(question::SLOT_NEW, i);
+    }
+    if e.id == u64::MAX {
+        return Across::Refused(question::SLOT_BELOW_LAST, i);
+    }
+    let mut after = w;
+    if w.slots <= e.id {
+        after.slots = e.id + 1;
+    }
+    Across::Going(after)
+}
+
+pub fn settle(run: &[u8], e: Entry, c: Entry, i: usize, p: usize, t: usize, state: Across) -> Across
+    requires { ⌜ Reusable (now run) e c i p state ⌝ }
+    ensures { λ r. ⌜ Settled (now (run .entry)) e c i p t state r ⌝ }
+{
+    let Across::Going(w) = state else {
+        return state;
+    };
+    let kind = e.kind;
+    match kind {
+        0 => settle_device(run, e, w),
+        1 => settle_contact(e, i, t, w),
+        2 => settle_queued(run, e, c, i, p, t, w),
+        3 => settle_courier(run, e, i, t, w),
+        _ => Across::Going(w),
+    }
+}
