@@ -1,0 +1,4 @@
+pub mod Rounds
+pub mod Owner
+pub mod Across
+pub mod Ends

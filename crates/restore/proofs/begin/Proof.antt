@@ -1,0 +1,13 @@
+-- `restore::begin` meets its contract: it goes by the number of entries.
+use borrow.Author.Tests.{eq-eqb, ne-eqb}
+use Rattle.restore.proofs.begin.Statement.{statement}
+use Rattle.restore.proofs.begin.Tie as tie
+
+returns : tie.Need-returns
+returns c = simp (eq-eqb _ _ (c .if1 .taken))
+
+returns-2 : tie.Need-returns-2
+returns-2 c = simp (ne-eqb _ _ (c .if1 .left))
+
+pub begin-spec : {M : Type 1} → statement M
+begin-spec = tie.close (tie.spec returns returns-2)

@@ -1,0 +1,125 @@
+// Restore: questions 1 to 33 of a run of bytes and an entry for each row. It writes to nothing.
+use across::Across;
+use layout::question;
+use store::Asked;
+use store::Entry;
+ghost use mathlib.Core.Path.{_≡_};
+ghost use Prim.Native.Nat.{_+_, _-_, _≤_, _<_};
+ghost use lib.ListN.{length};
+ghost use Rattle.store.specs.Rounds.{turn, turns};
+ghost use Rattle.store.specs.Store.{storeOf, restore};
+ghost use Rattle.rounds.specs.Rounds.{roundOf};
+ghost use Rattle.across.specs.Across.{ownerOf};
+ghost use Rattle.across.specs.At.{At};
+ghost use Rattle.restore.specs.Restored.{begunWith, ended, answered};
+
+// next_contact and next_slot; or the number of the question whose answer is no, and the entry's index.
+pub enum Restored {
+    Granted(u64, u64),
+    Refused(u8, usize),
+}
+
+// No entries: 1 at 0.
+fn begin(n: usize) -> Asked
+    ensures { λ r. ⌜ r ≡ begunWith n ⌝ }
+{
+    if n == 0 {
+        return Asked::Refused(question::ORDER, 0);
+    }
+    Asked::Going
+}
+
+fn answer(state: Across) -> Restored
+    ensures { λ r. ⌜ r ≡ ended state ⌝ }
+{
+    match state {
+        Across::Going(w) => Restored::Granted(w.next_contact, w.slots),
+        Across::Refused(number, place) => Restored::Refused(number, place),
+    }
+}
+
+// The index before; the first entry has none.
+fn before(i: usize) -> usize
+    ensures { λ r. ⌜ r ≡ i - 1 ⌝ }
+{
+    if i == 0 { 0 } else { i - 1 }
+}
+
+fn turn_at(run: &[u8], entries: &[Entry], round: u8, i: usize, asked: Asked) -> Asked
+    requires { ⌜ i < length (now entries) ⌝ }
+    ensures { λ r. ⌜ r ≡ turn (roundOf round (storeOf (now (run .entry)) (now (entries .entry))) i) i asked ⌝ }
+{
+    let j = before(i);
+    let b = entries::entry_at(entries, j);
+    let e = entries::entry_at(entries, i);
+    rounds::turn(run, b, e, round, i, asked)
+}
+
+// A round of the entries below `upto`.
+fn turns(run: &[u8], entries: &[Entry], round: u8, upto: usize, asked: Asked) -> Asked
+    requires { ⌜ upto ≤ length (now entries) ⌝ }
+    ensures { λ r. ⌜ r ≡ turns (roundOf round (storeOf (now (run .entry)) (now (entries .entry)))) 0 upto asked ⌝ }
+{
+    let mut i = 0;
+    let mut a = asked;
+    while i < upto {
+        a = turn_at(run, entries, round, i, a);
+        i = i + 1;
+    }
+    a
+}
+
+// Where the contact of a queued row stands, below `upto`: from the kept spot on, then from the start. `upto` where there is none.
+fn owner_at(entries: &[Entry], e: Entry, upto: usize, spot: usize) -> usize
+    requires { ⌜ upto ≤ length (now entries) ⌝ }
+    ensures { λ r. ⌜ r ≡ ownerOf (now (entries .entry)) e upto spot ⌝ }
+{
+    let wanted = across::contact_of(e);
+    let near = across::earlier(spot, upto);
+    let p = entries::find(entries, wanted, near, upto);
+    let far = across::far_limit(p, near, upto);
+    let o = entries::find(entries, wanted, 0, far);
+    across::chosen(p, o, far, upto)
+}
+
+fn across_at(run: &[u8], entries: &[Entry], i: usize, state: Across) -> Across
+    requires { ⌜ (i < length (now entries)) × At (now run) (now entries) i state ⌝ }
+    ensures { λ r. ⌜ At (now (run .entry)) (now (entries .entry)) (i + 1) r ⌝ }
+{
+    let e = entries::entry_at(entries, i);
+    let limit = across::owner_limit(e, i, state);
+    let spot = across::spot_of(state);
+    let p = owner_at(entries, e, limit, spot);
+    let c = entries::entry_at(entries, p);
+    let twin = across::twin_of(e);
+    let upto = across::twin_limit(e, i, state);
+    let t = entries::find(entries, twin, 0, upto);
+    across::settle(run, e, c, i, p, t, state)
+}
+
+// 25 to 33, of the entries below `upto`.
+fn across_turns(run: &[u8], entries: &[Entry], upto: usize, state: Across) -> Across
+    requires { ⌜ (upto ≤ length (now entries)) × At (now run) (now entries) 0 state ⌝ }
+    ensures { λ r. ⌜ At (now (run .entry)) (now (entries .entry)) upto r ⌝ }
+{
+    let mut i = 0;
+    let mut after = state;
+    while i < upto {
+        after = across_at(run, entries, i, after);
+        i = i + 1;
+    }
+    after
+}
+
+pub fn restore(run: &[u8], entries: &[Entry]) -> Restored
+    ensures { λ r. ⌜ r ≡ answered (restore (storeOf (now (run .entry)) (now (entries .entry)))) ⌝ }
+{
+    let n = entries::entry_count(entries);
+    let begun = begin(n);
+    let ordered = turns(run, entries, question::ORDER, n, begun);
+    let bounded = turns(run, entries, question::BOUNDS, n, ordered);
+    let read = turns(run, entries, question::VERSION, n, bounded);
+    let state = across::begin(read);
+    let end = across_turns(run, entries, n, state);
+    answer(end)
+}
