@@ -8,13 +8,16 @@ mod leb128;
 mod queued;
 mod received;
 mod rows;
+mod small_stores;
+mod stores;
 mod utf8;
 
 pub use card::rust_card;
+pub use stores::store_faults;
 
 /// What is compared, in this order. The number says how often the random part is repeated.
 type Run = fn(u64, usize) -> bool;
-const RUNS: [(&str, Run); 8] = [
+const RUNS: [(&str, Run); 9] = [
     ("leb128", |seed, _| leb128::run(seed)),
     ("utf8", |seed, _| utf8::run(seed)),
     ("card", |seed, _| card::run(seed)),
@@ -23,6 +26,7 @@ const RUNS: [(&str, Run); 8] = [
     ("courier", courier::run),
     ("contact", contact::run),
     ("received", received::run),
+    ("stores", stores::run),
 ];
 
 /// Runs the named comparisons; whether nothing differed.

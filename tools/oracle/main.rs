@@ -14,13 +14,21 @@ mod lent;
 mod model;
 mod names;
 mod original;
+mod original_store;
 mod questions;
 mod rattle;
+mod restore_speed;
 mod row_samples;
 mod rows;
 mod samples;
 mod shims;
 mod speed;
+mod store_break;
+mod store_build;
+mod store_damage;
+mod store_model;
+mod store_samples;
+mod store_shrink;
 mod tally;
 mod timed;
 pub use shims::*;
@@ -97,9 +105,10 @@ mod resume {
 }
 
 const USAGE: &str =
-    "usage: oracle all|leb128|utf8|card|device|queued|courier|contact|received [SEED [TIMES]]
+    "usage: oracle all|leb128|utf8|card|device|queued|courier|contact|received|stores [SEED [TIMES]]
        oracle samples DIR
-       oracle speed";
+       oracle store-cases DIR
+       oracle speed|restore-speed";
 
 fn main() -> std::process::ExitCode {
     let words: Vec<String> = std::env::args().skip(1).collect();
@@ -118,8 +127,13 @@ fn main() -> std::process::ExitCode {
 fn run(words: &[&str]) -> Result<bool, Box<dyn std::error::Error>> {
     match *words {
         ["samples", folder] => samples::write(folder.as_ref()).map(|()| true),
+        ["store-cases", folder] => store_samples::write(folder.as_ref()).map(|()| true),
         ["speed"] => {
             speed::run();
+            Ok(true)
+        }
+        ["restore-speed"] => {
+            restore_speed::run();
             Ok(true)
         }
         [name] => compare::run(name, 1, 1),

@@ -1,7 +1,11 @@
-//! The numbered questions of a row, and a model of LEB128 and of names in the terms of document 01, RFC 3629 and
+//! The numbered questions of rows and stores, and a model of LEB128 and of names in the terms of document 01, RFC 3629 and
 //! DWARF 5. It shares no code with the Rust or the Rattle, and says which number a refusal has where the Rust only
 //! refuses. The rows themselves are in model.rs.
 
+/// Is entry 0 a device, and every later kind 1 to 3 and not below the one before?
+pub const KINDS: u32 = 1;
+/// Does start + length stay within the run?
+pub const IN_RUN: u32 = 2;
 /// Version 3?
 pub const VERSION: u32 = 3;
 /// Field wholly in the row?
@@ -46,6 +50,24 @@ pub const UNACKED: u32 = 22;
 pub const ABOVE: u32 = 23;
 /// expired canonical from 1, none above sent_msgno?
 pub const EXPIRED: u32 = 24;
+/// Contact below next_contact?
+pub const CONTACT_BELOW: u32 = 25;
+/// Contact new?
+pub const CONTACT_NEW: u32 = 26;
+/// Queued row's contact restored?
+pub const QUEUED_CONTACT: u32 = 27;
+/// Its msgno 1 to sent_msgno?
+pub const QUEUED_MSGNO: u32 = 28;
+/// Not in unacked?
+pub const QUEUED_UNACKED: u32 = 29;
+/// (contact, msgno) new?
+pub const QUEUED_NEW: u32 = 30;
+/// Depositor below next_contact?
+pub const DEPOSITOR: u32 = 31;
+/// Slot new?
+pub const SLOT_NEW: u32 = 32;
+/// Slot below 2^64 - 1?
+pub const SLOT_BELOW: u32 = 33;
 /// Each lent list long enough for the row's items?
 pub const LISTS: u32 = 36;
 /// cover, covers: 1 <= from <= to?

@@ -1,4 +1,4 @@
-//! The Rattle side: the C functions of the four static libraries, each behind a safe function.
+//! The Rattle side: the C functions of the five static libraries, each behind a safe function.
 //! Nothing checks these declarations against the Rattle source: keep them in step by hand.
 //! With `--cfg no_rattle` the model of questions.rs stands in, so that the tools can be tried alone.
 
@@ -7,7 +7,7 @@ use std::cell::RefCell;
 
 pub use side::{
     card, check_contact, contact_lists, contains, courier, covers, device, insert, leb128, queued,
-    read_leb128, utf8, veil_contact, veil_courier, veil_device, veil_queued,
+    read_leb128, restore, utf8, veil_contact, veil_courier, veil_device, veil_queued,
 };
 
 /// Caps, day, beacon key, name length, the longest name, the static key.
@@ -28,6 +28,7 @@ mod side {
     use super::LONGEST_CARD;
     use crate::lent::Lists;
     use crate::model::Range;
+    use crate::store_model::{Entry, Store};
 
     // A slice passes as its pointer, then its length.
     unsafe extern "C" {
@@ -86,6 +87,14 @@ mod side {
             len: usize,
             out: *mut u8,
             out_len: usize,
+        ) -> u32;
+        fn sicklestar_restore(
+            run: *const u8,
+            run_len: usize,
+            entries: *const Entry,
+            entries_len: usize,
+            answer: *mut u64,
+            answer_len: usize,
         ) -> u32;
         fn sicklestar_contains(
             contiguous: u32,
@@ -234,6 +243,21 @@ mod side {
         }
     }
 
+    /// 0, and next_contact and next_slot at the front of `answer`; or the number of the question, and the entry's index.
+    pub fn restore(store: &Store, answer: &mut [u64]) -> u32 {
+        // SAFETY: all slices are alive, of these lengths, and apart; an `Entry` is laid out as in C.
+        unsafe {
+            sicklestar_restore(
+                store.run.as_ptr(),
+                store.run.len(),
+                store.entries.as_ptr(),
+                store.entries.len(),
+                answer.as_mut_ptr(),
+                answer.len(),
+            )
+        }
+    }
+
     /// 1 if the number is covered, else 0.
     pub fn contains(contiguous: u32, above: &[u32], count: usize, msgno: u32) -> u32 {
         // SAFETY: the slice is alive and of this length.
@@ -276,6 +300,7 @@ mod side {
     use crate::covered::Covered;
     use crate::lent::Lists;
     use crate::model::{Range, Reading};
+    use crate::store_model::Store;
     use crate::{model, questions};
 
     pub fn read_leb128(input: &[u8], answer: &mut [u64; 2]) -> u32 {
@@ -360,6 +385,20 @@ mod side {
         }
         lists.put(&items);
         again(Ok(contact.row()), out)
+    }
+
+    pub fn restore(store: &Store, answer: &mut [u64]) -> u32 {
+        let (number, places) = match store.restore() {
+            Ok(granted) => (0, vec![granted.next_contact, granted.next_slot]),
+            Err(refusal) => (refusal.number, vec![refusal.index as u64]),
+        };
+        match answer.get_mut(..places.len()) {
+            Some(front) => {
+                front.copy_from_slice(&places);
+                number
+            }
+            None => questions::OUTPUT,
+        }
     }
 
     fn covered(contiguous: u32, above: &[u32], count: usize) -> Covered {

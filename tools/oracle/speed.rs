@@ -123,7 +123,7 @@ fn more(mut first: impl FnMut(), mut second: impl FnMut()) -> f64 {
     median((0..RUNS).map(|_| longer()).collect()) / f64::from(calls) / ROWS as f64
 }
 
-fn median(mut times: Vec<f64>) -> f64 {
+pub fn median(mut times: Vec<f64>) -> f64 {
     times.sort_by(f64::total_cmp);
     times[times.len() / 2]
 }
@@ -138,7 +138,7 @@ fn timed(call: &mut impl FnMut(), calls: u32) -> f64 {
 }
 
 /// The time that this thread has had the processor, in nanoseconds: others may be at work on the machine.
-fn processor_time() -> f64 {
+pub fn processor_time() -> f64 {
     #[repr(C)]
     struct Timespec {
         seconds: i64,

@@ -271,7 +271,7 @@ fn expired(random: &mut Random, compare: &mut Compare<Contact>) {
 }
 
 /// Every list of up to `longest` of the items.
-fn lists<T: Clone>(items: &[T], longest: usize) -> Vec<Vec<T>> {
+pub fn lists<T: Clone>(items: &[T], longest: usize) -> Vec<Vec<T>> {
     let mut all = vec![Vec::new()];
     let mut last = all.clone();
     for _ in 0..longest {

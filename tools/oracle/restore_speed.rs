@@ -1,0 +1,184 @@
+//! How long restore takes: the Rattle's and the Rust's on the same stores, in the same program.
+//!
+//! Rattle: one call of the C function with the run and the entries. Rust: one call of `Device::restore` with a copy of each
+//! row, made before time is taken; what it returns is dropped after time was taken. So of the Rust's memory only that which
+//! restore itself asks for counts.
+
+use crate::build::{self, FULL, Size};
+use crate::inputs::Random;
+use crate::model::Device;
+use crate::original_store::Rows;
+use crate::rattle;
+use crate::speed::{median, processor_time};
+use crate::store_build::{self, Counts, Plan, shuffle};
+use crate::store_model::{Granted, Store};
+use std::hint::black_box;
+
+/// The median of so many runs is taken, each of at least so many nanoseconds; of a slow call fewer, of a very slow one one.
+const RUNS: usize = 21;
+const FEWER_RUNS: usize = 5;
+const RUN: f64 = 1e7;
+const SLOW: f64 = 1e8;
+const VERY_SLOW: f64 = 3e9;
+/// So many results of calls are kept at a time, and dropped while no time is taken.
+const KEPT: u32 = 256;
+
+/// Queued numbers start here: above every unacked one, and below every sent_msgno.
+const FIRST_QUEUED: u32 = 100_000;
+
+const ONE: Counts = Counts {
+    contacts: 1,
+    queued: 0,
+    courier: 0,
+};
+const SMALL: Counts = Counts {
+    contacts: 50,
+    queued: 200,
+    courier: 200,
+};
+const LARGE: Counts = Counts {
+    contacts: 1_000,
+    queued: 10_000,
+    courier: 10_000,
+};
+const TWICE: Counts = Counts {
+    contacts: 2_000,
+    queued: 20_000,
+    courier: 20_000,
+};
+
+pub fn run() {
+    let mut random = Random::new(1);
+    if cfg!(no_rattle) {
+        println!("no Rattle library: its side is the model");
+    }
+    println!("| Contacts | Queued | Courier | Order | Bytes | Rattle, µs | Rust, µs | Ratio |");
+    println!("|---|---|---|---|---|---|---|---|");
+    for counts in [ONE, SMALL] {
+        let plan = ascending(&mut random, counts);
+        line(&mut random, &plan, "ascending");
+    }
+    let [once, twice] = [LARGE, TWICE].map(|counts| {
+        let mut plan = ascending(&mut random, counts);
+        let ascending = line(&mut random, &plan, "ascending");
+        shuffle(&mut random, &mut plan.contacts);
+        shuffle(&mut random, &mut plan.queued);
+        shuffle(&mut random, &mut plan.courier);
+        [ascending, line(&mut random, &plan, "shuffled")]
+    });
+    for (order, at) in [("ascending", 0), ("shuffled", 1)] {
+        println!(
+            "twice the rows, {order}: {:.1} times the Rattle's time, {:.1} times the Rust's",
+            twice[at].0 / once[at].0,
+            twice[at].1 / once[at].1
+        );
+    }
+}
+
+/// One line of the table: microseconds for one restore, and how many times the Rattle's the Rust's are. The run has the rows
+/// in the order of their entries.
+fn line(random: &mut Random, plan: &Plan, order: &str) -> (f64, f64) {
+    let store = store_build::packed(plan.items(random));
+    let rows = Rows::of(&store);
+    assert_granted(&store, &rows);
+    let mut answer = [0; 2];
+    let rattle = each(|| black_box(rattle::restore(black_box(&store), &mut answer))) / 1e3;
+    let rust = each(|| black_box(black_box(&rows).restore())) / 1e3;
+    let (contacts, queued, courier) = (plan.contacts.len(), plan.queued.len(), plan.courier.len());
+    println!(
+        "| {contacts} | {queued} | {courier} | {order} | {} | {rattle:.1} | {rust:.1} | {:.2} |",
+        store.run.len(),
+        rust / rattle
+    );
+    (rattle, rust)
+}
+
+/// Both sides restore the store, to the same numbers.
+fn assert_granted(store: &Store, rows: &Rows) {
+    let granted = store.restore().expect("a valid store");
+    let rust = rows.restore().expect("a valid store");
+    assert!(
+        rows.faults(&rust, granted).is_empty(),
+        "the Rust restores the same"
+    );
+    let mut answer = [0; 2];
+    assert_eq!(
+        rattle::restore(store, &mut answer),
+        0,
+        "the Rattle grants it"
+    );
+    let [next_contact, next_slot] = answer;
+    assert_eq!(
+        Granted {
+            next_contact,
+            next_slot
+        },
+        granted,
+        "the Rattle answers the same"
+    );
+}
+
+/// Ids, (contact, msgno) and slots rise.
+fn ascending(random: &mut Random, counts: Counts) -> Plan {
+    let ids = 0..counts.contacts as u64;
+    let size = Size { unacked: 8, ..FULL };
+    let contact = |id| (id, build::contact(random, size));
+    let contacts = ids.clone().map(contact).collect();
+    let each = counts.queued / counts.contacts;
+    let numbers = |id| (FIRST_QUEUED..).take(each).map(move |msgno| (id, msgno));
+    let mut queued = Vec::new();
+    for (id, msgno) in ids.flat_map(numbers) {
+        let (own, bucket) = (random.flag(), random.below(5));
+        queued.push((id, msgno, build::queued(random, own, bucket)));
+    }
+    let mut courier = Vec::new();
+    for slot in 0..counts.courier as u64 {
+        let depositor = random.below(counts.contacts) as u64;
+        let row = match slot % 2 {
+            0 => build::tombstone(random),
+            _ => store_build::carried(random, depositor),
+        };
+        courier.push((slot, row));
+    }
+    let device = Device {
+        next_contact: counts.contacts as u64,
+        ..build::device(random)
+    };
+    Plan {
+        device,
+        contacts,
+        queued,
+        courier,
+    }
+}
+
+/// Nanoseconds of one call.
+fn each<T>(mut call: impl FnMut() -> T) -> f64 {
+    let mut calls = 1;
+    let mut time = timed(&mut call, calls);
+    while time < RUN {
+        calls *= 2;
+        time = timed(&mut call, calls);
+    }
+    let runs = match time {
+        _ if time < SLOW => RUNS,
+        _ if time < VERY_SLOW => FEWER_RUNS,
+        _ => return time,
+    };
+    median((0..runs).map(|_| timed(&mut call, calls)).collect()) / f64::from(calls)
+}
+
+/// Nanoseconds that so many calls take, without the dropping of what they return.
+fn timed<T>(call: &mut impl FnMut() -> T, calls: u32) -> f64 {
+    let mut kept = Vec::with_capacity(KEPT as usize);
+    let mut time = 0.0;
+    for first in (0..calls).step_by(KEPT as usize) {
+        let start = processor_time();
+        for _ in first..calls.min(first + KEPT) {
+            kept.push(call());
+        }
+        time += processor_time() - start;
+        kept.clear();
+    }
+    time
+}
