@@ -8,10 +8,35 @@ The parameters are lent slices (`&` and `&mut`) and plain values; each `&mut` go
     uses        the import lines of what those proofs cite
     names       other names for parameters or results, where the source's name means something else in the proof
 In proofs a parameter or a result has its own name, and the last call's result is r. `asks` is what the function requires, and
-is-NAME what the callee has ensured of the result NAME. With a `&mut` parameter NAME, its last value is (last-NAME).
+is-NAME what the callee has ensured of the result NAME.
 """
+from dataclasses import dataclass
+
 import mir
 import walk
+
+
+@dataclass
+class Called:
+    """A call: its result, its callee, what it is handed, and the results that are known before it."""
+    result: walk.Value
+    callee: walk.Callee
+    handed: list
+    earlier: list
+    statement: mir.Call
+
+    @property
+    def binds(self):
+        """The name of what the callee's contract binds at this call."""
+        return " ".join([f"to-{self.result.name}", *[value.name for value in self.earlier]])
+
+
+@dataclass
+class Relent:
+    """A `&mut` slice that is lent on: MIR takes its parts, and puts them together in another local."""
+    lent: int
+    pointer: int
+    place: int
 
 
 class Line(walk.Walk):
@@ -19,97 +44,116 @@ class Line(walk.Walk):
 
     def __init__(self, config, function):
         super().__init__(config, function)
-        self.values = {number: self.known(param.name, param.type, f"in-{param.name}") for number, param in enumerate(self.params, 1)}
-        self.calls = []
-        self.borrowed = {}
+        self.held = dict(enumerate(self.params, 1))
+        self.steps = []
+        self.pointers = {}
         names = iter(self.source.lets)
         for statement in function.body:
             if isinstance(statement, mir.Call):
-                self.calls.append(self.call(statement, "r" if statement.result == 0 else next(names)))
+                self.steps.append(self.call(statement, "r" if statement.result == 0 else self.named(next(names))))
             elif isinstance(statement, mir.Assign):
-                self.reborrow(statement)
-
-    def known(self, name, type_, proof):
-        """A value that a local holds, as a parameter of the call that it is handed to."""
-        found = walk.Param(name, type_)
-        found.proof = proof
-        return found
+                self.relend(statement)
+        self.calls = [step for step in self.steps if isinstance(step, Called)]
 
     def call(self, statement, name):
-        name = self.config.get("names", {}).get(name, name)
-        earlier = [call["name"] for call in self.calls]
+        earlier = [step.result for step in self.steps if isinstance(step, Called)]
         handed = []
         for operand in statement.operands:
             if operand[0] == "local":
-                handed.append(self.values[operand[1]])
+                handed.append(self.held[operand[1]])
+            elif operand[0] == "number":
+                handed.append(walk.Value(str(operand[2]), mir.Number(operand[1]), "(refl, lit< tt)"))
             else:
-                handed.append(self.known(str(operand[2]), mir.Number(operand[1]), "(refl, lit< tt)"))
-        type_ = self.function.locals[statement.result]
-        self.values[statement.result] = self.known(name, type_, f"in-{name}")
-        return {"name": name, "type": type_, "callee": self.callee(statement.callee), "handed": handed, "earlier": earlier, "statement": statement}
+                raise SystemExit(f"{statement.callee} is handed something of another form: {operand[1]}")
+        result = walk.Value(name, self.function.locals[statement.result])
+        self.held[statement.result] = result
+        return Called(result, self.callee(statement.callee), handed, earlier, statement)
 
-    def reborrow(self, statement):
-        """A `&mut` parameter that is lent on: MIR takes its parts and puts them together again in another local."""
-        value = statement.value
-        if value[0] == "addrOf":
-            self.borrowed[statement.place] = int(value[1][1])
-            self.calls.append(("address", statement.place, int(value[1][1])))
-        elif value[0] == "aggregate":
-            pointer = int(mir.items(value[1])[0][1][1])
-            lent = self.borrowed[pointer]
-            self.values[statement.place] = self.values[lent]
-            self.calls.append(("parts", statement.place, pointer, lent))
+    def relend(self, statement):
+        kind, value = statement.value[0], statement.value[1]
+        if kind == "addrOf":
+            self.pointers[statement.place] = int(value[1])
+        elif kind == "aggregate":
+            pointer = int(mir.items(value)[0][1][1])
+            lent = self.pointers[pointer]
+            self.held[statement.place] = self.held[lent]
+            self.steps.append(Relent(lent, pointer, statement.place))
         else:
             raise SystemExit(f"a statement of another form: {statement}")
 
-    # ---- the walk
+    # ---- the proof
     def proof(self):
         self.head()
         self.over_params()
         self.line("    -- what each call is handed")
         for call in self.calls:
-            self.handed(call)
-        self.line("    module _ (𝓣 : Tables 𝓤 H) (fm : FmC 𝓤 H (W .laws) (𝓣 .C)) (known : Known (𝓣 .C)) where")
-        self.line("      abbrev C : Calls 𝓤 H", "      C = 𝓣 .C", "", "      abbrev Λ : Loops 𝓤 H", "      Λ = 𝓣 .Λ", "")
-        lfts, shares = walk.pairs(self.lfts), walk.pairs(self.shares)
-        passed = walk.cons([param.value for param in self.params])
-        self.line(f"      walk : ent 𝓤 (onEntry 𝓤 H A this.signature {lfts} {shares} (bound .0 .3) (bound .0 .4)) (WpFn 𝓤 H C Λ code.function ({passed}) (This .post bound))")
-        self.line("      walk =")
+            binders = "".join(f"({value.name} : {walk.denoted(value.type)}) → " for value in call.earlier)
+            self.line(f"    abbrev to-{call.result.name} : {binders}{call.callee.its} .Ghost", f"    {call.binds} = {self.ghost(call.handed)}", "")
+        self.over_tables()
+        self.starts()
         lines, context = self.entering()
-        filled = set(range(len(self.params) + 1))
-        for call in self.calls:
-            lines += self.called(call, context)
-            filled.add(call["statement"].result)
-        last = self.calls[-1]["name"]
+        lasts, opened = {}, len(self.locals)
+        for step in self.steps:
+            if isinstance(step, Relent):
+                lines += self.relent(step, context)
+            else:
+                lines += self.called(step, context)
+                opened += 1 + self.settle_lasts(step, context, lines, lasts)
+                lines.append(f"land ! (into !) (init ! {context.at(f'_{step.statement.result}')} refl {step.result.typed}) $")
         lines.append(f"returns ! (look ! {context.at('_0')} refl) $")
-        lines += self.leaving(context, filled, last, f"in-{last}", self.config["ends"], {})
-        lines[-1] += ")" * (len(self.locals) + len(self.calls))
+        lines += self.leaving(context, self.calls[-1].result, self.config["ends"], lasts)
+        lines[-1] += ")" * opened
         self.line(*[f"          {line}" for line in lines], "")
         self.walked()
 
-    def handed(self, call):
-        ghost = f"{call['callee'].its} .Ghost"
-        types = {known["name"]: walk.denoted(known["type"]) for known in self.calls}
-        binders = "".join(f"({name} : {types[name]}) → " for name in call["earlier"])
-        self.line(f"    abbrev to-{call['name']} : {binders}{ghost}")
-        self.line(f"    to-{' '.join([call['name'], *call['earlier']])} = {self.ghost(call['handed'])}", "")
-
     def called(self, call, context):
-        """The steps of one call: what is handed over, the call itself, and where its result goes."""
-        name, callee, statement = call["name"], call["callee"], call["statement"]
-        shown = ", ".join(param.name for param in call["handed"])
-        lines = [f"-- {name} is {callee.crate}::{callee.name}({shown})"]
-        steps, tokens = self.hand(context, call["handed"])
-        lines.append(steps.rstrip())
+        """The steps of one call: what is handed over, and the call itself."""
+        name, callee = call.result.name, call.callee
+        steps, tokens = self.hand(context, call.handed)
         required = self.config.get("requires", {}).get(name)
-        asked = f"(factI 𝓤 _ (emp 𝓤) ({required}))" if required else "(id⊢ 𝓤 _)"
-        to = f"(to-{' '.join([name, *call['earlier']])})"
-        lines.append(f"calls-held ! fm {callee.alias}.ended {self.clauses(callee.alias)} (known .{callee.alias}) {to} {asked} {walk.held(call['type'])} (λ r ws. id⊢ 𝓤 _)")
-        lines.append(f"{self.operands(context, statement.operands)} (λ {name} is-{name} in-{name}.")
-        context.replace_front(1, tokens)
-        typed = f"({walk.held(call['type'])} .lawful .typed {name} _ in-{name} .0)"
-        lines.append(f"land ! (into !) (init ! {context.at(f'_{statement.result}')} refl {typed}) $")
+        asked = f"(factI 𝓤 _ (emp 𝓤) {walk.atom(required)})" if required else "(id⊢ 𝓤 _)"
+        lent = any(value.is_mut for value in call.handed)
+        step = "calls-lent" if lent else "calls-held"
+        lines = [
+            f"-- {name} is {callee.path}({', '.join(value.name for value in call.handed)})",
+            steps,
+            f"{step} ! fm {callee.alias}.ended {callee.clauses} (known .{callee.alias}) {walk.atom(call.binds)} {asked} {walk.held(call.result.type)} (λ r ws. id⊢ 𝓤 _)",
+            f"{self.operands(context, call.statement.operands)} (λ {name}{f' ws-{name}' if lent else ''} is-{name} in-{name}.",
+        ]
+        context.replace_front(1, [*tokens, "lasts"] if lent else tokens)
         return lines
+
+    def settle_lasts(self, call, context, lines, lasts):
+        """What a call with a `&mut` says of its last values, taken apart. How many parentheses that opens."""
+        if "lasts" not in context.names:
+            return 0
+        steps, opened = "", 0
+        for number, value in enumerate(call.handed):
+            steps += context.to_front(["lasts"]) + "fsplit ! $ "
+            context.replace_front(1, ["one", "lasts"])
+            if value.is_mut:
+                steps += "fsplit ! $ "
+                context.replace_front(1, [f"last {value.name}", "long"])
+                steps += context.to_front(["long"]) + f"feqL ! (λ fits-{value.name}. "
+                context.replace_front(1, [])
+                lasts[value.name] = f"(ws-{call.result.name}{walk.part(number)})"
+                opened += 1
+            else:
+                steps += "drop ! $ "
+                context.replace_front(1, [])
+        lines.append(steps + context.to_front(["lasts"]) + "drop ! $")
+        context.replace_front(1, [])
+        return opened
+
+    def relent(self, step, context):
+        """The steps by which a `&mut` slice is lent on: its pointer, and then its two parts."""
+        lent, pointer, place = (context.at(f"_{local}") for local in (step.lent, step.pointer, step.place))
+        count = f"load ! (from ! (fld ! refl (stop !))) (look-in ! {lent} (sub ! 1 refl (whole !)))"
+        fits = f"(tt, (tt, (record {{ fits = {self.held[step.lent].proof} .0 .1 .0 }}, tt)))"
+        return [
+            f"assigns ! (addr ! (from ! (fld ! refl (hop ! (look-in ! {lent} (sub ! 0 refl (whole !))) (stop !))))) (into !) (init ! {pointer} refl (tt, tt)) $",
+            f"assigns ! (agg ! (and-then ! ({self.read(context, step.pointer)}) (and-then ! ({count}) (no-more !)))) (into !) (init ! {place} refl {fits}) $",
+        ]
 
 
 def generate(config, function):

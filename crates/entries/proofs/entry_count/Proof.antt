@@ -14,7 +14,7 @@ use prog.Wp.{Heap, Calls, Loops, WpFn, Tables}
 use ghost.Atoms.{Atoms}
 use contract.Monad.{Fun}
 use contract.Running.{givenOf, tables, tablesOf}
-use types.Kit.{Given, ‵, _⊛_, _$_, _∵_, !, qed, suffices, frame, done}
+use types.Kit.{Given, ‵, _⊛_, _$_, _∵_, !, qed, drop, suffices, frame, done}
 use types.Run.{look, init, stop, fld, from, load, of-opd, assigns, returns, enter, alloc1, alloc0, params1, pass1, pass0, free0}
 use types.Part.{whole, sub, look-in}
 use sound.WpLaws.{WpFn-mono}
@@ -22,25 +22,24 @@ use denote.RattleType.{owns}
 use denote.Laws.{Is}
 use denote.Plain.{UInt, uint-makes}
 use denote.Ref.{RefT}
-use denote.Signature.{plain}
 use denote.Slice.{ShrSlice, slice-vals, shr-slice-tells, shr-slice-lawful}
-use denote.Steps.{owned}
+use denote.Steps.{owned, nothing}
 use denote.Triple.Entry.{onEntry}
 use denote.Triple.Spec.{Meets, tripleOf}
 use denote.Triple.Statement.{Contract}
 use denote.Triple.Table.{entered}
-use denote.Triple.Walked.{says, Stays, stay-none-slice, walkOf, goes-none-slice, Walks, ends-at, walked, walk-meets}
-use denote.Exit.{yes}
+use denote.Triple.Walked.{says, Stays, walkOf, Walks, ends-at, walked, walk-meets}
 use Rattle.store.specs.declared.Entry.{Entry}
 use Rattle.store.proofs.Entry as EntryT
-use Rattle.walks.proofs.Walk.{gone}
+use Rattle.walks.proofs.Walk.{gone, drops, drops-go}
+use Rattle.walks.proofs.Held.{none}
 use Rattle.entries.proofs.entry_count as this
 use Rattle.entries.proofs.entry_count.Key as this-def
 use Rattle.entries.proofs.entry_count.Statement as stated
 use Rattle.entries.proofs.entry_count.Code as code
 
 abbrev stayed : Stays (this.ended .signature .params) (this.ended .kept)
-stayed = (stay-none-slice (0 ∷ []) tt (plain (λ _. EntryT.the-row)) yes, tt)
+stayed = drops (this.ended .signature .params) (this.ended .kept)
 
 module _ {M : Type 1} (𝓤 : URA M) (H : Heap 𝓤) (A : Atoms 𝓤) (W : Given 𝓤 H A) (mem : Memory → SProp 𝓤) (calling : Routine → Fun 𝓤) where
   module _ (κ : Lft) (q : Share) (entries : RefT (List Entry)) (in-entries : Is (ShrSlice (named 0) κ EntryT.the-row) entries (slice-vals entries)) where
@@ -59,7 +58,7 @@ module _ {M : Type 1} (𝓤 : URA M) (H : Heap 𝓤) (A : Atoms 𝓤) (W : Given
         assigns ! (of-opd ! (load ! (from ! (fld ! refl (stop !))) (look-in ! 0 (sub ! 1 refl (whole !))))) (from ! (stop !)) (init ! 2 refl (tt, record { fits = in-entries .0 .1 .0 })) $
         returns ! (look ! 2 refl) $ gone ! 2 refl refl $ gone ! 0 refl refl $ free0 ! $
         suffices ! _ (ends-at 𝓤 H A this.ended stayed (this.clauses 𝓤 H A mem calling) W bound (vint w64 (length (entries .now))) (length (entries .now)) (tt, tt) (tt, tt)) $ says ! refl $
-        frame ! $ frame ! $ owned ! (UInt w64) (Is (UInt w64)) (uint-makes 𝓤 H A W w64) (length (entries .now)) _ (refl, in-entries .0 .1 .0) $ done !))
+        frame ! $ drop ! $ nothing ! $ none ! $ frame ! $ owned ! (UInt w64) (Is (UInt w64)) (uint-makes 𝓤 H A W w64) (length (entries .now)) _ (refl, in-entries .0 .1 .0) $ done !))
 
   module _ (𝓣 : Tables 𝓤 H) where
     walks : Walks 𝓤 H A this.ended stayed (WpFn 𝓤 H (𝓣 .C) (𝓣 .Λ) code.function) (this.clauses 𝓤 H A mem calling)
@@ -67,7 +66,7 @@ module _ {M : Type 1} (𝓤 : URA M) (H : Heap 𝓤) (A : Atoms 𝓤) (W : Given
         (λ κs qs bounds a g are. via 𝓤 _ (fst∗ 𝓤 _ (emp 𝓤)) (walk (κs .0) (qs .0) (a .0) (are .0) (𝓣 .C) (𝓣 .Λ)))
 
     meets : Meets 𝓤 H A this.signature (WpFn 𝓤 H (𝓣 .C) (𝓣 .Λ) code.function) (this.spec 𝓤 H A mem calling)
-    meets = walk-meets 𝓤 H A this.ended stayed W (goes-none-slice 𝓤 H A W 1 (0 ∷ []) tt (plain (λ _. EntryT.the-row)) yes, tt)
+    meets = walk-meets 𝓤 H A this.ended stayed W (drops-go 𝓤 H A W 1 (this.ended .signature .params) (this.ended .kept) (λ κs x f. refl, tt))
         (this.clauses 𝓤 H A mem calling) (WpFn 𝓤 H (𝓣 .C) (𝓣 .Λ) code.function) (WpFn-mono 𝓤 H (W .laws) 𝓣 code.function) walks
 
 pub entry-count-spec : {M : Type 1} → stated.statement M

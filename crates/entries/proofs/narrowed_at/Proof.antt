@@ -15,24 +15,24 @@ use ghost.Atoms.{Atoms}
 use contract.Lifetimes.{toks}
 use contract.Monad.{Fun, factI}
 use contract.Running.{givenOf, tables, tablesOf}
-use types.Kit.{Given, ‵, raw, _$_, _∵_, !, qed, move, keep, fsplit, fjoin, suffices, frame, done}
+use types.Kit.{Given, ‵, raw, _$_, _∵_, !, qed, move, keep, fsplit, suffices, frame, done}
 use types.Run.{look, init, and-then, no-more, land, returns, enter, alloc1, alloc0, params1, pass1, pass0, free0}
 use sound.WpLaws.{FmC, fmOf, WpFn-mono}
 use denote.RattleType.{owns}
 use denote.Laws.{Is}
 use denote.Plain.{UInt}
 use denote.Ref.{RefT, now}
-use denote.Signature.{plain, typesAt}
-use denote.Slice.{sliceVal, ShrSlice, slice-vals, shr-slice-tells, shr-slice-lawful}
+use denote.Signature.{typesAt}
+use denote.Slice.{ShrSlice, slice-vals, shr-slice-tells, shr-slice-lawful}
 use denote.Steps.{nothing, owned}
+use denote.Triple.Clauses.{Clauses}
 use denote.Triple.Entry.{onEntry}
 use denote.Triple.Spec.{Meets, tripleOf}
 use denote.Triple.Statement.{Contract, Triple}
 use denote.Triple.Table.{entered, cited}
-use denote.Triple.Walked.{says, needs, Stays, stay-none, stay-none-slice, walkOf, goes-none, goes-none-slice, Walks, ends-at, walked, walk-meets}
-use denote.Exit.{yes}
-use Rattle.walks.proofs.Walk.{untok, retok, gone}
-use Rattle.walks.proofs.Held.{Held, number, of-struct, plus, lends, calls-held, into, local}
+use denote.Triple.Walked.{says, needs, Stays, walkOf, Walks, ends-at, walked, walk-meets}
+use Rattle.walks.proofs.Walk.{untok, retok, gone, drops, drops-go}
+use Rattle.walks.proofs.Held.{Held, number, of-struct, vals, Lies, plus, lends, none, calls-held, into, local}
 use Rattle.store.specs.Find.{narrowedTo}
 use Rattle.store.specs.declared.Entry.{Entry}
 use Rattle.store.proofs.Entry as EntryT
@@ -52,7 +52,7 @@ use Rattle.entries.proofs.narrowed_at.Statement as stated
 use Rattle.entries.proofs.narrowed_at.Code as code
 
 abbrev stayed : Stays (this.ended .signature .params) (this.ended .kept)
-stayed = (stay-none-slice (0 ∷ []) tt (plain (λ _. EntryT.the-row)) yes, (stay-none (λ _. WantedT.the-row) yes, (stay-none (λ _. (UInt w64)) yes, (stay-none (λ _. (UInt w64)) yes, tt))))
+stayed = drops (this.ended .signature .params) (this.ended .kept)
 
 module _ {M : Type 1} (𝓤 : URA M) (H : Heap 𝓤) (A : Atoms 𝓤) (W : Given 𝓤 H A) (mem : Memory → SProp 𝓤) (calling : Routine → Fun 𝓤) where
   -- how values lie in locals
@@ -65,7 +65,7 @@ module _ {M : Type 1} (𝓤 : URA M) (H : Heap 𝓤) (A : Atoms 𝓤) (W : Given
   abbrev as-Wanted : Held W WantedT.the-row
   as-Wanted = of-struct W WantedT.the-type WantedL.the-laws WantedL.the-plain
 
-  -- the contracts that the proof cites
+  -- the contracts that the proof cites, and its own
   abbrev Its-entry-at : Contract 𝓤
   Its-entry-at = tripleOf 𝓤 H A entry-at.signature (entry-at.spec 𝓤 H A mem calling)
 
@@ -76,20 +76,27 @@ module _ {M : Type 1} (𝓤 : URA M) (H : Heap 𝓤) (A : Atoms 𝓤) (W : Given
     pub entry-at : Triple 𝓤 (C entry-at-def.name) Its-entry-at
     pub narrowed : Triple 𝓤 (C narrowed-def.name) Its-narrowed
 
-  module _ (κ₀ : Lft) (q₀ : Share) (entries : RefT (List Entry)) (wanted : Wanted) (i : ℕ) (upto : ℕ)
-      (in-entries : Is (ShrSlice (named 0) κ₀ EntryT.the-row) entries (slice-vals entries)) (in-wanted : Is WantedT.the-row wanted (as-Wanted .val wanted ∷ [])) (in-i : Is (UInt w64) i (as-w64 .val i ∷ [])) (in-upto : Is (UInt w64) upto (as-w64 .val upto ∷ [])) (asks : i < length (now entries)) where
-    abbrev This : Contract 𝓤
-    This = walkOf 𝓤 H A this.ended stayed (this.clauses 𝓤 H A mem calling)
+  abbrev clauses : Clauses 𝓤 this.ended
+  clauses = this.clauses 𝓤 H A mem calling
 
+  abbrev This : Contract 𝓤
+  This = walkOf 𝓤 H A this.ended stayed clauses
+
+  module _ (κ₀ : Lft) (q₀ : Share) (entries : RefT (List Entry)) (wanted : Wanted) (i : ℕ) (upto : ℕ)
+      (in-entries : Is (ShrSlice (named 0) κ₀ EntryT.the-row) entries (slice-vals entries))
+      (in-wanted : Lies as-Wanted wanted)
+      (in-i : Lies as-w64 i)
+      (in-upto : Lies as-w64 upto)
+      (asks : i < length (now entries)) where
     abbrev bound : This .Ghost
-    bound = (((κ₀, tt), (q₀, tt), tt, (entries, (wanted, (i, (upto, tt)))), (slice-vals entries, (as-Wanted .val wanted ∷ [], (as-w64 .val i ∷ [], (as-w64 .val upto ∷ [], tt))))), tt)
+    bound = (((κ₀, tt), (q₀, tt), tt, (entries, (wanted, (i, (upto, tt)))), (slice-vals entries, (vals as-Wanted wanted, (vals as-w64 i, (vals as-w64 upto, tt))))), tt)
 
     -- what each call is handed
     abbrev to-e : Its-entry-at .Ghost
-    to-e = (((κ₀, tt), (q₀, tt), tt, (entries, (i, tt)), (slice-vals entries, (as-w64 .val i ∷ [], tt))), tt)
+    to-e = (((κ₀, tt), (q₀, tt), tt, (entries, (i, tt)), (slice-vals entries, (vals as-w64 i, tt))), tt)
 
     abbrev to-r : (e : Entry) → Its-narrowed .Ghost
-    to-r e = ((tt, tt, tt, (e, (wanted, (i, (upto, tt)))), (as-Entry .val e ∷ [], (as-Wanted .val wanted ∷ [], (as-w64 .val i ∷ [], (as-w64 .val upto ∷ [], tt))))), tt)
+    to-r e = ((tt, tt, tt, (e, (wanted, (i, (upto, tt)))), (vals as-Entry e, (vals as-Wanted wanted, (vals as-w64 i, (vals as-w64 upto, tt))))), tt)
 
     module _ (𝓣 : Tables 𝓤 H) (fm : FmC 𝓤 H (W .laws) (𝓣 .C)) (known : Known (𝓣 .C)) where
       abbrev C : Calls 𝓤 H
@@ -98,10 +105,11 @@ module _ {M : Type 1} (𝓤 : URA M) (H : Heap 𝓤) (A : Atoms 𝓤) (W : Given
       abbrev Λ : Loops 𝓤 H
       Λ = 𝓣 .Λ
 
-      walk : ent 𝓤 (onEntry 𝓤 H A this.signature (κ₀, tt) (q₀, tt) (bound .0 .3) (bound .0 .4)) (WpFn 𝓤 H C Λ code.function (sliceVal (entries .ptr) (length (entries .now)) ∷ as-Wanted .val wanted ∷ as-w64 .val i ∷ as-w64 .val upto ∷ []) (This .post bound))
+      walk : ent 𝓤 (onEntry 𝓤 H A this.signature (κ₀, tt) (q₀, tt) (bound .0 .3) (bound .0 .4))
+          (WpFn 𝓤 H C Λ code.function (This .args bound) (This .post bound))
       walk =
           qed W (raw (toks 𝓤 A 1 (κ₀, tt) (q₀, tt)) ∷ ‵ (owns (typesAt (this.signature .params) (κ₀, tt)) (bound .0 .3) (bound .0 .4)) ∷ []) ∵
-          untok ! 1 (κ₀, tt) (q₀, tt) $ move ! (1 ∷ []) $ fsplit ! $ keep ! (2 ∷ 0 ∷ []) $ enter ! C Λ code.function (sliceVal (entries .ptr) (length (entries .now)) ∷ as-Wanted .val wanted ∷ as-w64 .val i ∷ as-w64 .val upto ∷ []) _ $
+          untok ! 1 (κ₀, tt) (q₀, tt) $ move ! (1 ∷ []) $ fsplit ! $ keep ! (2 ∷ 0 ∷ []) $ enter ! C Λ code.function (This .args bound) _ $
           alloc1 ! (λ l₀. alloc1 ! (λ l₁. alloc1 ! (λ l₂. alloc1 ! (λ l₃. alloc1 ! (λ l₄. alloc1 ! (λ l₅. alloc0 ! $ params1 ! $
           pass1 ! (init ! 8 refl (shr-slice-lawful 𝓤 H A W (named 0) κ₀ EntryT.the-row .typed entries (slice-vals entries) in-entries .0)) $
           pass1 ! (init ! 6 refl (as-Wanted .lawful .typed wanted _ in-wanted .0)) $
@@ -110,28 +118,34 @@ module _ {M : Type 1} (𝓤 : URA M) (H : Heap 𝓤) (A : Atoms 𝓤) (W : Given
           pass0 ! $ move ! (12 ∷ 13 ∷ []) $
           -- e is entries::entry_at(entries, i)
           nothing ! $ plus ! as-w64 i in-i $ lends ! 1 (named 0) κ₀ EntryT.the-row entries refl $ move ! (1 ∷ 0 ∷ []) $
-          calls-held ! fm entry-at.ended (entry-at.clauses 𝓤 H A mem calling) (known .entry-at) (to-e) (factI 𝓤 _ (emp 𝓤) (asks)) as-Entry (λ r ws. id⊢ 𝓤 _)
+          calls-held ! fm entry-at.ended (entry-at.clauses 𝓤 H A mem calling) (known .entry-at) to-e (factI 𝓤 _ (emp 𝓤) asks) as-Entry (λ r ws. id⊢ 𝓤 _)
           (and-then ! (local ! (look ! 10 refl)) (and-then ! (local ! (look ! 6 refl)) (no-more !))) (λ e is-e in-e.
           land ! (into !) (init ! 2 refl (as-Entry .lawful .typed e _ in-e .0)) $
           -- r is entries::narrowed(e, wanted, i, upto)
           nothing ! $ plus ! as-w64 upto in-upto $ plus ! as-w64 i in-i $ plus ! as-Wanted wanted in-wanted $ plus ! as-Entry e in-e $
           calls-held ! fm narrowed.ended (narrowed.clauses 𝓤 H A mem calling) (known .narrowed) (to-r e) (id⊢ 𝓤 _) as-w64 (λ r ws. id⊢ 𝓤 _)
-          (and-then ! (local ! (look ! 3 refl)) (and-then ! (local ! (look ! 9 refl)) (and-then ! (local ! (look ! 7 refl)) (and-then ! (local ! (look ! 5 refl)) (no-more !))))) (λ r is-r in-r.
+          (and-then ! (local ! (look ! 3 refl)) (and-then ! (local ! (look ! 9 refl)) (and-then ! (local ! (look ! 7 refl)) (and-then ! (local ! (look ! 5 refl)) (no-more !)))))
+          (λ r is-r in-r.
           land ! (into !) (init ! 12 refl (as-w64 .lawful .typed r _ in-r .0)) $
           returns ! (look ! 12 refl) $
           gone ! 12 refl refl $ gone ! 10 refl refl $ gone ! 8 refl refl $ gone ! 6 refl refl $ gone ! 4 refl refl $ gone ! 2 refl refl $ free0 ! $
-          suffices ! _ (ends-at 𝓤 H A this.ended stayed (this.clauses 𝓤 H A mem calling) W bound (as-w64 .val r) r (tt, (tt, (tt, (tt, tt)))) (tt, (tt, (tt, (tt, tt))))) $ says ! (is-r ∙ ap (λ e. narrowedTo e wanted i upto) is-e) $
-          retok ! 1 (κ₀, tt) (q₀, tt) $ frame ! $ nothing ! $ plus ! as-w64 upto in-upto $ plus ! as-w64 i in-i $ plus ! as-Wanted wanted in-wanted $ move ! (1 ∷ 0 ∷ []) $ fjoin ! $ frame ! $ owned ! (UInt w64) (Is (UInt w64)) (as-w64 .makes) r _ in-r $ done !))))))))
+          suffices ! _ (ends-at 𝓤 H A this.ended stayed clauses W bound (as-w64 .val r) r (tt, (tt, (tt, (tt, tt)))) (tt, (tt, (tt, (tt, tt))))) $
+          says ! (is-r ∙ ap (λ e. narrowedTo e wanted i upto) is-e) $
+          keep ! (0 ∷ []) $ retok ! 1 (κ₀, tt) (q₀, tt) $ frame ! $ nothing ! $ none ! $ none ! $ none ! $ none ! $ frame ! $ owned ! (UInt w64) (Is (UInt w64)) (as-w64 .makes) r _ in-r $
+          done !))))))))
 
   module _ (𝓣 : Tables 𝓤 H) (known : Known (𝓣 .C)) where
-    walks : Walks 𝓤 H A this.ended stayed (WpFn 𝓤 H (𝓣 .C) (𝓣 .Λ) code.function) (this.clauses 𝓤 H A mem calling)
-    walks = walked 𝓤 H A this.ended stayed (this.clauses 𝓤 H A mem calling) (WpFn 𝓤 H (𝓣 .C) (𝓣 .Λ) code.function) (λ κs. (slice-vals, (λ x. as-Wanted .val x ∷ [], (λ x. as-w64 .val x ∷ [], (λ x. as-w64 .val x ∷ [], tt)))))
+    walks : Walks 𝓤 H A this.ended stayed (WpFn 𝓤 H (𝓣 .C) (𝓣 .Λ) code.function) clauses
+    walks = walked 𝓤 H A this.ended stayed clauses (WpFn 𝓤 H (𝓣 .C) (𝓣 .Λ) code.function)
+        (λ κs. (slice-vals, (vals as-Wanted, (vals as-w64, (vals as-w64, tt)))))
         (λ κs. (shr-slice-tells (named 0) (κs .0) EntryT.the-row, (as-Wanted .tells, (as-w64 .tells, (as-w64 .tells, tt)))))
-        (λ κs qs bounds a g are. needs 𝓤 _ _ (λ asks. walk (κs .0) (qs .0) (a .0) (a .1 .0) (a .1 .1 .0) (a .1 .1 .1 .0) (are .0) (are .1 .0) (are .1 .1 .0) (are .1 .1 .1 .0) asks 𝓣 (fmOf 𝓤 H (W .laws) 𝓣) known))
+        (λ κs qs bounds a g are. needs 𝓤 _ _ (λ asks. walk (κs .0) (qs .0) (a .0) (a .1 .0) (a .1 .1 .0) (a .1 .1 .1 .0) (are .0) (are .1 .0) (are .1 .1 .0) (are .1 .1 .1 .0) asks 𝓣
+        (fmOf 𝓤 H (W .laws) 𝓣) known))
 
     meets : Meets 𝓤 H A this.signature (WpFn 𝓤 H (𝓣 .C) (𝓣 .Λ) code.function) (this.spec 𝓤 H A mem calling)
-    meets = walk-meets 𝓤 H A this.ended stayed W (goes-none-slice 𝓤 H A W 1 (0 ∷ []) tt (plain (λ _. EntryT.the-row)) yes, (goes-none 𝓤 H A W 1 (λ _. WantedT.the-row) yes (λ κs x f. refl), (goes-none 𝓤 H A W 1 (λ _. (UInt w64)) yes (λ κs x f. refl), (goes-none 𝓤 H A W 1 (λ _. (UInt w64)) yes (λ κs x f. refl), tt))))
-        (this.clauses 𝓤 H A mem calling) (WpFn 𝓤 H (𝓣 .C) (𝓣 .Λ) code.function) (WpFn-mono 𝓤 H (W .laws) 𝓣 code.function) walks
+    meets = walk-meets 𝓤 H A this.ended stayed W
+        (drops-go 𝓤 H A W 1 (this.ended .signature .params) (this.ended .kept) (λ κs x f. refl, (λ κs x f. refl, (λ κs x f. refl, (λ κs x f. refl, tt)))))
+        clauses (WpFn 𝓤 H (𝓣 .C) (𝓣 .Λ) code.function) (WpFn-mono 𝓤 H (W .laws) 𝓣 code.function) walks
 
 pub narrowed-at-spec : {M : Type 1} → stated.statement M
 unfolding code.routine tablesOf
@@ -140,6 +154,8 @@ narrowed-at-spec 𝓤 H 𝓜 𝓖 𝓡 =
     entered 𝓤 H (tripleOf 𝓤 H (𝓖 .A) this.signature (this.spec 𝓤 H (𝓖 .A) (𝓜 .mem) (𝓡 .run)))
     (tables 𝓤 H 𝓜 𝓡 code.env .C) (tables 𝓤 H 𝓜 𝓡 code.env .Λ) this-def.name code.function (code.unfolded 𝓤 H 𝓜 𝓡)
     (meets 𝓤 H (𝓖 .A) W (𝓜 .mem) (𝓡 .run) (tablesOf 𝓤 H 𝓜 (tables 𝓤 H 𝓜 𝓡 code.env)) (record {
-      entry-at = cited 𝓤 H (Its-entry-at 𝓤 H (𝓖 .A) W (𝓜 .mem) (𝓡 .run)) 𝓜 𝓡 code.env entry-at-def.name entry-at-def.routine code.calls-entries·entry-at (entry-at-thm.met 𝓤 H 𝓜 𝓖 𝓡);
-      narrowed = cited 𝓤 H (Its-narrowed 𝓤 H (𝓖 .A) W (𝓜 .mem) (𝓡 .run)) 𝓜 𝓡 code.env narrowed-def.name narrowed-def.routine code.calls-entries·narrowed (narrowed-thm.met 𝓤 H 𝓜 𝓖 𝓡);
+      entry-at = cited 𝓤 H (Its-entry-at 𝓤 H (𝓖 .A) W (𝓜 .mem) (𝓡 .run)) 𝓜 𝓡 code.env
+          entry-at-def.name entry-at-def.routine code.calls-entries·entry-at (entry-at-thm.met 𝓤 H 𝓜 𝓖 𝓡);
+      narrowed = cited 𝓤 H (Its-narrowed 𝓤 H (𝓖 .A) W (𝓜 .mem) (𝓡 .run)) 𝓜 𝓡 code.env
+          narrowed-def.name narrowed-def.routine code.calls-entries·narrowed (narrowed-thm.met 𝓤 H 𝓜 𝓖 𝓡);
     }))

@@ -16,24 +16,24 @@ use ghost.Atoms.{Atoms}
 use contract.Lifetimes.{toks}
 use contract.Monad.{Fun, factI}
 use contract.Running.{givenOf, tables, tablesOf}
-use types.Kit.{Given, ‵, raw, _$_, _∵_, !, qed, move, keep, fsplit, fjoin, suffices, frame, done}
+use types.Kit.{Given, ‵, raw, _$_, _∵_, !, qed, move, keep, fsplit, suffices, frame, done}
 use types.Run.{look, init, lit, and-then, no-more, land, returns, enter, alloc1, alloc0, params1, pass1, pass0, free0}
 use sound.WpLaws.{FmC, fmOf, WpFn-mono}
 use denote.RattleType.{owns}
 use denote.Laws.{Is}
 use denote.Plain.{UInt}
 use denote.Ref.{RefT, now}
-use denote.Signature.{plain, typesAt}
-use denote.Slice.{sliceVal, ShrSlice, slice-vals, shr-slice-tells, shr-slice-lawful}
+use denote.Signature.{typesAt}
+use denote.Slice.{ShrSlice, slice-vals, shr-slice-tells, shr-slice-lawful}
 use denote.Steps.{nothing, owned}
+use denote.Triple.Clauses.{Clauses}
 use denote.Triple.Entry.{onEntry}
 use denote.Triple.Spec.{Meets, tripleOf}
 use denote.Triple.Statement.{Contract, Triple}
 use denote.Triple.Table.{entered, cited}
-use denote.Triple.Walked.{says, needs, Stays, stay-none, stay-none-slice, walkOf, goes-none, goes-none-slice, Walks, ends-at, walked, walk-meets}
-use denote.Exit.{yes}
-use Rattle.walks.proofs.Walk.{untok, retok, gone}
-use Rattle.walks.proofs.Held.{Held, number, of-struct, of-enum, plus, lends, calls-held, into, local}
+use denote.Triple.Walked.{says, needs, Stays, walkOf, Walks, ends-at, walked, walk-meets}
+use Rattle.walks.proofs.Walk.{untok, retok, gone, drops, drops-go}
+use Rattle.walks.proofs.Held.{Held, number, of-struct, of-enum, vals, Lies, plus, lends, none, calls-held, into, local}
 use Rattle.across.specs.At.{At}
 use Rattle.restore.proofs.Across.{limit-place, owner-place, twin-places, may-reuse, settled}
 use Rattle.across.specs.declared.Across.{Across}
@@ -75,7 +75,7 @@ use Rattle.restore.proofs.across_at.Statement as stated
 use Rattle.restore.proofs.across_at.Code as code
 
 abbrev stayed : Stays (this.ended .signature .params) (this.ended .kept)
-stayed = (stay-none-slice (0 ∷ []) tt (plain (λ _. (UInt w8))) yes, (stay-none-slice (1 ∷ []) tt (plain (λ _. EntryT.the-row)) yes, (stay-none (λ _. (UInt w64)) yes, (stay-none (λ _. AcrossT.the-row) yes, tt))))
+stayed = drops (this.ended .signature .params) (this.ended .kept)
 
 module _ {M : Type 1} (𝓤 : URA M) (H : Heap 𝓤) (A : Atoms 𝓤) (W : Given 𝓤 H A) (mem : Memory → SProp 𝓤) (calling : Routine → Fun 𝓤) where
   -- how values lie in locals
@@ -94,7 +94,7 @@ module _ {M : Type 1} (𝓤 : URA M) (H : Heap 𝓤) (A : Atoms 𝓤) (W : Given
   abbrev as-Wanted : Held W WantedT.the-row
   as-Wanted = of-struct W WantedT.the-type WantedL.the-laws WantedL.the-plain
 
-  -- the contracts that the proof cites
+  -- the contracts that the proof cites, and its own
   abbrev Its-entries-entry-at : Contract 𝓤
   Its-entries-entry-at = tripleOf 𝓤 H A entries-entry-at.signature (entries-entry-at.spec 𝓤 H A mem calling)
 
@@ -129,41 +129,57 @@ module _ {M : Type 1} (𝓤 : URA M) (H : Heap 𝓤) (A : Atoms 𝓤) (W : Given
     pub entries-find : Triple 𝓤 (C entries-find-def.name) Its-entries-find
     pub across-settle : Triple 𝓤 (C across-settle-def.name) Its-across-settle
 
-  module _ (κ₀ κ₁ : Lft) (q₀ q₁ : Share) (run : RefT (List ℕ)) (entries : RefT (List Entry)) (i : ℕ) (state : Across)
-      (in-run : Is (ShrSlice (named 0) κ₀ (UInt w8)) run (slice-vals run)) (in-entries : Is (ShrSlice (named 1) κ₁ EntryT.the-row) entries (slice-vals entries)) (in-i : Is (UInt w64) i (as-w64 .val i ∷ [])) (in-state : Is AcrossT.the-row state (as-Across .val state ∷ [])) (asks : (i < length (now entries)) × At (now run) (now entries) i state) where
-    abbrev This : Contract 𝓤
-    This = walkOf 𝓤 H A this.ended stayed (this.clauses 𝓤 H A mem calling)
+  abbrev clauses : Clauses 𝓤 this.ended
+  clauses = this.clauses 𝓤 H A mem calling
 
+  abbrev This : Contract 𝓤
+  This = walkOf 𝓤 H A this.ended stayed clauses
+
+  module _ (κ₀ κ₁ : Lft) (q₀ q₁ : Share) (run : RefT (List ℕ)) (entries : RefT (List Entry)) (i : ℕ) (state : Across)
+      (in-run : Is (ShrSlice (named 0) κ₀ (UInt w8)) run (slice-vals run))
+      (in-entries : Is (ShrSlice (named 1) κ₁ EntryT.the-row) entries (slice-vals entries))
+      (in-i : Lies as-w64 i)
+      (in-state : Lies as-Across state)
+      (asks : (i < length (now entries)) × At (now run) (now entries) i state) where
     abbrev bound : This .Ghost
-    bound = (((κ₀, (κ₁, tt)), (q₀, (q₁, tt)), tt, (run, (entries, (i, (state, tt)))), (slice-vals run, (slice-vals entries, (as-w64 .val i ∷ [], (as-Across .val state ∷ [], tt))))), tt)
+    bound = (((κ₀, (κ₁, tt)), (q₀, (q₁, tt)), tt, (run, (entries, (i, (state, tt)))), (slice-vals run, (slice-vals entries, (vals as-w64 i, (vals as-Across state, tt))))), tt)
 
     -- what each call is handed
     abbrev to-e : Its-entries-entry-at .Ghost
-    to-e = (((κ₁, tt), (q₁, tt), tt, (entries, (i, tt)), (slice-vals entries, (as-w64 .val i ∷ [], tt))), tt)
+    to-e = (((κ₁, tt), (q₁, tt), tt, (entries, (i, tt)), (slice-vals entries, (vals as-w64 i, tt))), tt)
 
     abbrev to-limit : (e : Entry) → Its-across-owner-limit .Ghost
-    to-limit e = ((tt, tt, tt, (e, (i, (state, tt))), (as-Entry .val e ∷ [], (as-w64 .val i ∷ [], (as-Across .val state ∷ [], tt)))), tt)
+    to-limit e = ((tt, tt, tt, (e, (i, (state, tt))), (vals as-Entry e, (vals as-w64 i, (vals as-Across state, tt)))), tt)
 
     abbrev to-spot : (e : Entry) → (limit : ℕ) → Its-across-spot-of .Ghost
-    to-spot e limit = ((tt, tt, tt, (state, tt), (as-Across .val state ∷ [], tt)), tt)
+    to-spot e limit = ((tt, tt, tt, (state, tt), (vals as-Across state, tt)), tt)
 
     abbrev to-p : (e : Entry) → (limit : ℕ) → (spot : ℕ) → Its-owner-at .Ghost
-    to-p e limit spot = (((κ₁, tt), (q₁, tt), tt, (entries, (e, (limit, (spot, tt)))), (slice-vals entries, (as-Entry .val e ∷ [], (as-w64 .val limit ∷ [], (as-w64 .val spot ∷ [], tt))))), tt)
+    to-p e limit spot = (((κ₁, tt), (q₁, tt), tt, (entries, (e, (limit, (spot, tt)))), (slice-vals entries, (vals as-Entry e, (vals as-w64 limit, (vals as-w64 spot, tt))))), tt)
 
     abbrev to-c : (e : Entry) → (limit : ℕ) → (spot : ℕ) → (p : ℕ) → Its-entries-entry-at .Ghost
-    to-c e limit spot p = (((κ₁, tt), (q₁, tt), tt, (entries, (p, tt)), (slice-vals entries, (as-w64 .val p ∷ [], tt))), tt)
+    to-c e limit spot p = (((κ₁, tt), (q₁, tt), tt, (entries, (p, tt)), (slice-vals entries, (vals as-w64 p, tt))), tt)
 
     abbrev to-twin : (e : Entry) → (limit : ℕ) → (spot : ℕ) → (p : ℕ) → (c : Entry) → Its-across-twin-of .Ghost
-    to-twin e limit spot p c = ((tt, tt, tt, (e, tt), (as-Entry .val e ∷ [], tt)), tt)
+    to-twin e limit spot p c = ((tt, tt, tt, (e, tt), (vals as-Entry e, tt)), tt)
 
     abbrev to-upto : (e : Entry) → (limit : ℕ) → (spot : ℕ) → (p : ℕ) → (c : Entry) → (twin : Wanted) → Its-across-twin-limit .Ghost
-    to-upto e limit spot p c twin = ((tt, tt, tt, (e, (i, (state, tt))), (as-Entry .val e ∷ [], (as-w64 .val i ∷ [], (as-Across .val state ∷ [], tt)))), tt)
+    to-upto e limit spot p c twin = ((tt, tt, tt, (e, (i, (state, tt))), (vals as-Entry e, (vals as-w64 i, (vals as-Across state, tt)))), tt)
 
     abbrev to-t : (e : Entry) → (limit : ℕ) → (spot : ℕ) → (p : ℕ) → (c : Entry) → (twin : Wanted) → (upto : ℕ) → Its-entries-find .Ghost
-    to-t e limit spot p c twin upto = (((κ₁, tt), (q₁, tt), tt, (entries, (twin, (0, (upto, tt)))), (slice-vals entries, (as-Wanted .val twin ∷ [], (as-w64 .val 0 ∷ [], (as-w64 .val upto ∷ [], tt))))), tt)
+    to-t e limit spot p c twin upto = (((κ₁, tt), (q₁, tt), tt, (entries, (twin, (0, (upto, tt)))), (slice-vals entries, (vals as-Wanted twin, (vals as-w64 0, (vals as-w64 upto, tt))))), tt)
 
     abbrev to-r : (e : Entry) → (limit : ℕ) → (spot : ℕ) → (p : ℕ) → (c : Entry) → (twin : Wanted) → (upto : ℕ) → (t : ℕ) → Its-across-settle .Ghost
-    to-r e limit spot p c twin upto t = (((κ₀, tt), (q₀, tt), tt, (run, (e, (c, (i, (p, (t, (state, tt))))))), (slice-vals run, (as-Entry .val e ∷ [], (as-Entry .val c ∷ [], (as-w64 .val i ∷ [], (as-w64 .val p ∷ [], (as-w64 .val t ∷ [], (as-Across .val state ∷ [], tt)))))))), tt)
+    to-r e limit spot p c twin upto t = (
+      (
+        (κ₀, tt),
+        (q₀, tt),
+        tt,
+        (run, (e, (c, (i, (p, (t, (state, tt))))))),
+        (slice-vals run, (vals as-Entry e, (vals as-Entry c, (vals as-w64 i, (vals as-w64 p, (vals as-w64 t, (vals as-Across state, tt))))))),
+      ),
+      tt,
+    )
 
     module _ (𝓣 : Tables 𝓤 H) (fm : FmC 𝓤 H (W .laws) (𝓣 .C)) (known : Known (𝓣 .C)) where
       abbrev C : Calls 𝓤 H
@@ -172,11 +188,13 @@ module _ {M : Type 1} (𝓤 : URA M) (H : Heap 𝓤) (A : Atoms 𝓤) (W : Given
       abbrev Λ : Loops 𝓤 H
       Λ = 𝓣 .Λ
 
-      walk : ent 𝓤 (onEntry 𝓤 H A this.signature (κ₀, (κ₁, tt)) (q₀, (q₁, tt)) (bound .0 .3) (bound .0 .4)) (WpFn 𝓤 H C Λ code.function (sliceVal (run .ptr) (length (run .now)) ∷ sliceVal (entries .ptr) (length (entries .now)) ∷ as-w64 .val i ∷ as-Across .val state ∷ []) (This .post bound))
+      walk : ent 𝓤 (onEntry 𝓤 H A this.signature (κ₀, (κ₁, tt)) (q₀, (q₁, tt)) (bound .0 .3) (bound .0 .4))
+          (WpFn 𝓤 H C Λ code.function (This .args bound) (This .post bound))
       walk =
           qed W (raw (toks 𝓤 A 2 (κ₀, (κ₁, tt)) (q₀, (q₁, tt))) ∷ ‵ (owns (typesAt (this.signature .params) (κ₀, (κ₁, tt))) (bound .0 .3) (bound .0 .4)) ∷ []) ∵
-          untok ! 2 (κ₀, (κ₁, tt)) (q₀, (q₁, tt)) $ move ! (2 ∷ []) $ fsplit ! $ move ! (1 ∷ []) $ fsplit ! $ keep ! (3 ∷ 4 ∷ 2 ∷ 0 ∷ []) $ enter ! C Λ code.function (sliceVal (run .ptr) (length (run .now)) ∷ sliceVal (entries .ptr) (length (entries .now)) ∷ as-w64 .val i ∷ as-Across .val state ∷ []) _ $
-          alloc1 ! (λ l₀. alloc1 ! (λ l₁. alloc1 ! (λ l₂. alloc1 ! (λ l₃. alloc1 ! (λ l₄. alloc1 ! (λ l₅. alloc1 ! (λ l₆. alloc1 ! (λ l₇. alloc1 ! (λ l₈. alloc1 ! (λ l₉. alloc1 ! (λ l₁₀. alloc1 ! (λ l₁₁. alloc1 ! (λ l₁₂. alloc0 ! $ params1 ! $
+          untok ! 2 (κ₀, (κ₁, tt)) (q₀, (q₁, tt)) $ move ! (2 ∷ []) $ fsplit ! $ move ! (1 ∷ []) $ fsplit ! $ keep ! (3 ∷ 4 ∷ 2 ∷ 0 ∷ []) $ enter ! C Λ code.function (This .args bound) _ $
+          alloc1 ! (λ l₀. alloc1 ! (λ l₁. alloc1 ! (λ l₂. alloc1 ! (λ l₃. alloc1 !
+          (λ l₄. alloc1 ! (λ l₅. alloc1 ! (λ l₆. alloc1 ! (λ l₇. alloc1 ! (λ l₈. alloc1 ! (λ l₉. alloc1 ! (λ l₁₀. alloc1 ! (λ l₁₁. alloc1 ! (λ l₁₂. alloc0 ! $ params1 ! $
           pass1 ! (init ! 22 refl (shr-slice-lawful 𝓤 H A W (named 0) κ₀ (UInt w8) .typed run (slice-vals run) in-run .0)) $
           pass1 ! (init ! 20 refl (shr-slice-lawful 𝓤 H A W (named 1) κ₁ EntryT.the-row .typed entries (slice-vals entries) in-entries .0)) $
           pass1 ! (init ! 18 refl (as-w64 .lawful .typed i _ in-i .0)) $
@@ -184,7 +202,7 @@ module _ {M : Type 1} (𝓤 : URA M) (H : Heap 𝓤) (A : Atoms 𝓤) (W : Given
           pass0 ! $ move ! (26 ∷ 27 ∷ 28 ∷ 29 ∷ []) $
           -- e is entries::entry_at(entries, i)
           nothing ! $ plus ! as-w64 i in-i $ lends ! 3 (named 1) κ₁ EntryT.the-row entries refl $ move ! (2 ∷ 0 ∷ []) $
-          calls-held ! fm entries-entry-at.ended (entries-entry-at.clauses 𝓤 H A mem calling) (known .entries-entry-at) (to-e) (factI 𝓤 _ (emp 𝓤) (asks .0)) as-Entry (λ r ws. id⊢ 𝓤 _)
+          calls-held ! fm entries-entry-at.ended (entries-entry-at.clauses 𝓤 H A mem calling) (known .entries-entry-at) to-e (factI 𝓤 _ (emp 𝓤) (asks .0)) as-Entry (λ r ws. id⊢ 𝓤 _)
           (and-then ! (local ! (look ! 24 refl)) (and-then ! (local ! (look ! 22 refl)) (no-more !))) (λ e is-e in-e.
           land ! (into !) (init ! 18 refl (as-Entry .lawful .typed e _ in-e .0)) $
           -- limit is across::owner_limit(e, i, state)
@@ -199,12 +217,15 @@ module _ {M : Type 1} (𝓤 : URA M) (H : Heap 𝓤) (A : Atoms 𝓤) (W : Given
           land ! (into !) (init ! 14 refl (as-w64 .lawful .typed spot _ in-spot .0)) $
           -- p is restore::owner_at(entries, e, limit, spot)
           nothing ! $ plus ! as-w64 spot in-spot $ plus ! as-w64 limit in-limit $ plus ! as-Entry e in-e $ lends ! 3 (named 1) κ₁ EntryT.the-row entries refl $ move ! (1 ∷ 0 ∷ []) $
-          calls-held ! fm owner-at.ended (owner-at.clauses 𝓤 H A mem calling) (known .owner-at) (to-p e limit spot) (factI 𝓤 _ (emp 𝓤) (limit-place e i state limit (length (now entries)) is-limit (asks .0))) as-w64 (λ r ws. id⊢ 𝓤 _)
-          (and-then ! (local ! (look ! 24 refl)) (and-then ! (local ! (look ! 18 refl)) (and-then ! (local ! (look ! 16 refl)) (and-then ! (local ! (look ! 14 refl)) (no-more !))))) (λ p is-p in-p.
+          calls-held ! fm owner-at.ended (owner-at.clauses 𝓤 H A mem calling) (known .owner-at) (to-p e limit spot)
+          (factI 𝓤 _ (emp 𝓤) (limit-place e i state limit (length (now entries)) is-limit (asks .0))) as-w64 (λ r ws. id⊢ 𝓤 _)
+          (and-then ! (local ! (look ! 24 refl)) (and-then ! (local ! (look ! 18 refl)) (and-then ! (local ! (look ! 16 refl)) (and-then ! (local ! (look ! 14 refl)) (no-more !)))))
+          (λ p is-p in-p.
           land ! (into !) (init ! 12 refl (as-w64 .lawful .typed p _ in-p .0)) $
           -- c is entries::entry_at(entries, p)
           nothing ! $ plus ! as-w64 p in-p $ lends ! 3 (named 1) κ₁ EntryT.the-row entries refl $ move ! (1 ∷ 0 ∷ []) $
-          calls-held ! fm entries-entry-at.ended (entries-entry-at.clauses 𝓤 H A mem calling) (known .entries-entry-at) (to-c e limit spot p) (factI 𝓤 _ (emp 𝓤) (owner-place (now entries) e i state limit spot p (length (now entries)) is-limit is-p (asks .0))) as-Entry (λ r ws. id⊢ 𝓤 _)
+          calls-held ! fm entries-entry-at.ended (entries-entry-at.clauses 𝓤 H A mem calling) (known .entries-entry-at) (to-c e limit spot p)
+          (factI 𝓤 _ (emp 𝓤) (owner-place (now entries) e i state limit spot p (length (now entries)) is-limit is-p (asks .0))) as-Entry (λ r ws. id⊢ 𝓤 _)
           (and-then ! (local ! (look ! 24 refl)) (and-then ! (local ! (look ! 12 refl)) (no-more !))) (λ c is-c in-c.
           land ! (into !) (init ! 10 refl (as-Entry .lawful .typed c _ in-c .0)) $
           -- twin is across::twin_of(e)
@@ -218,29 +239,41 @@ module _ {M : Type 1} (𝓤 : URA M) (H : Heap 𝓤) (A : Atoms 𝓤) (W : Given
           (and-then ! (local ! (look ! 19 refl)) (and-then ! (local ! (look ! 23 refl)) (and-then ! (local ! (look ! 21 refl)) (no-more !)))) (λ upto is-upto in-upto.
           land ! (into !) (init ! 6 refl (as-w64 .lawful .typed upto _ in-upto .0)) $
           -- t is entries::find(entries, twin, 0, upto)
-          nothing ! $ plus ! as-w64 upto in-upto $ plus ! as-w64 0 (refl, lit< tt) $ plus ! as-Wanted twin in-twin $ lends ! 3 (named 1) κ₁ EntryT.the-row entries refl $ move ! (1 ∷ 0 ∷ []) $
-          calls-held ! fm entries-find.ended (entries-find.clauses 𝓤 H A mem calling) (known .entries-find) (to-t e limit spot p c twin upto) (factI 𝓤 _ (emp 𝓤) (twin-places e i state upto (length (now entries)) is-upto (asks .0))) as-w64 (λ r ws. id⊢ 𝓤 _)
+          nothing ! $ plus ! as-w64 upto in-upto $ plus ! as-w64 0 (refl, lit< tt) $ plus ! as-Wanted twin in-twin $ lends ! 3 (named 1) κ₁ EntryT.the-row entries refl $
+          move ! (1 ∷ 0 ∷ []) $
+          calls-held ! fm entries-find.ended (entries-find.clauses 𝓤 H A mem calling) (known .entries-find) (to-t e limit spot p c twin upto)
+          (factI 𝓤 _ (emp 𝓤) (twin-places e i state upto (length (now entries)) is-upto (asks .0))) as-w64 (λ r ws. id⊢ 𝓤 _)
           (and-then ! (local ! (look ! 24 refl)) (and-then ! (local ! (look ! 8 refl)) (and-then ! (lit ! tt) (and-then ! (local ! (look ! 6 refl)) (no-more !))))) (λ t is-t in-t.
           land ! (into !) (init ! 4 refl (as-w64 .lawful .typed t _ in-t .0)) $
           -- r is across::settle(run, e, c, i, p, t, state)
-          nothing ! $ plus ! as-Across state in-state $ plus ! as-w64 t in-t $ plus ! as-w64 p in-p $ plus ! as-w64 i in-i $ plus ! as-Entry c in-c $ plus ! as-Entry e in-e $ lends ! 2 (named 0) κ₀ (UInt w8) run refl $ move ! (2 ∷ 0 ∷ []) $
-          calls-held ! fm across-settle.ended (across-settle.clauses 𝓤 H A mem calling) (known .across-settle) (to-r e limit spot p c twin upto t) (factI 𝓤 _ (emp 𝓤) (may-reuse (now run) (now entries) i state (asks .0) (asks .1) e c limit spot p is-e is-limit is-spot is-p is-c)) as-Across (λ r ws. id⊢ 𝓤 _)
-          (and-then ! (local ! (look ! 26 refl)) (and-then ! (local ! (look ! 18 refl)) (and-then ! (local ! (look ! 10 refl)) (and-then ! (local ! (look ! 22 refl)) (and-then ! (local ! (look ! 12 refl)) (and-then ! (local ! (look ! 4 refl)) (and-then ! (local ! (look ! 20 refl)) (no-more !)))))))) (λ r is-r in-r.
+          nothing ! $ plus ! as-Across state in-state $ plus ! as-w64 t in-t $ plus ! as-w64 p in-p $ plus ! as-w64 i in-i $ plus ! as-Entry c in-c $ plus ! as-Entry e in-e $
+          lends ! 2 (named 0) κ₀ (UInt w8) run refl $ move ! (2 ∷ 0 ∷ []) $
+          calls-held ! fm across-settle.ended (across-settle.clauses 𝓤 H A mem calling) (known .across-settle) (to-r e limit spot p c twin upto t)
+          (factI 𝓤 _ (emp 𝓤) (may-reuse (now run) (now entries) i state (asks .0) (asks .1) e c limit spot p is-e is-limit is-spot is-p is-c)) as-Across (λ r ws. id⊢ 𝓤 _)
+          (and-then ! (local ! (look ! 26 refl)) (and-then ! (local ! (look ! 18 refl))
+          (and-then ! (local ! (look ! 10 refl)) (and-then ! (local ! (look ! 22 refl))
+          (and-then ! (local ! (look ! 12 refl)) (and-then ! (local ! (look ! 4 refl)) (and-then ! (local ! (look ! 20 refl)) (no-more !)))))))) (λ r is-r in-r.
           land ! (into !) (init ! 28 refl (as-Across .lawful .typed r _ in-r .0)) $
           returns ! (look ! 28 refl) $
-          gone ! 28 refl refl $ gone ! 26 refl refl $ gone ! 24 refl refl $ gone ! 22 refl refl $ gone ! 20 refl refl $ gone ! 18 refl refl $ gone ! 16 refl refl $ gone ! 14 refl refl $ gone ! 12 refl refl $ gone ! 10 refl refl $ gone ! 8 refl refl $ gone ! 6 refl refl $ gone ! 4 refl refl $ free0 ! $
-          suffices ! _ (ends-at 𝓤 H A this.ended stayed (this.clauses 𝓤 H A mem calling) W bound (as-Across .val r) r (tt, (tt, (tt, (tt, tt)))) (tt, (tt, (tt, (tt, tt))))) $ says ! (settled (now run) (now entries) i state (asks .0) (asks .1) e c limit spot p is-e is-limit is-spot is-p is-c twin upto t r is-twin is-upto is-t is-r) $
-          retok ! 2 (κ₀, (κ₁, tt)) (q₀, (q₁, tt)) $ frame ! $ nothing ! $ plus ! as-Across state in-state $ plus ! as-w64 i in-i $ move ! (2 ∷ 0 ∷ []) $ fjoin ! $ move ! (1 ∷ 0 ∷ []) $ fjoin ! $ frame ! $ owned ! AcrossT.the-row (Is AcrossT.the-row) (as-Across .makes) r _ in-r $ done !))))))))))))))))))))))
+          gone ! 28 refl refl $ gone ! 26 refl refl $ gone ! 24 refl refl $ gone ! 22 refl refl $ gone ! 20 refl refl $ gone ! 18 refl refl $ gone ! 16 refl refl $ gone ! 14 refl refl $
+          gone ! 12 refl refl $ gone ! 10 refl refl $ gone ! 8 refl refl $ gone ! 6 refl refl $ gone ! 4 refl refl $ free0 ! $
+          suffices ! _ (ends-at 𝓤 H A this.ended stayed clauses W bound (as-Across .val r) r (tt, (tt, (tt, (tt, tt)))) (tt, (tt, (tt, (tt, tt))))) $
+          says ! (settled (now run) (now entries) i state (asks .0) (asks .1) e c limit spot p is-e is-limit is-spot is-p is-c twin upto t r is-twin is-upto is-t is-r) $
+          keep ! (0 ∷ 1 ∷ []) $ retok ! 2 (κ₀, (κ₁, tt)) (q₀, (q₁, tt)) $ frame ! $ nothing ! $ none ! $ none ! $ none ! $ none ! $ frame ! $
+          owned ! AcrossT.the-row (Is AcrossT.the-row) (as-Across .makes) r _ in-r $ done !))))))))))))))))))))))
 
   module _ (𝓣 : Tables 𝓤 H) (known : Known (𝓣 .C)) where
-    walks : Walks 𝓤 H A this.ended stayed (WpFn 𝓤 H (𝓣 .C) (𝓣 .Λ) code.function) (this.clauses 𝓤 H A mem calling)
-    walks = walked 𝓤 H A this.ended stayed (this.clauses 𝓤 H A mem calling) (WpFn 𝓤 H (𝓣 .C) (𝓣 .Λ) code.function) (λ κs. (slice-vals, (slice-vals, (λ x. as-w64 .val x ∷ [], (λ x. as-Across .val x ∷ [], tt)))))
+    walks : Walks 𝓤 H A this.ended stayed (WpFn 𝓤 H (𝓣 .C) (𝓣 .Λ) code.function) clauses
+    walks = walked 𝓤 H A this.ended stayed clauses (WpFn 𝓤 H (𝓣 .C) (𝓣 .Λ) code.function)
+        (λ κs. (slice-vals, (slice-vals, (vals as-w64, (vals as-Across, tt)))))
         (λ κs. (shr-slice-tells (named 0) (κs .0) (UInt w8), (shr-slice-tells (named 1) (κs .1 .0) EntryT.the-row, (as-w64 .tells, (as-Across .tells, tt)))))
-        (λ κs qs bounds a g are. needs 𝓤 _ _ (λ asks. walk (κs .0) (κs .1 .0) (qs .0) (qs .1 .0) (a .0) (a .1 .0) (a .1 .1 .0) (a .1 .1 .1 .0) (are .0) (are .1 .0) (are .1 .1 .0) (are .1 .1 .1 .0) asks 𝓣 (fmOf 𝓤 H (W .laws) 𝓣) known))
+        (λ κs qs bounds a g are. needs 𝓤 _ _ (λ asks. walk (κs .0) (κs .1 .0) (qs .0) (qs .1 .0) (a .0) (a .1 .0) (a .1 .1 .0) (a .1 .1 .1 .0) (are .0) (are .1 .0) (are .1 .1 .0)
+        (are .1 .1 .1 .0) asks 𝓣 (fmOf 𝓤 H (W .laws) 𝓣) known))
 
     meets : Meets 𝓤 H A this.signature (WpFn 𝓤 H (𝓣 .C) (𝓣 .Λ) code.function) (this.spec 𝓤 H A mem calling)
-    meets = walk-meets 𝓤 H A this.ended stayed W (goes-none-slice 𝓤 H A W 2 (0 ∷ []) tt (plain (λ _. (UInt w8))) yes, (goes-none-slice 𝓤 H A W 2 (1 ∷ []) tt (plain (λ _. EntryT.the-row)) yes, (goes-none 𝓤 H A W 2 (λ _. (UInt w64)) yes (λ κs x f. refl), (goes-none 𝓤 H A W 2 (λ _. AcrossT.the-row) yes (λ κs x f. refl), tt))))
-        (this.clauses 𝓤 H A mem calling) (WpFn 𝓤 H (𝓣 .C) (𝓣 .Λ) code.function) (WpFn-mono 𝓤 H (W .laws) 𝓣 code.function) walks
+    meets = walk-meets 𝓤 H A this.ended stayed W
+        (drops-go 𝓤 H A W 2 (this.ended .signature .params) (this.ended .kept) (λ κs x f. refl, (λ κs x f. refl, (λ κs x f. refl, (λ κs x f. refl, tt)))))
+        clauses (WpFn 𝓤 H (𝓣 .C) (𝓣 .Λ) code.function) (WpFn-mono 𝓤 H (W .laws) 𝓣 code.function) walks
 
 pub across-at-spec : {M : Type 1} → stated.statement M
 unfolding code.routine tablesOf
@@ -249,12 +282,20 @@ across-at-spec 𝓤 H 𝓜 𝓖 𝓡 =
     entered 𝓤 H (tripleOf 𝓤 H (𝓖 .A) this.signature (this.spec 𝓤 H (𝓖 .A) (𝓜 .mem) (𝓡 .run)))
     (tables 𝓤 H 𝓜 𝓡 code.env .C) (tables 𝓤 H 𝓜 𝓡 code.env .Λ) this-def.name code.function (code.unfolded 𝓤 H 𝓜 𝓡)
     (meets 𝓤 H (𝓖 .A) W (𝓜 .mem) (𝓡 .run) (tablesOf 𝓤 H 𝓜 (tables 𝓤 H 𝓜 𝓡 code.env)) (record {
-      entries-entry-at = cited 𝓤 H (Its-entries-entry-at 𝓤 H (𝓖 .A) W (𝓜 .mem) (𝓡 .run)) 𝓜 𝓡 code.env entries-entry-at-def.name entries-entry-at-def.routine code.calls-entries·entry-at (entries-entry-at-thm.met 𝓤 H 𝓜 𝓖 𝓡);
-      across-owner-limit = cited 𝓤 H (Its-across-owner-limit 𝓤 H (𝓖 .A) W (𝓜 .mem) (𝓡 .run)) 𝓜 𝓡 code.env across-owner-limit-def.name across-owner-limit-def.routine code.calls-across·owner-limit (across-owner-limit-thm.met 𝓤 H 𝓜 𝓖 𝓡);
-      across-spot-of = cited 𝓤 H (Its-across-spot-of 𝓤 H (𝓖 .A) W (𝓜 .mem) (𝓡 .run)) 𝓜 𝓡 code.env across-spot-of-def.name across-spot-of-def.routine code.calls-across·spot-of (across-spot-of-thm.met 𝓤 H 𝓜 𝓖 𝓡);
-      owner-at = cited 𝓤 H (Its-owner-at 𝓤 H (𝓖 .A) W (𝓜 .mem) (𝓡 .run)) 𝓜 𝓡 code.env owner-at-def.name owner-at-def.routine code.calls-restore·owner-at (owner-at-thm.met 𝓤 H 𝓜 𝓖 𝓡);
-      across-twin-of = cited 𝓤 H (Its-across-twin-of 𝓤 H (𝓖 .A) W (𝓜 .mem) (𝓡 .run)) 𝓜 𝓡 code.env across-twin-of-def.name across-twin-of-def.routine code.calls-across·twin-of (across-twin-of-thm.met 𝓤 H 𝓜 𝓖 𝓡);
-      across-twin-limit = cited 𝓤 H (Its-across-twin-limit 𝓤 H (𝓖 .A) W (𝓜 .mem) (𝓡 .run)) 𝓜 𝓡 code.env across-twin-limit-def.name across-twin-limit-def.routine code.calls-across·twin-limit (across-twin-limit-thm.met 𝓤 H 𝓜 𝓖 𝓡);
-      entries-find = cited 𝓤 H (Its-entries-find 𝓤 H (𝓖 .A) W (𝓜 .mem) (𝓡 .run)) 𝓜 𝓡 code.env entries-find-def.name entries-find-def.routine code.calls-entries·find (entries-find-thm.met 𝓤 H 𝓜 𝓖 𝓡);
-      across-settle = cited 𝓤 H (Its-across-settle 𝓤 H (𝓖 .A) W (𝓜 .mem) (𝓡 .run)) 𝓜 𝓡 code.env across-settle-def.name across-settle-def.routine code.calls-across·settle (across-settle-thm.met 𝓤 H 𝓜 𝓖 𝓡);
+      entries-entry-at = cited 𝓤 H (Its-entries-entry-at 𝓤 H (𝓖 .A) W (𝓜 .mem) (𝓡 .run)) 𝓜 𝓡 code.env
+          entries-entry-at-def.name entries-entry-at-def.routine code.calls-entries·entry-at (entries-entry-at-thm.met 𝓤 H 𝓜 𝓖 𝓡);
+      across-owner-limit = cited 𝓤 H (Its-across-owner-limit 𝓤 H (𝓖 .A) W (𝓜 .mem) (𝓡 .run)) 𝓜 𝓡 code.env
+          across-owner-limit-def.name across-owner-limit-def.routine code.calls-across·owner-limit (across-owner-limit-thm.met 𝓤 H 𝓜 𝓖 𝓡);
+      across-spot-of = cited 𝓤 H (Its-across-spot-of 𝓤 H (𝓖 .A) W (𝓜 .mem) (𝓡 .run)) 𝓜 𝓡 code.env
+          across-spot-of-def.name across-spot-of-def.routine code.calls-across·spot-of (across-spot-of-thm.met 𝓤 H 𝓜 𝓖 𝓡);
+      owner-at = cited 𝓤 H (Its-owner-at 𝓤 H (𝓖 .A) W (𝓜 .mem) (𝓡 .run)) 𝓜 𝓡 code.env
+          owner-at-def.name owner-at-def.routine code.calls-restore·owner-at (owner-at-thm.met 𝓤 H 𝓜 𝓖 𝓡);
+      across-twin-of = cited 𝓤 H (Its-across-twin-of 𝓤 H (𝓖 .A) W (𝓜 .mem) (𝓡 .run)) 𝓜 𝓡 code.env
+          across-twin-of-def.name across-twin-of-def.routine code.calls-across·twin-of (across-twin-of-thm.met 𝓤 H 𝓜 𝓖 𝓡);
+      across-twin-limit = cited 𝓤 H (Its-across-twin-limit 𝓤 H (𝓖 .A) W (𝓜 .mem) (𝓡 .run)) 𝓜 𝓡 code.env
+          across-twin-limit-def.name across-twin-limit-def.routine code.calls-across·twin-limit (across-twin-limit-thm.met 𝓤 H 𝓜 𝓖 𝓡);
+      entries-find = cited 𝓤 H (Its-entries-find 𝓤 H (𝓖 .A) W (𝓜 .mem) (𝓡 .run)) 𝓜 𝓡 code.env
+          entries-find-def.name entries-find-def.routine code.calls-entries·find (entries-find-thm.met 𝓤 H 𝓜 𝓖 𝓡);
+      across-settle = cited 𝓤 H (Its-across-settle 𝓤 H (𝓖 .A) W (𝓜 .mem) (𝓡 .run)) 𝓜 𝓡 code.env
+          across-settle-def.name across-settle-def.routine code.calls-across·settle (across-settle-thm.met 𝓤 H 𝓜 𝓖 𝓡);
     }))

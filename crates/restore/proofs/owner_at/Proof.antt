@@ -16,24 +16,24 @@ use ghost.Atoms.{Atoms}
 use contract.Lifetimes.{toks}
 use contract.Monad.{Fun, factI}
 use contract.Running.{givenOf, tables, tablesOf}
-use types.Kit.{Given, ‵, raw, _$_, _∵_, !, qed, move, keep, fsplit, fjoin, suffices, frame, done}
+use types.Kit.{Given, ‵, raw, _$_, _∵_, !, qed, move, keep, fsplit, suffices, frame, done}
 use types.Run.{look, init, lit, and-then, no-more, land, returns, enter, alloc1, alloc0, params1, pass1, pass0, free0}
 use sound.WpLaws.{FmC, fmOf, WpFn-mono}
 use denote.RattleType.{owns}
 use denote.Laws.{Is}
 use denote.Plain.{UInt}
 use denote.Ref.{RefT, now}
-use denote.Signature.{plain, typesAt}
-use denote.Slice.{sliceVal, ShrSlice, slice-vals, shr-slice-tells, shr-slice-lawful}
+use denote.Signature.{typesAt}
+use denote.Slice.{ShrSlice, slice-vals, shr-slice-tells, shr-slice-lawful}
 use denote.Steps.{nothing, owned}
+use denote.Triple.Clauses.{Clauses}
 use denote.Triple.Entry.{onEntry}
 use denote.Triple.Spec.{Meets, tripleOf}
 use denote.Triple.Statement.{Contract, Triple}
 use denote.Triple.Table.{entered, cited}
-use denote.Triple.Walked.{says, needs, Stays, stay-none, stay-none-slice, walkOf, goes-none, goes-none-slice, Walks, ends-at, walked, walk-meets}
-use denote.Exit.{yes}
-use Rattle.walks.proofs.Walk.{untok, retok, gone}
-use Rattle.walks.proofs.Held.{Held, number, of-struct, plus, lends, calls-held, into, local}
+use denote.Triple.Walked.{says, needs, Stays, walkOf, Walks, ends-at, walked, walk-meets}
+use Rattle.walks.proofs.Walk.{untok, retok, gone, drops, drops-go}
+use Rattle.walks.proofs.Held.{Held, number, of-struct, vals, Lies, plus, lends, none, calls-held, into, local}
 use Rattle.restore.proofs.Owner.{near-places, far-places, owner-is}
 use Rattle.store.specs.declared.Entry.{Entry}
 use Rattle.store.proofs.Entry as EntryT
@@ -62,7 +62,7 @@ use Rattle.restore.proofs.owner_at.Statement as stated
 use Rattle.restore.proofs.owner_at.Code as code
 
 abbrev stayed : Stays (this.ended .signature .params) (this.ended .kept)
-stayed = (stay-none-slice (0 ∷ []) tt (plain (λ _. EntryT.the-row)) yes, (stay-none (λ _. EntryT.the-row) yes, (stay-none (λ _. (UInt w64)) yes, (stay-none (λ _. (UInt w64)) yes, tt))))
+stayed = drops (this.ended .signature .params) (this.ended .kept)
 
 module _ {M : Type 1} (𝓤 : URA M) (H : Heap 𝓤) (A : Atoms 𝓤) (W : Given 𝓤 H A) (mem : Memory → SProp 𝓤) (calling : Routine → Fun 𝓤) where
   -- how values lie in locals
@@ -75,7 +75,7 @@ module _ {M : Type 1} (𝓤 : URA M) (H : Heap 𝓤) (A : Atoms 𝓤) (W : Given
   abbrev as-Wanted : Held W WantedT.the-row
   as-Wanted = of-struct W WantedT.the-type WantedL.the-laws WantedL.the-plain
 
-  -- the contracts that the proof cites
+  -- the contracts that the proof cites, and its own
   abbrev Its-across-contact-of : Contract 𝓤
   Its-across-contact-of = tripleOf 𝓤 H A across-contact-of.signature (across-contact-of.spec 𝓤 H A mem calling)
 
@@ -98,32 +98,39 @@ module _ {M : Type 1} (𝓤 : URA M) (H : Heap 𝓤) (A : Atoms 𝓤) (W : Given
     pub across-far-limit : Triple 𝓤 (C across-far-limit-def.name) Its-across-far-limit
     pub across-chosen : Triple 𝓤 (C across-chosen-def.name) Its-across-chosen
 
-  module _ (κ₀ : Lft) (q₀ : Share) (entries : RefT (List Entry)) (e : Entry) (upto : ℕ) (spot : ℕ)
-      (in-entries : Is (ShrSlice (named 0) κ₀ EntryT.the-row) entries (slice-vals entries)) (in-e : Is EntryT.the-row e (as-Entry .val e ∷ [])) (in-upto : Is (UInt w64) upto (as-w64 .val upto ∷ [])) (in-spot : Is (UInt w64) spot (as-w64 .val spot ∷ [])) (asks : upto ≤ length (now entries)) where
-    abbrev This : Contract 𝓤
-    This = walkOf 𝓤 H A this.ended stayed (this.clauses 𝓤 H A mem calling)
+  abbrev clauses : Clauses 𝓤 this.ended
+  clauses = this.clauses 𝓤 H A mem calling
 
+  abbrev This : Contract 𝓤
+  This = walkOf 𝓤 H A this.ended stayed clauses
+
+  module _ (κ₀ : Lft) (q₀ : Share) (entries : RefT (List Entry)) (e : Entry) (upto : ℕ) (spot : ℕ)
+      (in-entries : Is (ShrSlice (named 0) κ₀ EntryT.the-row) entries (slice-vals entries))
+      (in-e : Lies as-Entry e)
+      (in-upto : Lies as-w64 upto)
+      (in-spot : Lies as-w64 spot)
+      (asks : upto ≤ length (now entries)) where
     abbrev bound : This .Ghost
-    bound = (((κ₀, tt), (q₀, tt), tt, (entries, (e, (upto, (spot, tt)))), (slice-vals entries, (as-Entry .val e ∷ [], (as-w64 .val upto ∷ [], (as-w64 .val spot ∷ [], tt))))), tt)
+    bound = (((κ₀, tt), (q₀, tt), tt, (entries, (e, (upto, (spot, tt)))), (slice-vals entries, (vals as-Entry e, (vals as-w64 upto, (vals as-w64 spot, tt))))), tt)
 
     -- what each call is handed
     abbrev to-wanted : Its-across-contact-of .Ghost
-    to-wanted = ((tt, tt, tt, (e, tt), (as-Entry .val e ∷ [], tt)), tt)
+    to-wanted = ((tt, tt, tt, (e, tt), (vals as-Entry e, tt)), tt)
 
     abbrev to-near : (wanted : Wanted) → Its-across-earlier .Ghost
-    to-near wanted = ((tt, tt, tt, (spot, (upto, tt)), (as-w64 .val spot ∷ [], (as-w64 .val upto ∷ [], tt))), tt)
+    to-near wanted = ((tt, tt, tt, (spot, (upto, tt)), (vals as-w64 spot, (vals as-w64 upto, tt))), tt)
 
     abbrev to-p : (wanted : Wanted) → (near : ℕ) → Its-entries-find .Ghost
-    to-p wanted near = (((κ₀, tt), (q₀, tt), tt, (entries, (wanted, (near, (upto, tt)))), (slice-vals entries, (as-Wanted .val wanted ∷ [], (as-w64 .val near ∷ [], (as-w64 .val upto ∷ [], tt))))), tt)
+    to-p wanted near = (((κ₀, tt), (q₀, tt), tt, (entries, (wanted, (near, (upto, tt)))), (slice-vals entries, (vals as-Wanted wanted, (vals as-w64 near, (vals as-w64 upto, tt))))), tt)
 
     abbrev to-far : (wanted : Wanted) → (near : ℕ) → (p : ℕ) → Its-across-far-limit .Ghost
-    to-far wanted near p = ((tt, tt, tt, (p, (near, (upto, tt))), (as-w64 .val p ∷ [], (as-w64 .val near ∷ [], (as-w64 .val upto ∷ [], tt)))), tt)
+    to-far wanted near p = ((tt, tt, tt, (p, (near, (upto, tt))), (vals as-w64 p, (vals as-w64 near, (vals as-w64 upto, tt)))), tt)
 
     abbrev to-o : (wanted : Wanted) → (near : ℕ) → (p : ℕ) → (far : ℕ) → Its-entries-find .Ghost
-    to-o wanted near p far = (((κ₀, tt), (q₀, tt), tt, (entries, (wanted, (0, (far, tt)))), (slice-vals entries, (as-Wanted .val wanted ∷ [], (as-w64 .val 0 ∷ [], (as-w64 .val far ∷ [], tt))))), tt)
+    to-o wanted near p far = (((κ₀, tt), (q₀, tt), tt, (entries, (wanted, (0, (far, tt)))), (slice-vals entries, (vals as-Wanted wanted, (vals as-w64 0, (vals as-w64 far, tt))))), tt)
 
     abbrev to-r : (wanted : Wanted) → (near : ℕ) → (p : ℕ) → (far : ℕ) → (o : ℕ) → Its-across-chosen .Ghost
-    to-r wanted near p far o = ((tt, tt, tt, (p, (o, (far, (upto, tt)))), (as-w64 .val p ∷ [], (as-w64 .val o ∷ [], (as-w64 .val far ∷ [], (as-w64 .val upto ∷ [], tt))))), tt)
+    to-r wanted near p far o = ((tt, tt, tt, (p, (o, (far, (upto, tt)))), (vals as-w64 p, (vals as-w64 o, (vals as-w64 far, (vals as-w64 upto, tt))))), tt)
 
     module _ (𝓣 : Tables 𝓤 H) (fm : FmC 𝓤 H (W .laws) (𝓣 .C)) (known : Known (𝓣 .C)) where
       abbrev C : Calls 𝓤 H
@@ -132,11 +139,13 @@ module _ {M : Type 1} (𝓤 : URA M) (H : Heap 𝓤) (A : Atoms 𝓤) (W : Given
       abbrev Λ : Loops 𝓤 H
       Λ = 𝓣 .Λ
 
-      walk : ent 𝓤 (onEntry 𝓤 H A this.signature (κ₀, tt) (q₀, tt) (bound .0 .3) (bound .0 .4)) (WpFn 𝓤 H C Λ code.function (sliceVal (entries .ptr) (length (entries .now)) ∷ as-Entry .val e ∷ as-w64 .val upto ∷ as-w64 .val spot ∷ []) (This .post bound))
+      walk : ent 𝓤 (onEntry 𝓤 H A this.signature (κ₀, tt) (q₀, tt) (bound .0 .3) (bound .0 .4))
+          (WpFn 𝓤 H C Λ code.function (This .args bound) (This .post bound))
       walk =
           qed W (raw (toks 𝓤 A 1 (κ₀, tt) (q₀, tt)) ∷ ‵ (owns (typesAt (this.signature .params) (κ₀, tt)) (bound .0 .3) (bound .0 .4)) ∷ []) ∵
-          untok ! 1 (κ₀, tt) (q₀, tt) $ move ! (1 ∷ []) $ fsplit ! $ keep ! (2 ∷ 0 ∷ []) $ enter ! C Λ code.function (sliceVal (entries .ptr) (length (entries .now)) ∷ as-Entry .val e ∷ as-w64 .val upto ∷ as-w64 .val spot ∷ []) _ $
-          alloc1 ! (λ l₀. alloc1 ! (λ l₁. alloc1 ! (λ l₂. alloc1 ! (λ l₃. alloc1 ! (λ l₄. alloc1 ! (λ l₅. alloc1 ! (λ l₆. alloc1 ! (λ l₇. alloc1 ! (λ l₈. alloc1 ! (λ l₉. alloc0 ! $ params1 ! $
+          untok ! 1 (κ₀, tt) (q₀, tt) $ move ! (1 ∷ []) $ fsplit ! $ keep ! (2 ∷ 0 ∷ []) $ enter ! C Λ code.function (This .args bound) _ $
+          alloc1 ! (λ l₀. alloc1 ! (λ l₁. alloc1 ! (λ l₂. alloc1 ! (λ l₃. alloc1 ! (λ l₄. alloc1 ! (λ l₅. alloc1 ! (λ l₆. alloc1 ! (λ l₇. alloc1 ! (λ l₈. alloc1 ! (λ l₉. alloc0 ! $
+          params1 ! $
           pass1 ! (init ! 16 refl (shr-slice-lawful 𝓤 H A W (named 0) κ₀ EntryT.the-row .typed entries (slice-vals entries) in-entries .0)) $
           pass1 ! (init ! 14 refl (as-Entry .lawful .typed e _ in-e .0)) $
           pass1 ! (init ! 12 refl (as-w64 .lawful .typed upto _ in-upto .0)) $
@@ -144,7 +153,7 @@ module _ {M : Type 1} (𝓤 : URA M) (H : Heap 𝓤) (A : Atoms 𝓤) (W : Given
           pass0 ! $ move ! (20 ∷ 21 ∷ []) $
           -- wanted is across::contact_of(e)
           nothing ! $ plus ! as-Entry e in-e $
-          calls-held ! fm across-contact-of.ended (across-contact-of.clauses 𝓤 H A mem calling) (known .across-contact-of) (to-wanted) (id⊢ 𝓤 _) as-Wanted (λ r ws. id⊢ 𝓤 _)
+          calls-held ! fm across-contact-of.ended (across-contact-of.clauses 𝓤 H A mem calling) (known .across-contact-of) to-wanted (id⊢ 𝓤 _) as-Wanted (λ r ws. id⊢ 𝓤 _)
           (and-then ! (local ! (look ! 17 refl)) (no-more !)) (λ wanted is-wanted in-wanted.
           land ! (into !) (init ! 10 refl (as-Wanted .lawful .typed wanted _ in-wanted .0)) $
           -- near is across::earlier(spot, upto)
@@ -154,8 +163,10 @@ module _ {M : Type 1} (𝓤 : URA M) (H : Heap 𝓤) (A : Atoms 𝓤) (W : Given
           land ! (into !) (init ! 8 refl (as-w64 .lawful .typed near _ in-near .0)) $
           -- p is entries::find(entries, wanted, near, upto)
           nothing ! $ plus ! as-w64 upto in-upto $ plus ! as-w64 near in-near $ plus ! as-Wanted wanted in-wanted $ lends ! 1 (named 0) κ₀ EntryT.the-row entries refl $ move ! (1 ∷ 0 ∷ []) $
-          calls-held ! fm entries-find.ended (entries-find.clauses 𝓤 H A mem calling) (known .entries-find) (to-p wanted near) (factI 𝓤 _ (emp 𝓤) (near-places near spot upto (length (now entries)) is-near asks)) as-w64 (λ r ws. id⊢ 𝓤 _)
-          (and-then ! (local ! (look ! 18 refl)) (and-then ! (local ! (look ! 10 refl)) (and-then ! (local ! (look ! 8 refl)) (and-then ! (local ! (look ! 14 refl)) (no-more !))))) (λ p is-p in-p.
+          calls-held ! fm entries-find.ended (entries-find.clauses 𝓤 H A mem calling) (known .entries-find) (to-p wanted near)
+          (factI 𝓤 _ (emp 𝓤) (near-places near spot upto (length (now entries)) is-near asks)) as-w64 (λ r ws. id⊢ 𝓤 _)
+          (and-then ! (local ! (look ! 18 refl)) (and-then ! (local ! (look ! 10 refl)) (and-then ! (local ! (look ! 8 refl)) (and-then ! (local ! (look ! 14 refl)) (no-more !)))))
+          (λ p is-p in-p.
           land ! (into !) (init ! 6 refl (as-w64 .lawful .typed p _ in-p .0)) $
           -- far is across::far_limit(p, near, upto)
           nothing ! $ plus ! as-w64 upto in-upto $ plus ! as-w64 near in-near $ plus ! as-w64 p in-p $
@@ -163,29 +174,38 @@ module _ {M : Type 1} (𝓤 : URA M) (H : Heap 𝓤) (A : Atoms 𝓤) (W : Given
           (and-then ! (local ! (look ! 7 refl)) (and-then ! (local ! (look ! 9 refl)) (and-then ! (local ! (look ! 15 refl)) (no-more !)))) (λ far is-far in-far.
           land ! (into !) (init ! 4 refl (as-w64 .lawful .typed far _ in-far .0)) $
           -- o is entries::find(entries, wanted, 0, far)
-          nothing ! $ plus ! as-w64 far in-far $ plus ! as-w64 0 (refl, lit< tt) $ plus ! as-Wanted wanted in-wanted $ lends ! 1 (named 0) κ₀ EntryT.the-row entries refl $ move ! (1 ∷ 0 ∷ []) $
-          calls-held ! fm entries-find.ended (entries-find.clauses 𝓤 H A mem calling) (known .entries-find) (to-o wanted near p far) (factI 𝓤 _ (emp 𝓤) (far-places p near spot upto far (length (now entries)) is-near is-far asks)) as-w64 (λ r ws. id⊢ 𝓤 _)
+          nothing ! $ plus ! as-w64 far in-far $ plus ! as-w64 0 (refl, lit< tt) $ plus ! as-Wanted wanted in-wanted $ lends ! 1 (named 0) κ₀ EntryT.the-row entries refl $
+          move ! (1 ∷ 0 ∷ []) $
+          calls-held ! fm entries-find.ended (entries-find.clauses 𝓤 H A mem calling) (known .entries-find) (to-o wanted near p far)
+          (factI 𝓤 _ (emp 𝓤) (far-places p near spot upto far (length (now entries)) is-near is-far asks)) as-w64 (λ r ws. id⊢ 𝓤 _)
           (and-then ! (local ! (look ! 18 refl)) (and-then ! (local ! (look ! 10 refl)) (and-then ! (lit ! tt) (and-then ! (local ! (look ! 4 refl)) (no-more !))))) (λ o is-o in-o.
           land ! (into !) (init ! 2 refl (as-w64 .lawful .typed o _ in-o .0)) $
           -- r is across::chosen(p, o, far, upto)
           nothing ! $ plus ! as-w64 upto in-upto $ plus ! as-w64 far in-far $ plus ! as-w64 o in-o $ plus ! as-w64 p in-p $
           calls-held ! fm across-chosen.ended (across-chosen.clauses 𝓤 H A mem calling) (known .across-chosen) (to-r wanted near p far o) (id⊢ 𝓤 _) as-w64 (λ r ws. id⊢ 𝓤 _)
-          (and-then ! (local ! (look ! 7 refl)) (and-then ! (local ! (look ! 3 refl)) (and-then ! (local ! (look ! 5 refl)) (and-then ! (local ! (look ! 15 refl)) (no-more !))))) (λ r is-r in-r.
+          (and-then ! (local ! (look ! 7 refl)) (and-then ! (local ! (look ! 3 refl)) (and-then ! (local ! (look ! 5 refl)) (and-then ! (local ! (look ! 15 refl)) (no-more !)))))
+          (λ r is-r in-r.
           land ! (into !) (init ! 20 refl (as-w64 .lawful .typed r _ in-r .0)) $
           returns ! (look ! 20 refl) $
-          gone ! 20 refl refl $ gone ! 18 refl refl $ gone ! 16 refl refl $ gone ! 14 refl refl $ gone ! 12 refl refl $ gone ! 10 refl refl $ gone ! 8 refl refl $ gone ! 6 refl refl $ gone ! 4 refl refl $ gone ! 2 refl refl $ free0 ! $
-          suffices ! _ (ends-at 𝓤 H A this.ended stayed (this.clauses 𝓤 H A mem calling) W bound (as-w64 .val r) r (tt, (tt, (tt, (tt, tt)))) (tt, (tt, (tt, (tt, tt))))) $ says ! (owner-is (now entries) e upto spot near p far o r wanted is-wanted is-near is-p is-far is-o is-r) $
-          retok ! 1 (κ₀, tt) (q₀, tt) $ frame ! $ nothing ! $ plus ! as-w64 spot in-spot $ plus ! as-w64 upto in-upto $ plus ! as-Entry e in-e $ move ! (1 ∷ 0 ∷ []) $ fjoin ! $ frame ! $ owned ! (UInt w64) (Is (UInt w64)) (as-w64 .makes) r _ in-r $ done !))))))))))))))))
+          gone ! 20 refl refl $ gone ! 18 refl refl $ gone ! 16 refl refl $ gone ! 14 refl refl $ gone ! 12 refl refl $ gone ! 10 refl refl $ gone ! 8 refl refl $ gone ! 6 refl refl $
+          gone ! 4 refl refl $ gone ! 2 refl refl $ free0 ! $
+          suffices ! _ (ends-at 𝓤 H A this.ended stayed clauses W bound (as-w64 .val r) r (tt, (tt, (tt, (tt, tt)))) (tt, (tt, (tt, (tt, tt))))) $
+          says ! (owner-is (now entries) e upto spot near p far o r wanted is-wanted is-near is-p is-far is-o is-r) $
+          keep ! (0 ∷ []) $ retok ! 1 (κ₀, tt) (q₀, tt) $ frame ! $ nothing ! $ none ! $ none ! $ none ! $ none ! $ frame ! $ owned ! (UInt w64) (Is (UInt w64)) (as-w64 .makes) r _ in-r $
+          done !))))))))))))))))
 
   module _ (𝓣 : Tables 𝓤 H) (known : Known (𝓣 .C)) where
-    walks : Walks 𝓤 H A this.ended stayed (WpFn 𝓤 H (𝓣 .C) (𝓣 .Λ) code.function) (this.clauses 𝓤 H A mem calling)
-    walks = walked 𝓤 H A this.ended stayed (this.clauses 𝓤 H A mem calling) (WpFn 𝓤 H (𝓣 .C) (𝓣 .Λ) code.function) (λ κs. (slice-vals, (λ x. as-Entry .val x ∷ [], (λ x. as-w64 .val x ∷ [], (λ x. as-w64 .val x ∷ [], tt)))))
+    walks : Walks 𝓤 H A this.ended stayed (WpFn 𝓤 H (𝓣 .C) (𝓣 .Λ) code.function) clauses
+    walks = walked 𝓤 H A this.ended stayed clauses (WpFn 𝓤 H (𝓣 .C) (𝓣 .Λ) code.function)
+        (λ κs. (slice-vals, (vals as-Entry, (vals as-w64, (vals as-w64, tt)))))
         (λ κs. (shr-slice-tells (named 0) (κs .0) EntryT.the-row, (as-Entry .tells, (as-w64 .tells, (as-w64 .tells, tt)))))
-        (λ κs qs bounds a g are. needs 𝓤 _ _ (λ asks. walk (κs .0) (qs .0) (a .0) (a .1 .0) (a .1 .1 .0) (a .1 .1 .1 .0) (are .0) (are .1 .0) (are .1 .1 .0) (are .1 .1 .1 .0) asks 𝓣 (fmOf 𝓤 H (W .laws) 𝓣) known))
+        (λ κs qs bounds a g are. needs 𝓤 _ _ (λ asks. walk (κs .0) (qs .0) (a .0) (a .1 .0) (a .1 .1 .0) (a .1 .1 .1 .0) (are .0) (are .1 .0) (are .1 .1 .0) (are .1 .1 .1 .0) asks 𝓣
+        (fmOf 𝓤 H (W .laws) 𝓣) known))
 
     meets : Meets 𝓤 H A this.signature (WpFn 𝓤 H (𝓣 .C) (𝓣 .Λ) code.function) (this.spec 𝓤 H A mem calling)
-    meets = walk-meets 𝓤 H A this.ended stayed W (goes-none-slice 𝓤 H A W 1 (0 ∷ []) tt (plain (λ _. EntryT.the-row)) yes, (goes-none 𝓤 H A W 1 (λ _. EntryT.the-row) yes (λ κs x f. refl), (goes-none 𝓤 H A W 1 (λ _. (UInt w64)) yes (λ κs x f. refl), (goes-none 𝓤 H A W 1 (λ _. (UInt w64)) yes (λ κs x f. refl), tt))))
-        (this.clauses 𝓤 H A mem calling) (WpFn 𝓤 H (𝓣 .C) (𝓣 .Λ) code.function) (WpFn-mono 𝓤 H (W .laws) 𝓣 code.function) walks
+    meets = walk-meets 𝓤 H A this.ended stayed W
+        (drops-go 𝓤 H A W 1 (this.ended .signature .params) (this.ended .kept) (λ κs x f. refl, (λ κs x f. refl, (λ κs x f. refl, (λ κs x f. refl, tt)))))
+        clauses (WpFn 𝓤 H (𝓣 .C) (𝓣 .Λ) code.function) (WpFn-mono 𝓤 H (W .laws) 𝓣 code.function) walks
 
 pub owner-at-spec : {M : Type 1} → stated.statement M
 unfolding code.routine tablesOf
@@ -194,9 +214,14 @@ owner-at-spec 𝓤 H 𝓜 𝓖 𝓡 =
     entered 𝓤 H (tripleOf 𝓤 H (𝓖 .A) this.signature (this.spec 𝓤 H (𝓖 .A) (𝓜 .mem) (𝓡 .run)))
     (tables 𝓤 H 𝓜 𝓡 code.env .C) (tables 𝓤 H 𝓜 𝓡 code.env .Λ) this-def.name code.function (code.unfolded 𝓤 H 𝓜 𝓡)
     (meets 𝓤 H (𝓖 .A) W (𝓜 .mem) (𝓡 .run) (tablesOf 𝓤 H 𝓜 (tables 𝓤 H 𝓜 𝓡 code.env)) (record {
-      across-contact-of = cited 𝓤 H (Its-across-contact-of 𝓤 H (𝓖 .A) W (𝓜 .mem) (𝓡 .run)) 𝓜 𝓡 code.env across-contact-of-def.name across-contact-of-def.routine code.calls-across·contact-of (across-contact-of-thm.met 𝓤 H 𝓜 𝓖 𝓡);
-      across-earlier = cited 𝓤 H (Its-across-earlier 𝓤 H (𝓖 .A) W (𝓜 .mem) (𝓡 .run)) 𝓜 𝓡 code.env across-earlier-def.name across-earlier-def.routine code.calls-across·earlier (across-earlier-thm.met 𝓤 H 𝓜 𝓖 𝓡);
-      entries-find = cited 𝓤 H (Its-entries-find 𝓤 H (𝓖 .A) W (𝓜 .mem) (𝓡 .run)) 𝓜 𝓡 code.env entries-find-def.name entries-find-def.routine code.calls-entries·find (entries-find-thm.met 𝓤 H 𝓜 𝓖 𝓡);
-      across-far-limit = cited 𝓤 H (Its-across-far-limit 𝓤 H (𝓖 .A) W (𝓜 .mem) (𝓡 .run)) 𝓜 𝓡 code.env across-far-limit-def.name across-far-limit-def.routine code.calls-across·far-limit (across-far-limit-thm.met 𝓤 H 𝓜 𝓖 𝓡);
-      across-chosen = cited 𝓤 H (Its-across-chosen 𝓤 H (𝓖 .A) W (𝓜 .mem) (𝓡 .run)) 𝓜 𝓡 code.env across-chosen-def.name across-chosen-def.routine code.calls-across·chosen (across-chosen-thm.met 𝓤 H 𝓜 𝓖 𝓡);
+      across-contact-of = cited 𝓤 H (Its-across-contact-of 𝓤 H (𝓖 .A) W (𝓜 .mem) (𝓡 .run)) 𝓜 𝓡 code.env
+          across-contact-of-def.name across-contact-of-def.routine code.calls-across·contact-of (across-contact-of-thm.met 𝓤 H 𝓜 𝓖 𝓡);
+      across-earlier = cited 𝓤 H (Its-across-earlier 𝓤 H (𝓖 .A) W (𝓜 .mem) (𝓡 .run)) 𝓜 𝓡 code.env
+          across-earlier-def.name across-earlier-def.routine code.calls-across·earlier (across-earlier-thm.met 𝓤 H 𝓜 𝓖 𝓡);
+      entries-find = cited 𝓤 H (Its-entries-find 𝓤 H (𝓖 .A) W (𝓜 .mem) (𝓡 .run)) 𝓜 𝓡 code.env
+          entries-find-def.name entries-find-def.routine code.calls-entries·find (entries-find-thm.met 𝓤 H 𝓜 𝓖 𝓡);
+      across-far-limit = cited 𝓤 H (Its-across-far-limit 𝓤 H (𝓖 .A) W (𝓜 .mem) (𝓡 .run)) 𝓜 𝓡 code.env
+          across-far-limit-def.name across-far-limit-def.routine code.calls-across·far-limit (across-far-limit-thm.met 𝓤 H 𝓜 𝓖 𝓡);
+      across-chosen = cited 𝓤 H (Its-across-chosen 𝓤 H (𝓖 .A) W (𝓜 .mem) (𝓡 .run)) 𝓜 𝓡 code.env
+          across-chosen-def.name across-chosen-def.routine code.calls-across·chosen (across-chosen-thm.met 𝓤 H 𝓜 𝓖 𝓡);
     }))

@@ -15,24 +15,24 @@ use ghost.Atoms.{Atoms}
 use contract.Lifetimes.{toks}
 use contract.Monad.{Fun, factI}
 use contract.Running.{givenOf, tables, tablesOf}
-use types.Kit.{Given, ‵, raw, _$_, _∵_, !, qed, move, keep, fsplit, fjoin, suffices, frame, done}
+use types.Kit.{Given, ‵, raw, _$_, _∵_, !, qed, move, keep, fsplit, suffices, frame, done}
 use types.Run.{look, init, and-then, no-more, land, returns, enter, alloc1, alloc0, params1, pass1, pass0, free0}
 use sound.WpLaws.{FmC, fmOf, WpFn-mono}
 use denote.RattleType.{owns}
 use denote.Laws.{Is}
 use denote.Plain.{UInt}
 use denote.Ref.{RefT, now}
-use denote.Signature.{plain, typesAt}
-use denote.Slice.{sliceVal, ShrSlice, slice-vals, shr-slice-tells, shr-slice-lawful}
+use denote.Signature.{typesAt}
+use denote.Slice.{ShrSlice, slice-vals, shr-slice-tells, shr-slice-lawful}
 use denote.Steps.{nothing, owned}
+use denote.Triple.Clauses.{Clauses}
 use denote.Triple.Entry.{onEntry}
 use denote.Triple.Spec.{Meets, tripleOf}
 use denote.Triple.Statement.{Contract, Triple}
 use denote.Triple.Table.{entered, cited}
-use denote.Triple.Walked.{says, needs, Stays, stay-none, stay-none-slice, walkOf, goes-none, goes-none-slice, Walks, ends-at, walked, walk-meets}
-use denote.Exit.{yes}
-use Rattle.walks.proofs.Walk.{untok, retok, asked, gone}
-use Rattle.walks.proofs.Held.{Held, number, of-struct, of-enum, plus, lends, calls-held, into, local}
+use denote.Triple.Walked.{says, needs, Stays, walkOf, Walks, ends-at, walked, walk-meets}
+use Rattle.walks.proofs.Walk.{untok, retok, gone, drops, drops-go}
+use Rattle.walks.proofs.Held.{Held, number, of-struct, of-enum, vals, Lies, plus, lends, none, calls-held, into, local}
 use Rattle.restore.proofs.Rounds.{before-below, turn-is}
 use Rattle.store.specs.declared.Asked.{Asked}
 use Rattle.store.proofs.Asked as AskedT
@@ -55,7 +55,7 @@ use Rattle.restore.proofs.turn_at.Statement as stated
 use Rattle.restore.proofs.turn_at.Code as code
 
 abbrev stayed : Stays (this.ended .signature .params) (this.ended .kept)
-stayed = (stay-none-slice (0 ∷ []) tt (plain (λ _. (UInt w8))) yes, (stay-none-slice (1 ∷ []) tt (plain (λ _. EntryT.the-row)) yes, (stay-none (λ _. (UInt w8)) yes, (stay-none (λ _. (UInt w64)) yes, (stay-none (λ _. AskedT.the-row) yes, tt)))))
+stayed = drops (this.ended .signature .params) (this.ended .kept)
 
 module _ {M : Type 1} (𝓤 : URA M) (H : Heap 𝓤) (A : Atoms 𝓤) (W : Given 𝓤 H A) (mem : Memory → SProp 𝓤) (calling : Routine → Fun 𝓤) where
   -- how values lie in locals
@@ -71,7 +71,7 @@ module _ {M : Type 1} (𝓤 : URA M) (H : Heap 𝓤) (A : Atoms 𝓤) (W : Given
   abbrev as-w64 : Held W (UInt w64)
   as-w64 = number W w64
 
-  -- the contracts that the proof cites
+  -- the contracts that the proof cites, and its own
   abbrev Its-before : Contract 𝓤
   Its-before = tripleOf 𝓤 H A before.signature (before.spec 𝓤 H A mem calling)
 
@@ -86,26 +86,52 @@ module _ {M : Type 1} (𝓤 : URA M) (H : Heap 𝓤) (A : Atoms 𝓤) (W : Given
     pub entries-entry-at : Triple 𝓤 (C entries-entry-at-def.name) Its-entries-entry-at
     pub rounds-turn : Triple 𝓤 (C rounds-turn-def.name) Its-rounds-turn
 
-  module _ (κ₀ κ₁ : Lft) (q₀ q₁ : Share) (run : RefT (List ℕ)) (entries : RefT (List Entry)) (round : ℕ) (i : ℕ) (asked : Asked)
-      (in-run : Is (ShrSlice (named 0) κ₀ (UInt w8)) run (slice-vals run)) (in-entries : Is (ShrSlice (named 1) κ₁ EntryT.the-row) entries (slice-vals entries)) (in-round : Is (UInt w8) round (as-w8 .val round ∷ [])) (in-i : Is (UInt w64) i (as-w64 .val i ∷ [])) (in-asked : Is AskedT.the-row asked (as-Asked .val asked ∷ [])) (asks : i < length (now entries)) where
-    abbrev This : Contract 𝓤
-    This = walkOf 𝓤 H A this.ended stayed (this.clauses 𝓤 H A mem calling)
+  abbrev clauses : Clauses 𝓤 this.ended
+  clauses = this.clauses 𝓤 H A mem calling
 
+  abbrev This : Contract 𝓤
+  This = walkOf 𝓤 H A this.ended stayed clauses
+
+  module _ (κ₀ κ₁ : Lft) (q₀ q₁ : Share) (run : RefT (List ℕ)) (entries : RefT (List Entry)) (round : ℕ) (i : ℕ) (asked : Asked)
+      (in-run : Is (ShrSlice (named 0) κ₀ (UInt w8)) run (slice-vals run))
+      (in-entries : Is (ShrSlice (named 1) κ₁ EntryT.the-row) entries (slice-vals entries))
+      (in-round : Lies as-w8 round)
+      (in-i : Lies as-w64 i)
+      (in-asked : Lies as-Asked asked)
+      (asks : i < length (now entries)) where
     abbrev bound : This .Ghost
-    bound = (((κ₀, (κ₁, tt)), (q₀, (q₁, tt)), tt, (run, (entries, (round, (i, (asked, tt))))), (slice-vals run, (slice-vals entries, (as-w8 .val round ∷ [], (as-w64 .val i ∷ [], (as-Asked .val asked ∷ [], tt)))))), tt)
+    bound = (
+      (
+        (κ₀, (κ₁, tt)),
+        (q₀, (q₁, tt)),
+        tt,
+        (run, (entries, (round, (i, (asked, tt))))),
+        (slice-vals run, (slice-vals entries, (vals as-w8 round, (vals as-w64 i, (vals as-Asked asked, tt))))),
+      ),
+      tt,
+    )
 
     -- what each call is handed
     abbrev to-j : Its-before .Ghost
-    to-j = ((tt, tt, tt, (i, tt), (as-w64 .val i ∷ [], tt)), tt)
+    to-j = ((tt, tt, tt, (i, tt), (vals as-w64 i, tt)), tt)
 
     abbrev to-b : (j : ℕ) → Its-entries-entry-at .Ghost
-    to-b j = (((κ₁, tt), (q₁, tt), tt, (entries, (j, tt)), (slice-vals entries, (as-w64 .val j ∷ [], tt))), tt)
+    to-b j = (((κ₁, tt), (q₁, tt), tt, (entries, (j, tt)), (slice-vals entries, (vals as-w64 j, tt))), tt)
 
     abbrev to-e : (j : ℕ) → (b : Entry) → Its-entries-entry-at .Ghost
-    to-e j b = (((κ₁, tt), (q₁, tt), tt, (entries, (i, tt)), (slice-vals entries, (as-w64 .val i ∷ [], tt))), tt)
+    to-e j b = (((κ₁, tt), (q₁, tt), tt, (entries, (i, tt)), (slice-vals entries, (vals as-w64 i, tt))), tt)
 
     abbrev to-r : (j : ℕ) → (b : Entry) → (e : Entry) → Its-rounds-turn .Ghost
-    to-r j b e = (((κ₀, tt), (q₀, tt), tt, (run, (b, (e, (round, (i, (asked, tt)))))), (slice-vals run, (as-Entry .val b ∷ [], (as-Entry .val e ∷ [], (as-w8 .val round ∷ [], (as-w64 .val i ∷ [], (as-Asked .val asked ∷ [], tt))))))), tt)
+    to-r j b e = (
+      (
+        (κ₀, tt),
+        (q₀, tt),
+        tt,
+        (run, (b, (e, (round, (i, (asked, tt)))))),
+        (slice-vals run, (vals as-Entry b, (vals as-Entry e, (vals as-w8 round, (vals as-w64 i, (vals as-Asked asked, tt)))))),
+      ),
+      tt,
+    )
 
     module _ (𝓣 : Tables 𝓤 H) (fm : FmC 𝓤 H (W .laws) (𝓣 .C)) (known : Known (𝓣 .C)) where
       abbrev C : Calls 𝓤 H
@@ -114,10 +140,11 @@ module _ {M : Type 1} (𝓤 : URA M) (H : Heap 𝓤) (A : Atoms 𝓤) (W : Given
       abbrev Λ : Loops 𝓤 H
       Λ = 𝓣 .Λ
 
-      walk : ent 𝓤 (onEntry 𝓤 H A this.signature (κ₀, (κ₁, tt)) (q₀, (q₁, tt)) (bound .0 .3) (bound .0 .4)) (WpFn 𝓤 H C Λ code.function (sliceVal (run .ptr) (length (run .now)) ∷ sliceVal (entries .ptr) (length (entries .now)) ∷ as-w8 .val round ∷ as-w64 .val i ∷ as-Asked .val asked ∷ []) (This .post bound))
+      walk : ent 𝓤 (onEntry 𝓤 H A this.signature (κ₀, (κ₁, tt)) (q₀, (q₁, tt)) (bound .0 .3) (bound .0 .4))
+          (WpFn 𝓤 H C Λ code.function (This .args bound) (This .post bound))
       walk =
           qed W (raw (toks 𝓤 A 2 (κ₀, (κ₁, tt)) (q₀, (q₁, tt))) ∷ ‵ (owns (typesAt (this.signature .params) (κ₀, (κ₁, tt))) (bound .0 .3) (bound .0 .4)) ∷ []) ∵
-          untok ! 2 (κ₀, (κ₁, tt)) (q₀, (q₁, tt)) $ move ! (2 ∷ []) $ fsplit ! $ move ! (1 ∷ []) $ fsplit ! $ keep ! (3 ∷ 4 ∷ 2 ∷ 0 ∷ []) $ enter ! C Λ code.function (sliceVal (run .ptr) (length (run .now)) ∷ sliceVal (entries .ptr) (length (entries .now)) ∷ as-w8 .val round ∷ as-w64 .val i ∷ as-Asked .val asked ∷ []) _ $
+          untok ! 2 (κ₀, (κ₁, tt)) (q₀, (q₁, tt)) $ move ! (2 ∷ []) $ fsplit ! $ move ! (1 ∷ []) $ fsplit ! $ keep ! (3 ∷ 4 ∷ 2 ∷ 0 ∷ []) $ enter ! C Λ code.function (This .args bound) _ $
           alloc1 ! (λ l₀. alloc1 ! (λ l₁. alloc1 ! (λ l₂. alloc1 ! (λ l₃. alloc1 ! (λ l₄. alloc1 ! (λ l₅. alloc1 ! (λ l₆. alloc1 ! (λ l₇. alloc1 ! (λ l₈. alloc0 ! $ params1 ! $
           pass1 ! (init ! 14 refl (shr-slice-lawful 𝓤 H A W (named 0) κ₀ (UInt w8) .typed run (slice-vals run) in-run .0)) $
           pass1 ! (init ! 12 refl (shr-slice-lawful 𝓤 H A W (named 1) κ₁ EntryT.the-row .typed entries (slice-vals entries) in-entries .0)) $
@@ -127,38 +154,48 @@ module _ {M : Type 1} (𝓤 : URA M) (H : Heap 𝓤) (A : Atoms 𝓤) (W : Given
           pass0 ! $ move ! (18 ∷ 19 ∷ 20 ∷ 21 ∷ []) $
           -- j is restore::before(i)
           nothing ! $ plus ! as-w64 i in-i $
-          calls-held ! fm before.ended (before.clauses 𝓤 H A mem calling) (known .before) (to-j) (id⊢ 𝓤 _) as-w64 (λ r ws. id⊢ 𝓤 _)
+          calls-held ! fm before.ended (before.clauses 𝓤 H A mem calling) (known .before) to-j (id⊢ 𝓤 _) as-w64 (λ r ws. id⊢ 𝓤 _)
           (and-then ! (local ! (look ! 13 refl)) (no-more !)) (λ j is-j in-j.
           land ! (into !) (init ! 8 refl (as-w64 .lawful .typed j _ in-j .0)) $
           -- b is entries::entry_at(entries, j)
           nothing ! $ plus ! as-w64 j in-j $ lends ! 3 (named 1) κ₁ EntryT.the-row entries refl $ move ! (2 ∷ 0 ∷ []) $
-          calls-held ! fm entries-entry-at.ended (entries-entry-at.clauses 𝓤 H A mem calling) (known .entries-entry-at) (to-b j) (factI 𝓤 _ (emp 𝓤) (before-below i j (length (now entries)) is-j asks)) as-Entry (λ r ws. id⊢ 𝓤 _)
+          calls-held ! fm entries-entry-at.ended (entries-entry-at.clauses 𝓤 H A mem calling) (known .entries-entry-at) (to-b j)
+          (factI 𝓤 _ (emp 𝓤) (before-below i j (length (now entries)) is-j asks)) as-Entry (λ r ws. id⊢ 𝓤 _)
           (and-then ! (local ! (look ! 16 refl)) (and-then ! (local ! (look ! 8 refl)) (no-more !))) (λ b is-b in-b.
           land ! (into !) (init ! 6 refl (as-Entry .lawful .typed b _ in-b .0)) $
           -- e is entries::entry_at(entries, i)
           nothing ! $ plus ! as-w64 i in-i $ lends ! 3 (named 1) κ₁ EntryT.the-row entries refl $ move ! (1 ∷ 0 ∷ []) $
-          calls-held ! fm entries-entry-at.ended (entries-entry-at.clauses 𝓤 H A mem calling) (known .entries-entry-at) (to-e j b) (factI 𝓤 _ (emp 𝓤) (asks)) as-Entry (λ r ws. id⊢ 𝓤 _)
+          calls-held ! fm entries-entry-at.ended (entries-entry-at.clauses 𝓤 H A mem calling) (known .entries-entry-at) (to-e j b) (factI 𝓤 _ (emp 𝓤) asks) as-Entry (λ r ws. id⊢ 𝓤 _)
           (and-then ! (local ! (look ! 16 refl)) (and-then ! (local ! (look ! 12 refl)) (no-more !))) (λ e is-e in-e.
           land ! (into !) (init ! 4 refl (as-Entry .lawful .typed e _ in-e .0)) $
           -- r is rounds::turn(run, b, e, round, i, asked)
-          nothing ! $ plus ! as-Asked asked in-asked $ plus ! as-w64 i in-i $ plus ! as-w8 round in-round $ plus ! as-Entry e in-e $ plus ! as-Entry b in-b $ lends ! 2 (named 0) κ₀ (UInt w8) run refl $ move ! (2 ∷ 0 ∷ []) $
+          nothing ! $ plus ! as-Asked asked in-asked $ plus ! as-w64 i in-i $ plus ! as-w8 round in-round $ plus ! as-Entry e in-e $ plus ! as-Entry b in-b $
+          lends ! 2 (named 0) κ₀ (UInt w8) run refl $ move ! (2 ∷ 0 ∷ []) $
           calls-held ! fm rounds-turn.ended (rounds-turn.clauses 𝓤 H A mem calling) (known .rounds-turn) (to-r j b e) (id⊢ 𝓤 _) as-Asked (λ r ws. id⊢ 𝓤 _)
-          (and-then ! (local ! (look ! 18 refl)) (and-then ! (local ! (look ! 6 refl)) (and-then ! (local ! (look ! 4 refl)) (and-then ! (local ! (look ! 14 refl)) (and-then ! (local ! (look ! 12 refl)) (and-then ! (local ! (look ! 10 refl)) (no-more !))))))) (λ r is-r in-r.
+          (and-then ! (local ! (look ! 18 refl)) (and-then ! (local ! (look ! 6 refl))
+          (and-then ! (local ! (look ! 4 refl)) (and-then ! (local ! (look ! 14 refl)) (and-then ! (local ! (look ! 12 refl)) (and-then ! (local ! (look ! 10 refl)) (no-more !)))))))
+          (λ r is-r in-r.
           land ! (into !) (init ! 20 refl (as-Asked .lawful .typed r _ in-r .0)) $
           returns ! (look ! 20 refl) $
-          gone ! 20 refl refl $ gone ! 18 refl refl $ gone ! 16 refl refl $ gone ! 14 refl refl $ gone ! 12 refl refl $ gone ! 10 refl refl $ gone ! 8 refl refl $ gone ! 6 refl refl $ gone ! 4 refl refl $ free0 ! $
-          suffices ! _ (ends-at 𝓤 H A this.ended stayed (this.clauses 𝓤 H A mem calling) W bound (as-Asked .val r) r (tt, (tt, (tt, (tt, (tt, tt))))) (tt, (tt, (tt, (tt, (tt, tt)))))) $ says ! (turn-is (now run) (now entries) round i j b e asked r is-j is-b is-e is-r) $
-          retok ! 2 (κ₀, (κ₁, tt)) (q₀, (q₁, tt)) $ frame ! $ nothing ! $ plus ! as-Asked asked in-asked $ plus ! as-w64 i in-i $ plus ! as-w8 round in-round $ move ! (2 ∷ 0 ∷ []) $ fjoin ! $ move ! (1 ∷ 0 ∷ []) $ fjoin ! $ frame ! $ owned ! AskedT.the-row (Is AskedT.the-row) (as-Asked .makes) r _ in-r $ done !)))))))))))))
+          gone ! 20 refl refl $ gone ! 18 refl refl $ gone ! 16 refl refl $ gone ! 14 refl refl $ gone ! 12 refl refl $ gone ! 10 refl refl $ gone ! 8 refl refl $ gone ! 6 refl refl $
+          gone ! 4 refl refl $ free0 ! $
+          suffices ! _ (ends-at 𝓤 H A this.ended stayed clauses W bound (as-Asked .val r) r (tt, (tt, (tt, (tt, (tt, tt))))) (tt, (tt, (tt, (tt, (tt, tt)))))) $
+          says ! (turn-is (now run) (now entries) round i j b e asked r is-j is-b is-e is-r) $
+          keep ! (0 ∷ 1 ∷ []) $ retok ! 2 (κ₀, (κ₁, tt)) (q₀, (q₁, tt)) $ frame ! $ nothing ! $ none ! $ none ! $ none ! $ none ! $ none ! $ frame ! $
+          owned ! AskedT.the-row (Is AskedT.the-row) (as-Asked .makes) r _ in-r $ done !)))))))))))))
 
   module _ (𝓣 : Tables 𝓤 H) (known : Known (𝓣 .C)) where
-    walks : Walks 𝓤 H A this.ended stayed (WpFn 𝓤 H (𝓣 .C) (𝓣 .Λ) code.function) (this.clauses 𝓤 H A mem calling)
-    walks = walked 𝓤 H A this.ended stayed (this.clauses 𝓤 H A mem calling) (WpFn 𝓤 H (𝓣 .C) (𝓣 .Λ) code.function) (λ κs. (slice-vals, (slice-vals, (λ x. as-w8 .val x ∷ [], (λ x. as-w64 .val x ∷ [], (λ x. as-Asked .val x ∷ [], tt))))))
+    walks : Walks 𝓤 H A this.ended stayed (WpFn 𝓤 H (𝓣 .C) (𝓣 .Λ) code.function) clauses
+    walks = walked 𝓤 H A this.ended stayed clauses (WpFn 𝓤 H (𝓣 .C) (𝓣 .Λ) code.function)
+        (λ κs. (slice-vals, (slice-vals, (vals as-w8, (vals as-w64, (vals as-Asked, tt))))))
         (λ κs. (shr-slice-tells (named 0) (κs .0) (UInt w8), (shr-slice-tells (named 1) (κs .1 .0) EntryT.the-row, (as-w8 .tells, (as-w64 .tells, (as-Asked .tells, tt))))))
-        (λ κs qs bounds a g are. needs 𝓤 _ _ (λ asks. walk (κs .0) (κs .1 .0) (qs .0) (qs .1 .0) (a .0) (a .1 .0) (a .1 .1 .0) (a .1 .1 .1 .0) (a .1 .1 .1 .1 .0) (are .0) (are .1 .0) (are .1 .1 .0) (are .1 .1 .1 .0) (are .1 .1 .1 .1 .0) asks 𝓣 (fmOf 𝓤 H (W .laws) 𝓣) known))
+        (λ κs qs bounds a g are. needs 𝓤 _ _ (λ asks. walk (κs .0) (κs .1 .0) (qs .0) (qs .1 .0) (a .0) (a .1 .0) (a .1 .1 .0) (a .1 .1 .1 .0) (a .1 .1 .1 .1 .0) (are .0) (are .1 .0)
+        (are .1 .1 .0) (are .1 .1 .1 .0) (are .1 .1 .1 .1 .0) asks 𝓣 (fmOf 𝓤 H (W .laws) 𝓣) known))
 
     meets : Meets 𝓤 H A this.signature (WpFn 𝓤 H (𝓣 .C) (𝓣 .Λ) code.function) (this.spec 𝓤 H A mem calling)
-    meets = walk-meets 𝓤 H A this.ended stayed W (goes-none-slice 𝓤 H A W 2 (0 ∷ []) tt (plain (λ _. (UInt w8))) yes, (goes-none-slice 𝓤 H A W 2 (1 ∷ []) tt (plain (λ _. EntryT.the-row)) yes, (goes-none 𝓤 H A W 2 (λ _. (UInt w8)) yes (λ κs x f. refl), (goes-none 𝓤 H A W 2 (λ _. (UInt w64)) yes (λ κs x f. refl), (goes-none 𝓤 H A W 2 (λ _. AskedT.the-row) yes (λ κs x f. refl), tt)))))
-        (this.clauses 𝓤 H A mem calling) (WpFn 𝓤 H (𝓣 .C) (𝓣 .Λ) code.function) (WpFn-mono 𝓤 H (W .laws) 𝓣 code.function) walks
+    meets = walk-meets 𝓤 H A this.ended stayed W
+        (drops-go 𝓤 H A W 2 (this.ended .signature .params) (this.ended .kept) (λ κs x f. refl, (λ κs x f. refl, (λ κs x f. refl, (λ κs x f. refl, (λ κs x f. refl, tt))))))
+        clauses (WpFn 𝓤 H (𝓣 .C) (𝓣 .Λ) code.function) (WpFn-mono 𝓤 H (W .laws) 𝓣 code.function) walks
 
 pub turn-at-spec : {M : Type 1} → stated.statement M
 unfolding code.routine tablesOf
@@ -167,7 +204,10 @@ turn-at-spec 𝓤 H 𝓜 𝓖 𝓡 =
     entered 𝓤 H (tripleOf 𝓤 H (𝓖 .A) this.signature (this.spec 𝓤 H (𝓖 .A) (𝓜 .mem) (𝓡 .run)))
     (tables 𝓤 H 𝓜 𝓡 code.env .C) (tables 𝓤 H 𝓜 𝓡 code.env .Λ) this-def.name code.function (code.unfolded 𝓤 H 𝓜 𝓡)
     (meets 𝓤 H (𝓖 .A) W (𝓜 .mem) (𝓡 .run) (tablesOf 𝓤 H 𝓜 (tables 𝓤 H 𝓜 𝓡 code.env)) (record {
-      before = cited 𝓤 H (Its-before 𝓤 H (𝓖 .A) W (𝓜 .mem) (𝓡 .run)) 𝓜 𝓡 code.env before-def.name before-def.routine code.calls-restore·before (before-thm.met 𝓤 H 𝓜 𝓖 𝓡);
-      entries-entry-at = cited 𝓤 H (Its-entries-entry-at 𝓤 H (𝓖 .A) W (𝓜 .mem) (𝓡 .run)) 𝓜 𝓡 code.env entries-entry-at-def.name entries-entry-at-def.routine code.calls-entries·entry-at (entries-entry-at-thm.met 𝓤 H 𝓜 𝓖 𝓡);
-      rounds-turn = cited 𝓤 H (Its-rounds-turn 𝓤 H (𝓖 .A) W (𝓜 .mem) (𝓡 .run)) 𝓜 𝓡 code.env rounds-turn-def.name rounds-turn-def.routine code.calls-rounds·turn (rounds-turn-thm.met 𝓤 H 𝓜 𝓖 𝓡);
+      before = cited 𝓤 H (Its-before 𝓤 H (𝓖 .A) W (𝓜 .mem) (𝓡 .run)) 𝓜 𝓡 code.env
+          before-def.name before-def.routine code.calls-restore·before (before-thm.met 𝓤 H 𝓜 𝓖 𝓡);
+      entries-entry-at = cited 𝓤 H (Its-entries-entry-at 𝓤 H (𝓖 .A) W (𝓜 .mem) (𝓡 .run)) 𝓜 𝓡 code.env
+          entries-entry-at-def.name entries-entry-at-def.routine code.calls-entries·entry-at (entries-entry-at-thm.met 𝓤 H 𝓜 𝓖 𝓡);
+      rounds-turn = cited 𝓤 H (Its-rounds-turn 𝓤 H (𝓖 .A) W (𝓜 .mem) (𝓡 .run)) 𝓜 𝓡 code.env
+          rounds-turn-def.name rounds-turn-def.routine code.calls-rounds·turn (rounds-turn-thm.met 𝓤 H 𝓜 𝓖 𝓡);
     }))
