@@ -1,2 +1,2 @@
-mod Faces
+pub mod Faces
 mod Card
