@@ -80,31 +80,37 @@ chained-print c =
     (ap₂ (λ (a b : List ℕ). a ++ b) (list-is (group chain) (c .chains) refl) (append-nil ((list (group skipped)) .print (c .skipped)) ∙ list-is (group skipped) (c .skipped) refl))
 
 -- ---- what is used of a value that can be printed
-record ListFits {B : Type 0} (f : Form B) (bs : List B) : Type 0 where
-  few : length bs < 256 ^ 2
-  post : List ℕ
-  items : fitsMany f bs post
+pub record ListFits {B : Type 0} (f : Form B) (bs : List B) : Type 0 where
+  pub few : length bs < 256 ^ 2
+  pub post : List ℕ
+  pub items : fitsMany f bs post
 
-record Fits (v : value.Contact) : Type 0 where
-  card : fitsOf card (v .card) []
-  chains : ListFits (group chain) (v .chains)
-  skipped : ListFits (group skipped) (v .skipped)
-  above : ListFits (group range) (v .above)
-  unacked : ListFits u32 (v .unacked)
-  expired : ListFits (group range) (v .expired)
+pub record Fits (v : value.Contact) : Type 0 where
+  pub card : fitsOf card (v .card) []
+  pub «sent_msgno» : v .«sent_msgno» < 256 ^ 4
+  pub chains : ListFits (group chain) (v .chains)
+  pub skipped : ListFits (group skipped) (v .skipped)
+  pub contiguous : v .contiguous < 256 ^ 4
+  pub above : ListFits (group range) (v .above)
+  pub unacked : ListFits u32 (v .unacked)
+  pub expired : ListFits (group range) (v .expired)
 
 list-fits : {B : Type 0} (f : Form B) (bs : List B) (post : List ℕ) → (list f) .fits bs post → ListFits f bs
 list-fits f bs post h = record { few = h .0; post = _; items = h .1 .0 .1 }
 
-fits-of : (version : ℕ) (v : value.Contact) → fitsOf (contact version) v [] → Fits v
+pub fits-of : (version : ℕ) (v : value.Contact) → fitsOf (contact version) v [] → Fits v
 fits-of version v h =
     let its = h .1 .1 .1 .1 .1 .1 in
-    let chains = its .1 .1 .1 .1 .1 .1 .1 .1 .1 in
-    let above = chains .1 .1 .1 .1 .1 .1 in
+    let sent = its .1 .1 .1 .1 .1 .1 in
+    let chains = sent .1 .1 .1 in
+    let contiguous = chains .1 .1 .1 .1 .1 in
+    let above = contiguous .1 in
     record {
       card = its .0 .1 .0 .1;
+      «sent_msgno» = sent .0;
       chains = list-fits (group chain) (v .chains) _ (chains .0);
       skipped = list-fits (group skipped) (v .skipped) _ (chains .1 .0);
+      contiguous = contiguous .0;
       above = list-fits (group range) (v .above) _ (above .0);
       unacked = list-fits u32 (v .unacked) _ (above .1 .0);
       expired = list-fits (group range) (v .expired) _ (above .1 .1 .0);
