@@ -1,0 +1,37 @@
+-- The laws of the calls and of lists of them.
+-- Assumes nothing.
+use Prim.Native.Nat.{ℕ, _+_, _^_}
+use mathlib.Core.Path.{_≡_, refl}
+use Rattle.ledger.specs.Proved.{StepLaws, LedgerLaws, HIGHEST, Proved}
+use Rattle.ledger.proofs.Refused.{step-keeps, restore-keeps}
+use Rattle.ledger.proofs.Lengths.{lent-keeps}
+use Rattle.ledger.proofs.Aside.{passes-in-parts}
+use Rattle.ledger.proofs.Decimal.{decimal-laws}
+use Rattle.ledger.proofs.Every.{every-list}
+use Rattle.ledger.proofs.Two.{two-runs}
+use Rattle.ledger.proofs.Occurs.{occurs}
+use Rattle.ledger.proofs.Stuck.{never-stuck}
+use Rattle.ledger.proofs.Replay.{replay-answers}
+use Rattle.ledger.proofs.Blank.{blanked-list}
+
+-- numbers of four bytes
+laws : (N : ℕ) → N + 1 ≡ 256 ^ 4 → LedgerLaws N
+laws N wide = record {
+  every-list = every-list N wide;
+  two-runs = two-runs N wide;
+  occurs = occurs N wide;
+  never-stuck = never-stuck N wide;
+  blanked-list = blanked-list N wide;
+  replayed = λ h m cs t. replay-answers N wide cs h m t;
+}
+
+step-laws : (N : ℕ) → StepLaws N
+step-laws N = record {
+  refused-keeps = λ c h. step-keeps h N c .keeps;
+  lent-keeps = λ c h. lent-keeps h N c;
+  restore-keeps = λ run es h. restore-keeps h N run es;
+  in-parts = passes-in-parts;
+}
+
+pub proved : Proved
+proved = record { lists = laws HIGHEST refl; calls = step-laws HIGHEST; decimals = decimal-laws }

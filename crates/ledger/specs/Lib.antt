@@ -1,0 +1,13 @@
+pub mod Call
+pub mod Line
+pub mod Step
+pub mod Ledger
+pub mod Aside
+pub mod Legal
+pub mod Agree
+pub mod Replay
+pub mod Stuck
+pub mod Wish
+pub mod Two
+pub mod Blank
+pub mod Proved

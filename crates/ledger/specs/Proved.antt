@@ -1,0 +1,63 @@
+-- What is proved of the calls (proofs/Proved.antt): demand 3 of document 01, as claims about lists of calls as a whole.
+-- Assumes nothing.
+use Prim.Native.Nat.{ℕ}
+use mathlib.Core.List.{List}
+use mathlib.Core.Bool.{false}
+use mathlib.Core.Path.{_≡_}
+use Rattle.contact_put.specs.Row.{ContactTyped, ListsTyped}
+use Rattle.store.specs.declared.Entry.{Entry}
+use Rattle.ledger.specs.declared.Mark.the-variants.{Fresh}
+use Rattle.ledger.specs.Call.{Call, restore, isGranted, Hand, lentOf}
+use Rattle.ledger.specs.Line.{DecimalLaws}
+use Rattle.ledger.specs.Step.{passes, step}
+use Rattle.ledger.specs.Aside.{passesInParts}
+use Rattle.ledger.specs.Ledger.{nothing}
+use Rattle.ledger.specs.Legal.{Turn, Each, Legal}
+use Rattle.ledger.specs.Agree.{AgreesAll}
+use Rattle.ledger.specs.Replay.{answers, ledgerAnswers, AllTyped}
+use Rattle.ledger.specs.Two.{Paired, AlikeAll}
+use Rattle.ledger.specs.Wish.{Wish, WishesTyped, Served}
+use Rattle.ledger.specs.Stuck.{Unstuck}
+use Rattle.ledger.specs.Blank.{Blankable, Blanks}
+
+-- fields, lists and output are as they were
+pub record NothingWritten (h after : Hand) : Type 0 where
+  pub contact : after .contact ≡ h .contact
+  pub lists : after .lists ≡ h .lists
+  pub out : after .out ≡ h .out
+
+-- ---- of lists of calls
+-- N is the highest message number. g stands for what is there before the first call: nothing is restored, and all else is anything
+pub record LedgerLaws (N : ℕ) : Type 0 where
+  -- every legal list agrees with the ledger, call by call: answer, mark, store, fields, every lent list and the output whole
+  pub every-list : (g : Hand) → g .mark ≡ Fresh → (ts : List Turn) → Legal N g ts → AgreesAll N nothing ts
+  -- two legal lists of the same calls and lent lengths, on stores that differ only in veiled bytes
+  pub two-runs : (g g′ : Hand) → g .mark ≡ Fresh → g′ .mark ≡ Fresh → (ts us : List Turn) → Paired ts us → Legal N g ts → Legal N g′ us → AlikeAll N ts us
+  -- every list of calls, with any lent lengths, has a legal run
+  pub occurs : (g : Hand) → g .mark ≡ Fresh → (ws : List Wish) → WishesTyped N ws → Served N g ws
+  -- in a legal list 34 comes only from no store, no open contact, or a list lent too short
+  pub never-stuck : (g : Hand) → g .mark ≡ Fresh → (ts : List Turn) → Legal N g ts → Each (Unstuck N) ts
+  -- the same calls on blanked stores can be made, and give every answer that the list gave
+  pub blanked-list : (g : Hand) → g .mark ≡ Fresh → (ts : List Turn) → Legal N g ts → Each (λ t. Blankable (t .call)) ts → Blanks N g ts
+  -- calls one after the other in the same memory are a legal list, and answer as the ledger does
+  pub replayed : (h : Hand) → h .mark ≡ Fresh → (cs : List Call) → AllTyped N cs → answers N cs h ≡ ledgerAnswers N cs (lentOf h) nothing
+
+-- ---- of each call
+pub record StepLaws (N : ℕ) : Type 0 where
+  -- a no changes no state and no lent byte, whatever is handed in
+  pub refused-keeps : (c : Call) (h : Hand) → isGranted (step N c h .answer) ≡ false → step N c h .after ≡ h
+  -- no call changes a lent length
+  pub lent-keeps : (c : Call) (h : Hand) → lentOf (step N c h .after) ≡ lentOf h
+  -- restore writes to nothing lent
+  pub restore-keeps : (run : List ℕ) (es : List Entry) (h : Hand) → NothingWritten h (step N (restore run es) h .after)
+  -- 34 may be asked in parts, with the contact's row left aside
+  pub in-parts : (k : ℕ) (h : Hand) → ContactTyped (h .contact) → ListsTyped (h .lists) → passes k h ≡ passesInParts k h
+
+-- the highest number that a u32 holds
+abbrev pub HIGHEST : ℕ
+HIGHEST = 4294967295
+
+pub record Proved : Type 0 where
+  pub lists : LedgerLaws HIGHEST
+  pub calls : StepLaws HIGHEST
+  pub decimals : DecimalLaws
