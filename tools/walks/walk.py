@@ -104,7 +104,8 @@ def closed(term):
 
 
 def folded(line):
-    """The line in lines of at most WIDTH signs: cut behind a `$` if there is one, or where the fewest parentheses are open. What follows a declaration's first line stands further in."""
+    """The line in lines of at most WIDTH signs, cut behind a `$` if there is one, or where the fewest parentheses are open.
+    What follows a declaration's first line stands further in."""
     if len(line) <= WIDTH or line.lstrip().startswith("--"):
         return [line]
     indent = len(line) - len(line.lstrip())
@@ -277,6 +278,7 @@ class Walk:
         self.shares = ["q" + subscript(number) for number in range(function.lifetimes)]
         self.tokens = [f"token {number}" for number in range(function.lifetimes)]
         self.locals = ["l" + subscript(number) for number in range(len(function.locals))]
+        self.literals = []
         self.callees = []
         self.text = []
 
@@ -302,14 +304,15 @@ class Walk:
         self.callees.append(Callee(path, self.crate))
         return self.callees[-1]
 
-    def types(self):
-        """Every plain type of a local or of a slice's element."""
-        found = []
-        for type_ in self.function.locals:
-            plain = type_.element if isinstance(type_, mir.Slice) else type_
-            if isinstance(plain, (mir.Number, mir.Named)) and plain not in found:
-                found.append(plain)
-        return found
+    def plain_types(self):
+        """Every type of a local or a literal that is a number or declared."""
+        types = [type_ for type_ in self.function.locals if isinstance(type_, (mir.Number, mir.Named))] + self.literals
+        return list(dict.fromkeys(types))
+
+    def declared_types(self):
+        """Every declared type of a local or of a slice's element."""
+        types = [type_.element if isinstance(type_, mir.Slice) else type_ for type_ in self.function.locals]
+        return list(dict.fromkeys(type_ for type_ in types if isinstance(type_, mir.Named)))
 
     def local_names(self):
         """The context's entries of the locals, as they stand after the allocations."""
@@ -328,7 +331,7 @@ class Walk:
         self.line(f"stayed = {self.stays()}", "")
         self.line("module _ {M : Type 1} (𝓤 : URA M) (H : Heap 𝓤) (A : Atoms 𝓤) (W : Given 𝓤 H A) (mem : Memory → SProp 𝓤) (calling : Routine → Fun 𝓤) where")
         self.line("  -- how values lie in locals")
-        for type_ in self.types():
+        for type_ in self.plain_types():
             self.line(f"  abbrev {held(type_)} : Held W {atom(row(type_))}", f"  {held(type_)} = {self.lies(type_)}", "")
         self.line("  -- the contracts that the proof cites, and its own")
         for callee in self.callees:
@@ -486,12 +489,15 @@ class Walk:
     def own_imports(self, body):
         """The lines that import the config's lemmas, the types, the callees and the function itself."""
         lines = list(self.config.get("uses", []))
-        for type_ in self.types():
-            if isinstance(type_, mir.Named):
-                specs, proofs = (f"Rattle.{self.crate}.specs", f"Rattle.{self.crate}.proofs") if type_.crate == self.crate else (f"Rattle.{type_.crate}.specs", f"Rattle.{type_.crate}.proofs")
-                if type_.name in words(body):
-                    lines.append(f"use {specs}.declared.{type_.name}.{{{type_.name}}}")
-                lines += [f"use {proofs}.{type_.name} as {type_.name}T", f"use {proofs}.{type_.name}.Laws as {type_.name}L"]
+        for type_ in self.declared_types():
+            own = type_.crate == self.crate
+            specs, proofs = (f"Rattle.{self.crate}.specs", f"Rattle.{self.crate}.proofs") if own else (f"Rattle.{type_.crate}.specs", f"Rattle.{type_.crate}.proofs")
+            if type_.name in words(body):
+                lines.append(f"use {specs}.declared.{type_.name}.{{{type_.name}}}")
+            if f"{type_.name}T." in body:
+                lines.append(f"use {proofs}.{type_.name} as {type_.name}T")
+            if f"{type_.name}L." in body:
+                lines.append(f"use {proofs}.{type_.name}.Laws as {type_.name}L")
         for callee in self.callees:
             lines += [f"use {callee.module} as {callee.alias}", f"use {callee.module}.Symbol as {callee.alias}-def", f"use {callee.module}.Met as {callee.alias}-thm"]
         own = f"Rattle.{self.crate}.proofs.{self.function.name}"

@@ -62,6 +62,7 @@ class Line(walk.Walk):
             if operand[0] == "local":
                 handed.append(self.held[operand[1]])
             elif operand[0] == "number":
+                self.literals.append(mir.Number(operand[1]))
                 handed.append(walk.Value(str(operand[2]), mir.Number(operand[1]), "(refl, lit< tt)"))
             else:
                 raise SystemExit(f"{statement.callee} is handed something of another form: {operand[1]}")

@@ -43,7 +43,6 @@ use Rattle.store.specs.Find.{firstOf}
 use Rattle.entries.proofs.Looking.{Looking, begins, turned, nearer, inside}
 use Rattle.store.specs.declared.Entry.{Entry}
 use Rattle.store.proofs.Entry as EntryT
-use Rattle.store.proofs.Entry.Laws as EntryL
 use Rattle.store.specs.declared.Wanted.{Wanted}
 use Rattle.store.proofs.Wanted as WantedT
 use Rattle.store.proofs.Wanted.Laws as WantedL
@@ -63,9 +62,6 @@ module _ {M : Type 1} (𝓤 : URA M) (H : Heap 𝓤) (A : Atoms 𝓤) (W : Given
   -- how values lie in locals
   abbrev as-w64 : Held W (UInt w64)
   as-w64 = number W w64
-
-  abbrev as-Entry : Held W EntryT.the-row
-  as-Entry = of-struct W EntryT.the-type EntryL.the-laws EntryL.the-plain
 
   abbrev as-Wanted : Held W WantedT.the-row
   as-Wanted = of-struct W WantedT.the-type WantedL.the-laws WantedL.the-plain

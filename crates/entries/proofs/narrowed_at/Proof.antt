@@ -59,11 +59,11 @@ module _ {M : Type 1} (𝓤 : URA M) (H : Heap 𝓤) (A : Atoms 𝓤) (W : Given
   abbrev as-w64 : Held W (UInt w64)
   as-w64 = number W w64
 
-  abbrev as-Entry : Held W EntryT.the-row
-  as-Entry = of-struct W EntryT.the-type EntryL.the-laws EntryL.the-plain
-
   abbrev as-Wanted : Held W WantedT.the-row
   as-Wanted = of-struct W WantedT.the-type WantedL.the-laws WantedL.the-plain
+
+  abbrev as-Entry : Held W EntryT.the-row
+  as-Entry = of-struct W EntryT.the-type EntryL.the-laws EntryL.the-plain
 
   -- the contracts that the proof cites, and its own
   abbrev Its-entry-at : Contract 𝓤

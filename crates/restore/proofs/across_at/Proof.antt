@@ -82,14 +82,11 @@ module _ {M : Type 1} (𝓤 : URA M) (H : Heap 𝓤) (A : Atoms 𝓤) (W : Given
   abbrev as-Across : Held W AcrossT.the-row
   as-Across = of-enum W AcrossT.the-type AcrossL.the-laws AcrossL.the-plain tt
 
-  abbrev as-w8 : Held W (UInt w8)
-  as-w8 = number W w8
+  abbrev as-w64 : Held W (UInt w64)
+  as-w64 = number W w64
 
   abbrev as-Entry : Held W EntryT.the-row
   as-Entry = of-struct W EntryT.the-type EntryL.the-laws EntryL.the-plain
-
-  abbrev as-w64 : Held W (UInt w64)
-  as-w64 = number W w64
 
   abbrev as-Wanted : Held W WantedT.the-row
   as-Wanted = of-struct W WantedT.the-type WantedL.the-laws WantedL.the-plain

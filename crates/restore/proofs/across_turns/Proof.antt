@@ -38,7 +38,7 @@ use denote.Triple.Statement.{Contract, Triple}
 use denote.Triple.Table.{entered, cited}
 use denote.Triple.Walked.{says, needs, Stays, walkOf, Walks, ends-at, walked, walk-meets}
 use Rattle.walks.proofs.Walk.{untok, retok, gone, rest-of, drops, drops-go}
-use Rattle.walks.proofs.Held.{Held, number, of-struct, of-enum, vals, Lies, holds, empty, plus, lends, none, calls-held, into, local}
+use Rattle.walks.proofs.Held.{Held, number, of-enum, vals, Lies, holds, empty, plus, lends, none, calls-held, into, local}
 use Rattle.across.specs.At.{At}
 use Rattle.restore.proofs.Rounds.{within}
 use Rattle.restore.proofs.Across.{none-yet, one-more, at-last}
@@ -47,7 +47,6 @@ use Rattle.across.proofs.Across as AcrossT
 use Rattle.across.proofs.Across.Laws as AcrossL
 use Rattle.store.specs.declared.Entry.{Entry}
 use Rattle.store.proofs.Entry as EntryT
-use Rattle.store.proofs.Entry.Laws as EntryL
 use Rattle.restore.proofs.across_at as across-at
 use Rattle.restore.proofs.across_at.Symbol as across-at-def
 use Rattle.restore.proofs.across_at.Met as across-at-thm
@@ -64,12 +63,6 @@ module _ {M : Type 1} (𝓤 : URA M) (H : Heap 𝓤) (A : Atoms 𝓤) (W : Given
   -- how values lie in locals
   abbrev as-Across : Held W AcrossT.the-row
   as-Across = of-enum W AcrossT.the-type AcrossL.the-laws AcrossL.the-plain tt
-
-  abbrev as-w8 : Held W (UInt w8)
-  as-w8 = number W w8
-
-  abbrev as-Entry : Held W EntryT.the-row
-  as-Entry = of-struct W EntryT.the-type EntryL.the-laws EntryL.the-plain
 
   abbrev as-w64 : Held W (UInt w64)
   as-w64 = number W w64

@@ -32,13 +32,12 @@ use denote.Triple.Statement.{Contract, Triple}
 use denote.Triple.Table.{entered, cited}
 use denote.Triple.Walked.{says, Stays, walkOf, Walks, ends-at, walked, walk-meets}
 use Rattle.walks.proofs.Walk.{untok, retok, gone, drops, drops-go}
-use Rattle.walks.proofs.Held.{Held, number, of-struct, of-enum, vals, plus, lends, none, calls-held, into, local}
+use Rattle.walks.proofs.Held.{Held, number, of-enum, vals, plus, lends, none, calls-held, into, local}
 use Rattle.restore.proofs.Ends.{all-places, begins-at, answers}
 use Rattle.restore.proofs.Restored as RestoredT
 use Rattle.restore.proofs.Restored.Laws as RestoredL
 use Rattle.store.specs.declared.Entry.{Entry}
 use Rattle.store.proofs.Entry as EntryT
-use Rattle.store.proofs.Entry.Laws as EntryL
 use Rattle.store.specs.declared.Asked.{Asked}
 use Rattle.store.proofs.Asked as AskedT
 use Rattle.store.proofs.Asked.Laws as AskedL
@@ -76,12 +75,6 @@ module _ {M : Type 1} (𝓤 : URA M) (H : Heap 𝓤) (A : Atoms 𝓤) (W : Given
   abbrev as-Restored : Held W RestoredT.the-row
   as-Restored = of-enum W RestoredT.the-type RestoredL.the-laws RestoredL.the-plain tt
 
-  abbrev as-w8 : Held W (UInt w8)
-  as-w8 = number W w8
-
-  abbrev as-Entry : Held W EntryT.the-row
-  as-Entry = of-struct W EntryT.the-type EntryL.the-laws EntryL.the-plain
-
   abbrev as-w64 : Held W (UInt w64)
   as-w64 = number W w64
 
@@ -90,6 +83,9 @@ module _ {M : Type 1} (𝓤 : URA M) (H : Heap 𝓤) (A : Atoms 𝓤) (W : Given
 
   abbrev as-Across : Held W AcrossT.the-row
   as-Across = of-enum W AcrossT.the-type AcrossL.the-laws AcrossL.the-plain tt
+
+  abbrev as-w8 : Held W (UInt w8)
+  as-w8 = number W w8
 
   -- the contracts that the proof cites, and its own
   abbrev Its-entries-entry-count : Contract 𝓤

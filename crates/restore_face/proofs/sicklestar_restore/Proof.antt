@@ -32,13 +32,12 @@ use denote.Triple.Table.{entered, cited}
 use denote.Triple.Walked.{says, Stays, stay-dropped, gave-slice, walkOf, goes-dropped, goes-gave-slice, Walks, ends-at, walked, walk-meets}
 use denote.Exit.{yes}
 use Rattle.walks.proofs.Walk.{untok, retok, gone}
-use Rattle.walks.proofs.Held.{Held, number, of-struct, of-enum, vals, plus, lends, none, calls-held, calls-lent, into, local}
+use Rattle.walks.proofs.Held.{Held, number, of-enum, vals, plus, lends, none, calls-held, calls-lent, into, local}
 use types.Run.{stop, hop, fld, from, load, addr}
 use types.Part.{agg, whole, sub, look-in}
 use Rattle.restore_face.specs.Faces.{toldIn}
 use Rattle.store.specs.declared.Entry.{Entry}
 use Rattle.store.proofs.Entry as EntryT
-use Rattle.store.proofs.Entry.Laws as EntryL
 use Rattle.restore.specs.declared.Restored.{Restored}
 use Rattle.restore.proofs.Restored as RestoredT
 use Rattle.restore.proofs.Restored.Laws as RestoredL
@@ -60,15 +59,6 @@ module _ {M : Type 1} (𝓤 : URA M) (H : Heap 𝓤) (A : Atoms 𝓤) (W : Given
   -- how values lie in locals
   abbrev as-w32 : Held W (UInt w32)
   as-w32 = number W w32
-
-  abbrev as-w8 : Held W (UInt w8)
-  as-w8 = number W w8
-
-  abbrev as-Entry : Held W EntryT.the-row
-  as-Entry = of-struct W EntryT.the-type EntryL.the-laws EntryL.the-plain
-
-  abbrev as-w64 : Held W (UInt w64)
-  as-w64 = number W w64
 
   abbrev as-Restored : Held W RestoredT.the-row
   as-Restored = of-enum W RestoredT.the-type RestoredL.the-laws RestoredL.the-plain tt
