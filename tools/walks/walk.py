@@ -31,8 +31,8 @@ IMPORTS = [
     ("contract.Monad", "Fun factI"),
     ("contract.Running", "givenOf tables tablesOf"),
     ("types.Kit", "Given Item ‵ raw runs anyQ atRet Sq _$_ _∵_ ! qed move keep drop fsplit fjoin feqL suffices frame done"),
-    ("types.Run", "look store init forget lit of-opd and-then no-more bin assigns assigns-last land first skips jumps blocks branches returns "
-                  "enter alloc1 alloc0 params1 pass1 pass0 free0 exec Below again loops"),
+    ("types.Run", "look init and-then no-more land returns enter alloc1 alloc0 params1 pass1 pass0 free0"),
+    ("types.Run", "store forget lit of-opd bin assigns assigns-last first skips jumps blocks branches exec Below again loops"),
     ("sound.WpLaws", "FmC fmOf WpFn-mono"),
     ("denote.RattleType", "owns"),
     ("denote.Laws", "Is"),

@@ -30,7 +30,8 @@ module _ (run : List ℕ) (es : List Entry) (i : ℕ) (s : Across) (l : i < leng
   abbrev owner : ℕ
   owner = ownerOf es (entryAt es i) (ownerLimit (entryAt es i) i s) (spotOf s)
 
-  module _ (e c : Entry) (limit spot p : ℕ) (is-e : e ≡ entryAt es i) (is-limit : limit ≡ ownerLimit e i s) (is-spot : spot ≡ spotOf s) (is-p : p ≡ ownerOf es e limit spot) (is-c : c ≡ entryAt es p) where
+  module _ (e c : Entry) (limit spot p : ℕ)
+      (is-e : e ≡ entryAt es i) (is-limit : limit ≡ ownerLimit e i s) (is-spot : spot ≡ spotOf s) (is-p : p ≡ ownerOf es e limit spot) (is-c : c ≡ entryAt es p) where
     found : p ≡ owner
     found = is-p ∙ (λ k. ownerOf es (is-e k) ((is-limit ∙ ap (λ x. ownerLimit x i s) is-e) k) (is-spot k))
 

@@ -35,7 +35,8 @@ module _ (run : List ℕ) (es : List Entry) where
       → bounded ≡ turns (roundOf BOUNDS s) 0 n ordered → read ≡ turns (roundOf VERSION s) 0 n bounded → state ≡ begunFrom read → At run es 0 state
   begins-at n begun ordered bounded read state is-n is-begun is-ordered is-bounded is-read is-state =
       let first : ordered ≡ turns (roundOf ORDER s) 0 (length es) (begunWith (length es)) = is-ordered ∙ (λ k. turns (roundOf ORDER s) 0 (is-n k) ((is-begun ∙ ap begunWith is-n) k)) in
-      let second : bounded ≡ turns (roundOf BOUNDS s) 0 (length es) (turns (roundOf ORDER s) 0 (length es) (begunWith (length es))) = is-bounded ∙ (λ k. turns (roundOf BOUNDS s) 0 (is-n k) (first k)) in
+      let second : bounded ≡ turns (roundOf BOUNDS s) 0 (length es) (turns (roundOf ORDER s) 0 (length es) (begunWith (length es))) =
+      is-bounded ∙ (λ k. turns (roundOf BOUNDS s) 0 (is-n k) (first k)) in
       subst (At run es 0) (sym (is-state ∙ ap begunFrom (is-read ∙ (λ k. turns (roundOf VERSION s) 0 (is-n k) (second k))))) (begins run es)
 
 -- ---- the end

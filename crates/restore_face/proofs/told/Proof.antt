@@ -86,4 +86,5 @@ returns-4 c =
 pub told-spec : {M : Type 1} → statement M
 told-spec =
     tie.close
-    (tie.spec enum-known-restored cast-result returns slice-write-answer slice-write-answer-2 same-length returns-2 enum-known-restored-2 cast-result-2 returns-3 slice-write-answer-3 cast-result-3 same-length-2 returns-4)
+    (tie.spec enum-known-restored cast-result returns slice-write-answer slice-write-answer-2 same-length returns-2
+    enum-known-restored-2 cast-result-2 returns-3 slice-write-answer-3 cast-result-3 same-length-2 returns-4)
