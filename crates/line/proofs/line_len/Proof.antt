@@ -1,0 +1,75 @@
+-- `line::line_len` meets its contract. The invariant: what is counted, and the text of the fields from the i-th on, are two more than the text of all: S and LF.
+-- Assumes nothing.
+use Prim.Native.Nat.{ℕ, _+_, _-_, _*_, _≤_}
+use mathlib.Core.List.{List}
+use mathlib.Core.Path.{_≡_, ap}
+use native.Mathlib.Omega.{arith}
+use lib.ListN.{length, drop}
+use borrow.Author.Needs.{needs}
+use Rattle.line.specs.Line.{fieldsText}
+use Rattle.line.proofs.Text.{field-length, last-text}
+use Rattle.line.proofs.line_len.Statement.{statement}
+use Rattle.line.proofs.line_len.Tie as tie
+
+abbrev Inv-loop : tie.InvT-loop
+Inv-loop fields i₀ n₀ i n = (i ≤ 7) × (n ≤ 2 + 21 * i) × (n + length (fieldsText (drop i fields)) ≡ length (fieldsText fields) + 2)
+
+abbrev μ-loop : tie.MeasureT-loop
+μ-loop fields i₀ n₀ i n = 7 - i
+
+-- the numbers, which are seven
+abbrev fields : tie.At-loop Inv-loop μ-loop → List ℕ
+fields l = l .before .args .t1
+
+seven : (l : tie.At-loop Inv-loop μ-loop) → length (fields l) ≡ 7
+seven l = search needs
+
+loop-holds : tie.Need-loop-holds Inv-loop μ-loop
+loop-holds c = (search needs, search needs, omega arith)
+
+mul-decimal-len : tie.Need-mul-decimal-len Inv-loop μ-loop
+mul-decimal-len c = search needs
+
+array-read-decimal-len : tie.Need-array-read-decimal-len Inv-loop μ-loop
+array-read-decimal-len c = search needs
+
+decimal-len-requires : tie.Need-decimal-len-requires Inv-loop μ-loop
+decimal-len-requires c κs = search needs
+
+add-n : tie.Need-add-n Inv-loop μ-loop
+add-n c = search needs
+
+add-n-2 : tie.Need-add-n-2 Inv-loop μ-loop
+add-n-2 c = search needs
+
+add-i : tie.Need-add-i Inv-loop μ-loop
+add-i c = search needs
+
+loop-less : tie.Need-loop-less Inv-loop μ-loop
+loop-less c = search needs
+
+loop-again : tie.Need-loop-again Inv-loop μ-loop
+loop-again c =
+    let l = c .before .before in
+    let e = c .decimal-len .ensures in
+    (omega arith, omega (arith, e .1), omega (arith, e .0, field-length (fields l) (l .loop .i) (omega (arith, seven l))))
+
+returns : tie.Need-returns Inv-loop μ-loop
+returns c = let l = c .before in omega (arith, ap length (last-text (fields l) (l .loop .i) (omega (arith, seven l))))
+
+pub line-len-spec : {M : Type 1} → statement M
+line-len-spec =
+    tie.close
+    (tie.spec
+    Inv-loop
+    μ-loop
+    loop-holds
+    mul-decimal-len
+    array-read-decimal-len
+    decimal-len-requires
+    add-n
+    add-n-2
+    add-i
+    loop-less
+    loop-again
+    returns)

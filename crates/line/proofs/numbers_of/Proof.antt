@@ -1,0 +1,105 @@
+-- `line::numbers_of` meets its contract. The invariant: the sum, and what the ranges from the i-th on hold, are what all hold; no range holds more than 2^32.
+-- Assumes nothing.
+use Prim.Native.Nat.{_+_, _-_, _*_, _^_, _≤_, _<_}
+use mathlib.Core.Path.{_≡_}
+use native.Mathlib.Omega.{arith}
+use lib.ListN.{drop}
+use borrow.Author.Needs.{needs}
+use Rattle.received.specs.Sets.{size}
+use Rattle.received.specs.Lent.{pairs}
+use Rattle.line.proofs.Numbers.{size-turn, size-end, held-sum, full-sum}
+use Rattle.line.proofs.numbers_of.Statement.{statement}
+use Rattle.line.proofs.numbers_of.Tie as tie
+
+abbrev Inv-loop : tie.InvT-loop
+Inv-loop list held i₀ sum₀ i sum = (i ≤ held) × (sum ≤ i * 2 ^ 32) × (sum < 2 ^ 64) × (sum + size (drop i (pairs held list)) ≡ size (pairs held list))
+
+abbrev μ-loop : tie.MeasureT-loop
+μ-loop list held i₀ sum₀ i sum = held - i
+
+loop-holds : tie.Need-loop-holds Inv-loop μ-loop
+loop-holds c = (search needs, search needs, search needs, omega arith)
+
+mul-width : tie.Need-mul-width Inv-loop μ-loop
+mul-width c = search needs
+
+mul-width-2 : tie.Need-mul-width-2 Inv-loop μ-loop
+mul-width-2 c = search needs
+
+shared-slice-read-width : tie.Need-shared-slice-read-width Inv-loop μ-loop
+shared-slice-read-width c = search needs
+
+mul-width-3 : tie.Need-mul-width-3 Inv-loop μ-loop
+mul-width-3 c = search needs
+
+add-width : tie.Need-add-width Inv-loop μ-loop
+add-width c = search needs
+
+mul-width-4 : tie.Need-mul-width-4 Inv-loop μ-loop
+mul-width-4 c = search needs
+
+shared-slice-read-width-2 : tie.Need-shared-slice-read-width-2 Inv-loop μ-loop
+shared-slice-read-width-2 c = search needs
+
+width-requires : tie.Need-width-requires Inv-loop μ-loop
+width-requires c κs = search needs
+
+sub-if1 : tie.Need-sub-if1 Inv-loop μ-loop
+sub-if1 c = search needs
+
+returns : tie.Need-returns Inv-loop μ-loop
+returns c =
+    let w = c .before in
+    let t = w .before .before .before in
+    let l = t .before .loop in
+    let s = t .before .before .before in
+    let n = size-turn (s .args .list .now) (s .args .held) (l .i) (l .sum) (s .pre) (l .inv .3) (t .loop-test .taken) (w .width .ensures .0) in
+    (full-sum _ (omega arith), λ h. absurd (omega arith))
+
+add-sum : tie.Need-add-sum Inv-loop μ-loop
+add-sum c = search needs
+
+add-i : tie.Need-add-i Inv-loop μ-loop
+add-i c = search needs
+
+loop-less : tie.Need-loop-less Inv-loop μ-loop
+loop-less c = search needs
+
+loop-again : tie.Need-loop-again Inv-loop μ-loop
+loop-again c =
+    let w = c .before in
+    let t = w .before .before .before in
+    let l = t .before .loop in
+    let s = t .before .before .before in
+    let n = size-turn (s .args .list .now) (s .args .held) (l .i) (l .sum) (s .pre) (l .inv .3) (t .loop-test .taken) (w .width .ensures .0) in
+    (omega arith, omega (arith, w .width .ensures .1), omega arith, n)
+
+returns-2 : tie.Need-returns-2 Inv-loop μ-loop
+returns-2 c =
+    let l = c .before .loop in
+    let s = c .before .before .before in
+    let e = size-end (s .args .list .now) (s .args .held) (l .i) (l .sum) (s .pre) (l .inv .3) (c .loop-test .left) in
+    (rw (← e) (held-sum (l .sum) (omega arith)), λ h. e)
+
+pub numbers-of-spec : {M : Type 1} → statement M
+numbers-of-spec =
+    tie.close
+    (tie.spec
+    Inv-loop
+    μ-loop
+    loop-holds
+    mul-width
+    mul-width-2
+    shared-slice-read-width
+    mul-width-3
+    add-width
+    mul-width-4
+    shared-slice-read-width-2
+    width-requires
+    sub-if1
+    returns
+    add-sum
+    add-i
+    loop-less
+    loop-again
+    returns-2)
