@@ -1,3 +1,4 @@
 pub mod Decimal
 pub mod Text
 mod Numbers
+mod Samples
