@@ -1,6 +1,7 @@
 -- `line::numbers_of` meets its contract. The invariant: the sum, and what the ranges from the i-th on hold, are what all hold; no range holds more than 2^32.
 -- Assumes nothing.
-use Prim.Native.Nat.{_+_, _-_, _*_, _^_, _≤_, _<_}
+use Prim.Native.Nat.{ℕ, _+_, _-_, _*_, _^_, _≤_, _<_}
+use mathlib.Core.List.{List}
 use mathlib.Core.Path.{_≡_}
 use native.Mathlib.Omega.{arith}
 use lib.ListN.{drop}
@@ -16,6 +17,22 @@ Inv-loop list held i₀ sum₀ i sum = (i ≤ held) × (sum ≤ i * 2 ^ 32) × (
 
 abbrev μ-loop : tie.MeasureT-loop
 μ-loop list held i₀ sum₀ i sum = held - i
+
+-- the list, how many ranges it holds, and the turn that a call stands in
+abbrev list : tie.At-loop Inv-loop μ-loop → List ℕ
+list l = l .before .before .args .list .now
+
+abbrev held : tie.At-loop Inv-loop μ-loop → ℕ
+held l = l .before .before .args .held
+
+abbrev at : tie.After-width Inv-loop μ-loop → tie.At-loop Inv-loop μ-loop
+at w = w .before .before .before .before
+
+-- the i-th range is counted
+turn : (w : tie.After-width Inv-loop μ-loop) → at w .loop .sum + w .width .result + size (drop (at w .loop .i + 1) (pairs (held (at w)) (list (at w)))) ≡ size (pairs (held (at w)) (list (at w)))
+turn w =
+    let l = at w in
+    size-turn (list l) (held l) (l .loop .i) (l .loop .sum) (l .before .before .pre) (l .loop .inv .3) (w .before .before .before .loop-test .taken) (w .width .ensures .0)
 
 loop-holds : tie.Need-loop-holds Inv-loop μ-loop
 loop-holds c = (search needs, search needs, search needs, omega arith)
@@ -48,13 +65,7 @@ sub-if1 : tie.Need-sub-if1 Inv-loop μ-loop
 sub-if1 c = search needs
 
 returns : tie.Need-returns Inv-loop μ-loop
-returns c =
-    let w = c .before in
-    let t = w .before .before .before in
-    let l = t .before .loop in
-    let s = t .before .before .before in
-    let n = size-turn (s .args .list .now) (s .args .held) (l .i) (l .sum) (s .pre) (l .inv .3) (t .loop-test .taken) (w .width .ensures .0) in
-    (full-sum _ (omega arith), λ h. absurd (omega arith))
+returns c = (full-sum _ (omega (arith, turn (c .before))), λ h. absurd (omega arith))
 
 add-sum : tie.Need-add-sum Inv-loop μ-loop
 add-sum c = search needs
@@ -66,20 +77,13 @@ loop-less : tie.Need-loop-less Inv-loop μ-loop
 loop-less c = search needs
 
 loop-again : tie.Need-loop-again Inv-loop μ-loop
-loop-again c =
-    let w = c .before in
-    let t = w .before .before .before in
-    let l = t .before .loop in
-    let s = t .before .before .before in
-    let n = size-turn (s .args .list .now) (s .args .held) (l .i) (l .sum) (s .pre) (l .inv .3) (t .loop-test .taken) (w .width .ensures .0) in
-    (omega arith, omega (arith, w .width .ensures .1), omega arith, n)
+loop-again c = (omega arith, omega (arith, c .before .width .ensures .1), omega arith, turn (c .before))
 
 returns-2 : tie.Need-returns-2 Inv-loop μ-loop
 returns-2 c =
-    let l = c .before .loop in
-    let s = c .before .before .before in
-    let e = size-end (s .args .list .now) (s .args .held) (l .i) (l .sum) (s .pre) (l .inv .3) (c .loop-test .left) in
-    (rw (← e) (held-sum (l .sum) (omega arith)), λ h. e)
+    let l = c .before in
+    let e = size-end (list l) (held l) (l .loop .i) (l .loop .sum) (l .before .before .pre) (l .loop .inv .3) (c .loop-test .left) in
+    (rw (← e) (held-sum (l .loop .sum) (omega arith)), λ h. e)
 
 pub numbers-of-spec : {M : Type 1} → statement M
 numbers-of-spec =
