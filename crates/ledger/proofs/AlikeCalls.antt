@@ -19,7 +19,7 @@ use Rattle.store.specs.declared.Entry.{Entry}
 use Rattle.store.specs.Veiled.{VeilEqual, ContactAlike, FieldsAlike}
 use Rattle.store.proofs.Proved.{store-laws}
 use Rattle.ledger.specs.Call.{wrote, said, Lent}
-use Rattle.ledger.specs.Line.{lineOf, queuedOf}
+use Rattle.line.specs.Line.{lineOf, queuedOf}
 use Rattle.ledger.specs.Ledger.{Open, opened, Account, refuse, covered, current, passesNow, coverNow, takeNow, lineNow, rowNow, writeNow}
 use Rattle.ledger.specs.Two.{RowsAlike}
 use Rattle.ledger.proofs.Bytes.{bytes-with}

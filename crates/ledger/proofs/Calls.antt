@@ -22,7 +22,7 @@ use Rattle.store.specs.declared.Entry.{Entry}
 use Rattle.store.proofs.Lasting.{opened-lasts}
 use Rattle.ledger.specs.declared.Mark.the-variants.{Opened}
 use Rattle.ledger.specs.Call.{Call, Answer, isGranted, truth, number, wrote, said, refused, contains, covers, take, statement, write, Hand, leaves, no, lentOf}
-use Rattle.ledger.specs.Line.{lineOf, queuedOf}
+use Rattle.line.specs.Line.{lineOf, queuedOf}
 use Rattle.ledger.specs.Step.{inOrder, coveredIn, taking, writing, wroteRow, saidLine, lineIn, step}
 use Rattle.ledger.specs.Step as steps
 use Rattle.ledger.specs.Ledger.{Open, Ledger, opened, plain, refuse, covered, current, fitting, takeNow, lineNow, rowNow, writeNow, ledger}

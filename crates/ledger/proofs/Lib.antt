@@ -23,7 +23,6 @@ pub mod Two
 pub mod Blank
 pub mod Aside
 pub mod Contracts
-pub mod Decimal
 pub mod Replay
 pub mod Samples
 pub mod Proved

@@ -6,7 +6,7 @@ use Rattle.ledger.specs.Proved.{StepLaws, LedgerLaws, HIGHEST, Proved}
 use Rattle.ledger.proofs.Refused.{step-keeps, restore-keeps}
 use Rattle.ledger.proofs.Lengths.{lent-keeps}
 use Rattle.ledger.proofs.Aside.{passes-in-parts}
-use Rattle.ledger.proofs.Decimal.{decimal-laws}
+use Rattle.line.proofs.Decimal.{decimal-laws}
 use Rattle.ledger.proofs.Every.{every-list}
 use Rattle.ledger.proofs.Two.{two-runs}
 use Rattle.ledger.proofs.Occurs.{occurs}

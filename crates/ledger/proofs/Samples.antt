@@ -29,7 +29,7 @@ use Rattle.store.specs.declared.Entry.{Entry}
 use Rattle.store.specs.Kinds.{DEVICE, CONTACT, QUEUED, COURIER}
 use Rattle.ledger.specs.declared.Mark.the-variants.{Fresh}
 use Rattle.ledger.specs.Call.{Call, restore, opens, cover, contains, covers, take, statement, write, granted, truth, number, wrote, said, refused, refusedAt, Hand, Lent}
-use Rattle.ledger.specs.Line as lines
+use Rattle.line.specs.Line as lines
 use Rattle.ledger.specs.Step as steps
 use Rattle.ledger.specs.Step.{relisted, aboveAs, step}
 use Rattle.ledger.specs.Ledger.{nothing, ledger}

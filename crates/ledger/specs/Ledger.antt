@@ -20,7 +20,7 @@ use Rattle.store.specs.declared.Entry.{Entry}
 use Rattle.store.specs.Store as store
 use Rattle.store.specs.Store.{storeOf, partOf, storePasses, replacedPasses}
 use Rattle.ledger.specs.Call.{Call, restore, opens, cover, contains, covers, take, statement, write, Answer, granted, truth, number, wrote, said, refused, refusedAt, Lent}
-use Rattle.ledger.specs.Line.{lineOf, queuedOf}
+use Rattle.line.specs.Line.{lineOf, queuedOf}
 use Rattle.ledger.specs.Step.{contactIn, inOrder}
 
 -- ---- its state

@@ -1,5 +1,4 @@
 pub mod Call
-pub mod Line
 pub mod Step
 pub mod Ledger
 pub mod Aside

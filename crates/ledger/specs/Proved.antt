@@ -8,7 +8,7 @@ use Rattle.contact_put.specs.Row.{ContactTyped, ListsTyped}
 use Rattle.store.specs.declared.Entry.{Entry}
 use Rattle.ledger.specs.declared.Mark.the-variants.{Fresh}
 use Rattle.ledger.specs.Call.{Call, restore, isGranted, Hand, lentOf}
-use Rattle.ledger.specs.Line.{DecimalLaws}
+use Rattle.line.specs.Line.{DecimalLaws}
 use Rattle.ledger.specs.Step.{passes, step}
 use Rattle.ledger.specs.Aside.{passesInParts}
 use Rattle.ledger.specs.Ledger.{nothing}

@@ -28,7 +28,7 @@ use Rattle.store.specs.Store.{storeOf, isOf, partOf, storePasses, replacedPasse
 use Rattle.ledger.specs.declared.Mark.{Mark}
 use Rattle.ledger.specs.declared.Mark.the-variants.{Fresh, Restored, Opened}
 use Rattle.ledger.specs.Call.{Call, restore, opens, cover, contains, covers, take, statement, write, Answer, granted, truth, number, wrote, said, refused, refusedAt, Hand, Left, leaves, no}
-use Rattle.ledger.specs.Line.{lineOf, queuedOf}
+use Rattle.line.specs.Line.{lineOf, queuedOf}
 
 -- ---- restore writes to nothing lent: it leaves another store, and no contact open
 abbrev pub restoring : (run : List ℕ) → List Entry → Hand → store.Outcome → Left
