@@ -13,13 +13,12 @@ use Rattle.layout.specs.Questions.{ORDER, BOUNDS}
 use Rattle.layout.specs.Layout.{Answer, accepted, refusedBy, print, readRow}
 use Rattle.layout.specs.RowLaws.{Bytes}
 use Rattle.store.specs.declared.Entry.{Entry}
-use Rattle.store.specs.declared.Asked.{Asked}
 use Rattle.store.specs.declared.Asked.the-variants.{Going, Refused}
-use Rattle.store.specs.Rounds.{ask, firstNo, rounds, Quiet}
+use Rattle.store.specs.Rounds.{ask, firstNo, Quiet}
 use Rattle.store.specs.Kinds.{DEVICE, CONTACT, COURIER, Kind, kindOf, ValueOf, layoutOf, Seen, seenOf, refusalIn}
 use Rattle.store.specs.Store.{Store, entryAt, within, answerOf, seen, inOrder, acrossAs, across, allRounds, begun, asked}
 use Rattle.store.specs.Accepted.{Follows, Shows, Accepted}
-use Rattle.store.proofs.Rounds.{Going≢, some≢none, AllQuiet, granted-quiet, quiet-granted, rounds-refused}
+use Rattle.store.proofs.Rounds.{Going≢, some≢none, AllQuiet, rounds-going, rounds-quiet, quiet-granted}
 use Rattle.store.proofs.Tests.{both, pair, all-yes, yes-all, eq→eqb}
 use Rattle.store.proofs.ByKind.{row-of}
 use Rattle.store.proofs.Same.{across-same}
@@ -99,15 +98,11 @@ going-begun s h = go (length (s .entries)) h
     go (suc n) h = rw (eqb·suc-zero n)
 
 pub asked-begun : (s : Store) → asked s ≡ Going → begun s ≡ Going
-asked-begun s e = go (begun s) e
-  where
-    go : (a : Asked) → rounds (allRounds s) (length (s .entries)) a ≡ Going → a ≡ Going
-    go Going h = refl
-    go (Refused q p) h = absurd (Going≢ (sym h ∙ rounds-refused (allRounds s) (length (s .entries)) q p))
+asked-begun s e = rounds-going (allRounds s) (length (s .entries)) (begun s) e
 
 -- ---- granted exactly if accepted
 pub going-quiet : (s : Store) → asked s ≡ Going → AllQuiet (allRounds s) (length (s .entries))
-going-quiet s e = granted-quiet (allRounds s) (length (s .entries)) (rw (asked-begun s e) at e)
+going-quiet s e = rounds-quiet (allRounds s) (length (s .entries)) (begun s) e
 
 pub quiet-kinds : (s : Store) → AllQuiet (allRounds s) (length (s .entries)) → (i : ℕ) → suc i < length (s .entries) → Follows (entryAt (s .entries) (suc i) .kind) (entryAt (s .entries) i .kind)
 quiet-kinds s q i h = ordered (s .entries) i (all-yes (ask ORDER (inOrder (s .entries) (suc i)) ∷ []) (q .0 (suc i) (omega arith) h) .0)

@@ -18,5 +18,6 @@ pub mod Lookup
 pub mod Keeps
 pub mod Walk
 pub mod Slots
+pub mod LeftAside
 pub mod Proved
 pub mod Samples

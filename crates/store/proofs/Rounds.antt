@@ -37,6 +37,11 @@ pub rounds-refused : (rs : List Round) (n q p : ℕ) → rounds rs n (Refused q 
 rounds-refused [] n q p = refl
 rounds-refused (r ∷ rs) n q p = ap (λ (v : Asked). rounds rs n v) (turns-refused r 0 n q p) ∙ rounds-refused rs n q p
 
+-- what goes on was going on before
+pub rounds-going : (rs : List Round) (n : ℕ) (v : Asked) → rounds rs n v ≡ Going → v ≡ Going
+rounds-going rs n Going e = refl
+rounds-going rs n (Refused q p) e = absurd (Going≢ (sym e ∙ rounds-refused rs n q p))
+
 -- a round goes through, or is refused at its first no
 data Came (r : Round) (i n : ℕ) (v : Asked) : Type 0 where
   through : v ≡ Going → Quiet r i (i + n) → Came r i n v
@@ -74,6 +79,9 @@ granted-quiet (r ∷ rs) n e = go (came r 0 n) (granted-quiet rs n)
     go : Came r 0 n (turns r 0 n Going) → (rounds rs n Going ≡ Going → AllQuiet rs n) → AllQuiet (r ∷ rs) n
     go (through h k) ih = ((λ j a b. k j a (omega arith)), ih (rw h at e))
     go (stopped q p h x) ih = absurd (Going≢ (sym (rw (h, rounds-refused rs n q p) at e)))
+
+pub rounds-quiet : (rs : List Round) (n : ℕ) (v : Asked) → rounds rs n v ≡ Going → AllQuiet rs n
+rounds-quiet rs n v e = granted-quiet rs n (rw (rounds-going rs n v e) at e)
 
 pub quiet-granted : (rs : List Round) (n : ℕ) → AllQuiet rs n → rounds rs n Going ≡ Going
 quiet-granted [] n q = refl

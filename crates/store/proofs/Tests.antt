@@ -40,6 +40,12 @@ pair true true g h = tt
 pair true false g h = absurd h
 pair false b g h = absurd g
 
+pub same : (a b : Bool) → (T a → T b) → (T b → T a) → a ≡ b
+same true true f g = refl
+same true false f g = absurd (f tt)
+same false true f g = absurd (g tt)
+same false false f g = refl
+
 -- ---- the first no is none exactly if all are yes
 abbrev pub AllYes : List Question → Type 0
 AllYes [] = Unit {0}

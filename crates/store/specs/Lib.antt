@@ -6,4 +6,5 @@ pub mod Veiled
 pub mod Used
 pub mod Walk
 pub mod Find
+pub mod Aside
 pub mod Proved

@@ -1,6 +1,7 @@
 // What restore is handed beside the run of bytes, and how far its questions have come.
 ghost use mathlib.Core.Path.{_≡_};
 ghost use Rattle.store.specs.Store.{within, partOf};
+ghost use Rattle.store.specs.Aside.{isAside};
 
 // Where a row stands in the run, and of which kind, contact or slot, message and version it is.
 #[repr(C)]
@@ -17,6 +18,12 @@ pub struct Entry {
 pub enum Asked {
     Going,
     Refused(u8, usize),
+}
+
+// The contact whose row is left aside while the questions are asked, with its sent_msgno.
+pub enum Aside {
+    Nothing,
+    Contact(u64, u32),
 }
 
 // An entry's kind.
@@ -55,4 +62,17 @@ pub fn part_of(run: &[u8], e: Entry) -> &[u8]
         return &run[start..end];
     }
     &run[..0]
+}
+
+// Whether an entry is the one whose row is left aside.
+pub fn is_aside(e: Entry, aside: Aside) -> bool
+    ensures { λ r. ⌜ r ≡ isAside aside e ⌝ }
+{
+    let Aside::Contact(id, _) = aside else {
+        return false;
+    };
+    if e.kind == CONTACT {
+        return e.id == id;
+    }
+    false
 }

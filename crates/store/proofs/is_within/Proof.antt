@@ -1,18 +1,13 @@
 -- `store::is_within` meets its contract: where the length is within the run, the start may be at most what is left.
 use Prim.Native.Nat.{ℕ, _+_, _-_, _≤_, _<_}
-use mathlib.Core.Path.{_≡_, refl}
-use mathlib.Core.Bool.{Bool, true, false}
+use mathlib.Core.Path.{_≡_}
+use mathlib.Core.Bool.{false}
 use native.Mathlib.Omega.{arith}
-use lib.Dec.{leb, T, leb→le, le→leb}
+use lib.Dec.{leb, leb→le, le→leb}
 use borrow.Author.Needs.{needs}
+use Rattle.store.proofs.Tests.{same}
 use Rattle.store.proofs.is_within.Statement.{statement}
 use Rattle.store.proofs.is_within.Tie as tie
-
-same : (a b : Bool) → (T a → T b) → (T b → T a) → a ≡ b
-same true true f g = refl
-same true false f g = absurd (f tt)
-same false true f g = absurd (g tt)
-same false false f g = refl
 
 fits : (start len size : ℕ) → len ≤ size → leb start (size - len) ≡ leb (start + len) size
 fits start len size h = same (leb start (size - len)) (leb (start + len) size)
