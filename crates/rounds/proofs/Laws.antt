@@ -9,8 +9,10 @@ use native.Mathlib.Numerals.{unary-clauses}
 use lib.Dec.{eqb}
 use Rattle.layout.specs.Questions.{ORDER, BOUNDS}
 use Rattle.store.specs.declared.Entry.{Entry}
+use Rattle.store.specs.declared.Aside.{Aside}
 use Rattle.store.specs.Rounds.{ask, firstNo, Round}
-use Rattle.store.specs.Store.{entryAt, storeOf, inOrder, order, bounds, read}
+use Rattle.store.specs.Store.{entryAt, storeOf, inOrder, order, bounds}
+use Rattle.store.specs.Aside.{isAside, readAside}
 use Rattle.rounds.specs.Rounds.{follows, roundOf, roundAsks}
 
 follows-is : (es : List Entry) (i : ℕ) → follows i (entryAt es (i - 1) .kind) (entryAt es i .kind) ≡ inOrder es i
@@ -23,7 +25,7 @@ chosen true t f g h i e = e
 chosen false true f g h i e = refl
 chosen false false f g h i e = refl
 
-pub asks-is : (run : List ℕ) (es : List Entry) (q i : ℕ) → roundAsks run (entryAt es (i - 1)) (entryAt es i) q i ≡ roundOf q (storeOf run es) i
-asks-is run es q i =
+pub asks-is : (run : List ℕ) (es : List Entry) (aside : Aside) (q i : ℕ) → roundAsks run aside (entryAt es (i - 1)) (entryAt es i) q i ≡ roundOf q run es aside i
+asks-is run es aside q i =
     let s = storeOf run es in
-    chosen (eqb q ORDER) (eqb q BOUNDS) (order s) (bounds s) (read s) i (ap (λ (t : Bool). firstNo (ask ORDER t ∷ [])) (follows-is es i))
+    chosen (eqb q ORDER) (eqb q BOUNDS) (order s) (bounds s) (readAside run es (isAside aside)) i (ap (λ (t : Bool). firstNo (ask ORDER t ∷ [])) (follows-is es i))

@@ -6,14 +6,16 @@ use mathlib.Core.Bool.{Bool, cond, _&&_}
 use mathlib.Core.Option.{Option, none, some}
 use lib.ListN.{length}
 use lib.Dec.{leb, eqb}
-use Rattle.layout.specs.Questions.{ORDER, BOUNDS}
+use Rattle.layout.specs.Questions.{ORDER, BOUNDS, VERSION}
 use Rattle.layout.specs.Layout.{readRow}
 use Rattle.rows.specs.declared.Verdict.{Verdict}
 use Rattle.rows.specs.declared.Verdict.the-variants as verdict
 use Rattle.store.specs.declared.Entry.{Entry}
+use Rattle.store.specs.declared.Aside.{Aside}
 use Rattle.store.specs.Rounds.{ask, firstNo, Round}
 use Rattle.store.specs.Kinds.{DEVICE, CONTACT, COURIER, kindOf, layoutOf, refusalIn}
-use Rattle.store.specs.Store.{Store, within, partOf, order, bounds, read}
+use Rattle.store.specs.Store.{storeOf, within, partOf, order, bounds}
+use Rattle.store.specs.Aside.{isAside, readAside}
 
 abbrev pub verdictIn : Verdict → Option ℕ
 verdictIn verdict.Accepted = none
@@ -25,12 +27,13 @@ follows zero before kind = eqb kind DEVICE
 follows (suc i) before kind = leb CONTACT kind && leb kind COURIER && leb before kind
 
 -- a round goes by its first question: 1, 2, or 3 for 3 to 24
-abbrev pub roundOf : ℕ → Store → Round
-roundOf q s = cond (eqb q ORDER) (order s) (cond (eqb q BOUNDS) (bounds s) (read s))
+abbrev pub roundOf : ℕ → (run : List ℕ) → List Entry → Aside → Round
+roundOf q run es aside = cond (eqb q ORDER) (order (storeOf run es)) (cond (eqb q BOUNDS) (bounds (storeOf run es)) (readAside run es (isAside aside)))
 
 -- the same, of an entry and the one before it
-abbrev pub roundAsks : (run : List ℕ) → (before e : Entry) → (round i : ℕ) → Option ℕ
-roundAsks run before e q i =
+abbrev pub roundAsks : (run : List ℕ) → Aside → (before e : Entry) → (round i : ℕ) → Option ℕ
+roundAsks run aside before e q i =
     cond (eqb q ORDER) (firstNo (ask ORDER (follows i (before .kind) (e .kind)) ∷ []))
     (cond (eqb q BOUNDS) (firstNo (ask BOUNDS (within (length run) e) ∷ []))
-    (refusalIn (readRow (layoutOf (kindOf (e .kind)) (e .version)) (partOf run e))))
+    (cond (isAside aside e) (firstNo (ask VERSION (eqb (e .version) 3) ∷ []))
+    (refusalIn (readRow (layoutOf (kindOf (e .kind)) (e .version)) (partOf run e)))))

@@ -5,12 +5,16 @@ use device::DeviceCheck;
 use layout::question;
 use queued::QueuedCheck;
 use rows::Verdict;
+use store::Aside;
 use store::Asked;
 use store::Entry;
 ghost use mathlib.Core.Path.{_≡_};
+ghost use mathlib.Core.List.{[], _∷_};
+ghost use lib.Dec.{eqb};
+ghost use Rattle.layout.specs.Questions.{VERSION};
 ghost use Rattle.layout.specs.Layout.{readRow};
 ghost use Rattle.rows.specs.Rows as layouts;
-ghost use Rattle.store.specs.Rounds.{turn};
+ghost use Rattle.store.specs.Rounds.{ask, firstNo, turn};
 ghost use Rattle.store.specs.Kinds.{kindOf, layoutOf, refusalIn};
 ghost use Rattle.rounds.specs.Rounds.{verdictIn, follows, roundAsks};
 
@@ -79,9 +83,19 @@ fn in_order(i: usize, before: u32, kind: u32) -> bool
     before <= kind
 }
 
+// 3, of an entry whose row is left aside.
+fn version_verdict(version: u32) -> Verdict
+    ensures { λ r. ⌜ verdictIn r ≡ firstNo (ask VERSION (eqb version 3) ∷ []) ⌝ }
+{
+    if version == rows::BLOB_VERSION {
+        return Verdict::Accepted;
+    }
+    Verdict::Refused(question::VERSION)
+}
+
 // What a round asks of the i-th entry. A round goes by its first question.
-fn verdict(run: &[u8], before: Entry, e: Entry, round: u8, i: usize) -> Verdict
-    ensures { λ r. ⌜ verdictIn r ≡ roundAsks (now (run .entry)) before e round i ⌝ }
+fn verdict(run: &[u8], aside: Aside, before: Entry, e: Entry, round: u8, i: usize) -> Verdict
+    ensures { λ r. ⌜ verdictIn r ≡ roundAsks (now (run .entry)) aside before e round i ⌝ }
 {
     if round == question::ORDER {
         if in_order(i, before.kind, e.kind) {
@@ -95,18 +109,29 @@ fn verdict(run: &[u8], before: Entry, e: Entry, round: u8, i: usize) -> Verdict
         }
         return Verdict::Refused(question::BOUNDS);
     }
+    if store::is_aside(e, aside) {
+        return version_verdict(e.version);
+    }
     let row = store::part_of(run, e);
     row_verdict(e.kind, e.version, row)
 }
 
 // One turn; a refusal ends all.
-pub fn turn(run: &[u8], before: Entry, e: Entry, round: u8, i: usize, asked: Asked) -> Asked
-    ensures { λ r. ⌜ r ≡ turn (roundAsks (now (run .entry)) before e round i) i asked ⌝ }
+pub fn turn(
+    run: &[u8],
+    aside: Aside,
+    before: Entry,
+    e: Entry,
+    round: u8,
+    i: usize,
+    asked: Asked,
+) -> Asked
+    ensures { λ r. ⌜ r ≡ turn (roundAsks (now (run .entry)) aside before e round i) i asked ⌝ }
 {
     let Asked::Going = asked else {
         return asked;
     };
-    let Verdict::Refused(q) = verdict(run, before, e, round, i) else {
+    let Verdict::Refused(q) = verdict(run, aside, before, e, round, i) else {
         return Asked::Going;
     };
     Asked::Refused(q, i)

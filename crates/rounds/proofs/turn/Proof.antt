@@ -17,7 +17,7 @@ turned : (o : Option ℕ) (i : ℕ) {a : Asked} {r v : Verdict} → a ≡ Going 
 turned o i going e told = rw (going, learn verdictIn e told)
 
 abbrev asks : tie.After-verdict → Option ℕ
-asks c = let a = c .before .before .before .before .args in roundAsks (a .run .now) (a .before) (a .e) (a .round) (a .i)
+asks c = let a = c .before .before .before .before .args in roundAsks (a .run .now) (a .aside) (a .before) (a .e) (a .round) (a .i)
 
 enum-told : tie.Need-enum-told
 enum-told c = search needs

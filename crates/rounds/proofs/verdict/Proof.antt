@@ -28,16 +28,30 @@ returns-4 c =
     let b = c .before .before in
     rw (ne-eqb _ ORDER (b .before .if1 .left), eq-eqb _ BOUNDS (b .if3 .taken), sym (c .before .is-within .ensures) ∙ c .if4 .left)
 
+is-aside-requires : tie.Need-is-aside-requires
+is-aside-requires c κs = search needs
+
+version-verdict-requires : tie.Need-version-verdict-requires
+version-verdict-requires c κs = search needs
+
+returns-5 : tie.Need-returns-5
+returns-5 c =
+    let a = c .before .before in
+    let b = a .before in
+    rw (ne-eqb _ ORDER (b .before .if1 .left), ne-eqb _ BOUNDS (b .if3 .left), sym (a .is-aside .ensures) ∙ c .before .if5 .taken) (c .version-verdict .ensures)
+
 part-of-requires : tie.Need-part-of-requires
 part-of-requires c κs = search needs
 
 row-verdict-requires : tie.Need-row-verdict-requires
 row-verdict-requires c κs = search needs
 
-returns-5 : tie.Need-returns-5
-returns-5 c =
-    let b = c .before .before in
-    rw (ne-eqb _ ORDER (b .before .if1 .left), ne-eqb _ BOUNDS (b .if3 .left), ← c .before .part-of .ensures) (c .row-verdict .ensures)
+returns-6 : tie.Need-returns-6
+returns-6 c =
+    let n = c .before .before in
+    let b = n .before .before in
+    rw (ne-eqb _ ORDER (b .before .if1 .left), ne-eqb _ BOUNDS (b .if3 .left), sym (n .before .is-aside .ensures) ∙ n .if5 .left, ← c .before .part-of .ensures)
+    (c .row-verdict .ensures)
 
 pub verdict-spec : {M : Type 1} → statement M
 verdict-spec =
@@ -49,6 +63,9 @@ verdict-spec =
     is-within-requires
     returns-3
     returns-4
+    is-aside-requires
+    version-verdict-requires
+    returns-5
     part-of-requires
     row-verdict-requires
-    returns-5)
+    returns-6)
