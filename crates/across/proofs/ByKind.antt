@@ -12,23 +12,25 @@ use Rattle.layout.specs.Questions.{«CONTACT_BELOW_NEXT», «CONTACT_NEW», «Q
 use Rattle.layout.specs.Layout.{readRow, present}
 use Rattle.rows.specs.Checks.{any}
 use Rattle.store.specs.declared.Entry.{Entry}
+use Rattle.store.specs.declared.Aside.{Aside}
 use Rattle.store.specs.declared.Asked.the-variants as so
 use Rattle.store.specs.Rounds.{ask, firstNo, turn, turns}
 use Rattle.store.specs.Kinds.{DEVICE, CONTACT, QUEUED, COURIER, Kind, device, contact, queued, courier, unknown, kindOf, layoutOf, Seen, seenOf}
-use Rattle.store.specs.Store.{entryAt, partOf, storeOf, seen, nextIn, lowDepositor, lastSlot, across}
+use Rattle.store.specs.Store.{entryAt, partOf, nextIn, lowDepositor, lastSlot}
 use Rattle.store.specs.Find.{firstOf}
 use Rattle.store.specs.Walk.{begin, lookup, movedAs, kept, seenAt, walkAs, keep}
 use Rattle.store.specs.Walk as fold
 use Rattle.store.proofs.Rounds.{some≢none}
+use Rattle.store.proofs.LeftAside.{other-seen, contact-seen}
 use Rattle.store.proofs.ByKind.{Sort, is-device, is-contact, is-queued, is-courier, is-unknown, sort}
 use Rattle.across.specs.declared.Walk.{Walk}
 use Rattle.across.specs.declared.Across.{Across}
 use Rattle.across.specs.declared.Across.the-variants.{Going}
-use Rattle.across.specs.Owner.{contactSeen, OwnerStands}
+use Rattle.across.specs.Owner.{ownerSeen, OwnerStands}
 use Rattle.across.specs.Across.{after, twinBelow, depositorIn, nextContactIn, OwnerTurn, ownerOf, ownerLimit, twinOf, pairAbove, lowIn, SettledAs, FoundTurn, Reusable, deviceTurn, contactTurn, courierTurn}
-use Rattle.across.specs.At.{readSo, askedOf, Kept, KeptIn, At}
+use Rattle.across.specs.At.{readSo, sight, askedOf, Kept, KeptIn, At}
 use Rattle.across.proofs.Find.{kind-new, queued-new, foundIn, found-in, lookup-owner, owner-contact}
-use Rattle.across.proofs.Steps.{kept-last, noAt, across-last, SoFar, so-far, first-device, device-first}
+use Rattle.across.proofs.Steps.{kept-last, noAt, acrossBy, across-last, SoFar, so-far, first-device, device-first}
 
 -- ---- a kind's number
 abbrev Numbered : Kind → ℕ → Type 0
@@ -55,11 +57,7 @@ isDevice queued = false
 isDevice courier = false
 isDevice unknown = false
 
--- ---- what is seen of an entry's row
-seen-as : (run : List ℕ) (es : List Entry) (e : Entry) (k : Kind) → kindOf (e .kind) ≡ k → seen (storeOf run es) e ≡ seenOf k (readRow (layoutOf k (e .version)) (partOf run e))
-seen-as run es e k p = ap (λ (x : Kind). seenOf x (readRow (layoutOf x (e .version)) (partOf run e))) p
-
--- the first is the device
+-- ---- the first is the device
 next-first : (look : Entry → Seen) (es : List Entry) → 0 < length es → nextIn look es ≡ look (entryAt es 0) .«next_contact»
 next-first look [] b = absurd (omega arith)
 next-first look (e ∷ es) b = refl
@@ -72,34 +70,35 @@ low-as look es next (some d) h = ap (λ (n : ℕ). ltb d n) h
 abbrev asFold : Walk → fold.Walk
 asFold w = record { contacts = w .contacts; «queued_id» = w .«queued_id»; «queued_no» = w .«queued_no»; slots = w .slots; spot = w .spot }
 
-as-fold : (run : List ℕ) (es : List Entry) (i : ℕ) (w : Walk) → Kept run es i w → asFold w ≡ kept es 0 i begin
-as-fold run es i w k = λ x. record { contacts = k .contacts x; «queued_id» = k .«queued_id» x; «queued_no» = k .«queued_no» x; slots = k .slots x; spot = k .spot x }
+as-fold : (run : List ℕ) (es : List Entry) (aside : Aside) (i : ℕ) (w : Walk) → Kept run es aside i w → asFold w ≡ kept es 0 i begin
+as-fold run es aside i w k = λ x. record { contacts = k .contacts x; «queued_id» = k .«queued_id» x; «queued_no» = k .«queued_no» x; slots = k .slots x; spot = k .spot x }
 
--- what is kept of the contact that was found last stands in its row
-abbrev OwnerKept : (run : List ℕ) → List Entry → Walk → Type 0
-OwnerKept run es w = entryAt es (w .spot) .kind ≡ CONTACT → OwnerStands (entryAt es (w .spot) .version) (partOf run (entryAt es (w .spot))) (w .owner)
+-- what is kept of the contact that was found last is what is seen of it
+abbrev OwnerKept : (run : List ℕ) → List Entry → Aside → Walk → Type 0
+OwnerKept run es aside w = entryAt es (w .spot) .kind ≡ CONTACT → OwnerStands (ownerSeen run aside (entryAt es (w .spot))) (partOf run (entryAt es (w .spot))) (w .owner)
 
 -- ---- the i-th turn
-module _ (run : List ℕ) (es : List Entry) (i : ℕ) (w : Walk) (b : i < length es) (asked : so.Going ≡ turns (across (storeOf run es)) 0 i (readSo run es)) (before : Kept run es i w) where
+module _ (run : List ℕ) (es : List Entry) (aside : Aside) (i : ℕ) (w : Walk) (b : i < length es) (asked : so.Going ≡ turns (acrossBy es (sight run es aside)) 0 i (readSo run es aside))
+    (before : Kept run es aside i w) where
   abbrev look : Entry → Seen
-  look = seen (storeOf run es)
+  look = sight run es aside
 
   abbrev e : Entry
   e = entryAt es i
 
-  all-so : SoFar run es i
-  all-so = so-far run es i asked
+  all-so : SoFar run es aside i
+  all-so = so-far run es aside i asked
 
   same : asFold w ≡ kept es 0 i begin
-  same = as-fold run es i w before
+  same = as-fold run es aside i w before
 
   inside : w .spot ≤ i
   inside = rw (before .spot) (all-so .inside)
 
   -- what stands after it, from the fold's first no and what is kept
-  after-turn : (k : Kind) → kindOf (e .kind) ≡ k → (o : Option ℕ) (w′ : Walk) → o ≡ firstNo (walkAs es look k e i (asFold w)) → (o ≡ none → Kept run es (suc i) w′) → At run es (suc i) (after o i w′)
+  after-turn : (k : Kind) → kindOf (e .kind) ≡ k → (o : Option ℕ) (w′ : Walk) → o ≡ firstNo (walkAs es look k e i (asFold w)) → (o ≡ none → Kept run es aside (suc i) w′) → At run es aside (suc i) (after o i w′)
   after-turn k q o w′ x h = record {
-    asked = answered o ∙ ap (λ (y : Option ℕ). turn y i so.Going) first ∙ ap (turn (noAt es look i (kept es 0 i begin)) i) asked ∙ sym (across-last (storeOf run es) i (readSo run es));
+    asked = answered o ∙ ap (λ (y : Option ℕ). turn y i so.Going) first ∙ ap (turn (noAt es look i (kept es 0 i begin)) i) asked ∙ sym (across-last es look i (readSo run es aside));
     so-kept = keeping o h;
   }
     where
@@ -110,11 +109,11 @@ module _ (run : List ℕ) (es : List Entry) (i : ℕ) (w : Walk) (b : i < length
       answered none = refl
       answered (some n) = refl
 
-      keeping : (y : Option ℕ) → (y ≡ none → Kept run es (suc i) w′) → KeptIn run es (suc i) (after y i w′)
+      keeping : (y : Option ℕ) → (y ≡ none → Kept run es aside (suc i) w′) → KeptIn run es aside (suc i) (after y i w′)
       keeping none g = g refl
       keeping (some n) g = tt
 
-  kept-after : (k : Kind) → kindOf (e .kind) ≡ k → (w′ : Walk) → w′ .«next_contact» ≡ nextIn look es → asFold w′ ≡ movedAs es k e i (asFold w) → OwnerKept run es w′ → Kept run es (suc i) w′
+  kept-after : (k : Kind) → kindOf (e .kind) ≡ k → (w′ : Walk) → w′ .«next_contact» ≡ nextIn look es → asFold w′ ≡ movedAs es k e i (asFold w) → OwnerKept run es aside w′ → Kept run es aside (suc i) w′
   kept-after k q w′ next x own =
       let moves : asFold w′ ≡ kept es 0 (suc i) begin = x ∙ (λ y. movedAs es (sym q y) e i (same y)) ∙ sym (kept-last es 0 i i begin (omega arith)) in
       record {
@@ -132,7 +131,7 @@ module _ (run : List ℕ) (es : List Entry) (i : ℕ) (w : Walk) (b : i < length
   next-kept k q h = before .next (go i (ap isDevice q ∙ h))
     where
       go : (j : ℕ) → isDevice (kindOf (entryAt es j .kind)) ≡ false → 0 < j
-      go zero x = let y : true ≡ false = sym (ap (λ (n : ℕ). isDevice (kindOf n)) (first-device run es (all-so .read))) ∙ x in let z : _≡_ {A = ℕ} 0 1 = cc in absurd (omega arith)
+      go zero x = let y : true ≡ false = sym (ap (λ (n : ℕ). isDevice (kindOf n)) (first-device run es aside (all-so .read))) ∙ x in let z : _≡_ {A = ℕ} 0 1 = cc in absurd (omega arith)
       go (suc j) x = omega arith
 
   -- where its twin was found, or the limit of that search
@@ -140,43 +139,43 @@ module _ (run : List ℕ) (es : List Entry) (i : ℕ) (w : Walk) (b : i < length
   t = firstOf es (twinOf e) 0 (twinBelow e i w)
 
   -- ---- by kinds
-  device-turn : kindOf (e .kind) ≡ device → At run es (suc i) (deviceTurn run e w)
+  device-turn : kindOf (e .kind) ≡ device → At run es aside (suc i) (deviceTurn run e w)
   device-turn q =
-      let first : i ≡ 0 = device-first run es (all-so .read) i b (numbered (e .kind) device q) in
-      let own : nextContactIn run e ≡ look e .«next_contact» = sym (ap (λ (x : Seen). x .«next_contact») (seen-as run es e device q)) in
+      let first : i ≡ 0 = device-first run es aside (all-so .read) i b (numbered (e .kind) device q) in
+      let own : nextContactIn run e ≡ look e .«next_contact» = sym (ap (λ (x : Seen). x .«next_contact») (other-seen run es aside e DEVICE (numbered (e .kind) device q) refl)) in
       let next = own ∙ ap (λ (j : ℕ). look (entryAt es j) .«next_contact») first ∙ sym (next-first look es (omega arith)) in
       after-turn device q none _ refl (λ x. kept-after device q _ next refl (before .owner))
 
-  contact-turn : kindOf (e .kind) ≡ contact → At run es (suc i) (contactTurn e i t w)
+  contact-turn : kindOf (e .kind) ≡ contact → At run es aside (suc i) (contactTurn e i t w)
   contact-turn q =
       let next = next-kept contact q refl in
       let new = kind-new es e i w CONTACT (numbered (e .kind) contact q) refl in
       after-turn contact q _ _ (λ x. firstNo (ask «CONTACT_BELOW_NEXT» (ltb (e .id) (next x)) ∷ ask «CONTACT_NEW» (new x) ∷ []))
       (λ x. kept-after contact q _ next refl (before .owner))
 
-  courier-turn : kindOf (e .kind) ≡ courier → At run es (suc i) (courierTurn run e i t w)
+  courier-turn : kindOf (e .kind) ≡ courier → At run es aside (suc i) (courierTurn run e i t w)
   courier-turn q =
       let next = next-kept courier q refl in
-      let low = low-as look es (w .«next_contact») (depositorIn run e) next ∙ ap (λ (x : Seen). lowDepositor es look (x .depositor)) (sym (seen-as run es e courier q)) in
+      let low = low-as look es (w .«next_contact») (depositorIn run e) next ∙ ap (λ (x : Seen). lowDepositor es look (x .depositor)) (sym (other-seen run es aside e COURIER (numbered (e .kind) courier q) refl)) in
       let new = kind-new es e i w COURIER (numbered (e .kind) courier q) refl in
       after-turn courier q _ _ (λ x. firstNo (ask DEPOSITOR (low x) ∷ ask «SLOT_NEW» (new x) ∷ ask «SLOT_BELOW_LAST» (ltb (e .id) lastSlot) ∷ []))
       (λ x. kept-after courier q _ next refl (before .owner))
 
-  unknown-turn : kindOf (e .kind) ≡ unknown → At run es (suc i) (Going w)
+  unknown-turn : kindOf (e .kind) ≡ unknown → At run es aside (suc i) (Going w)
   unknown-turn q = after-turn unknown q none w refl (λ x. kept-after unknown q w (next-kept unknown q refl) refl (before .owner))
 
   -- ---- a queued entry: p is where its contact was found, or no place before it
   abbrev looked : Option ℕ
   looked = lookup es (asFold w) i (e .id)
 
-  found-turn : kindOf (e .kind) ≡ queued → (p : ℕ) (r : Across) → looked ≡ some p → OwnerTurn run e (entryAt es p) i p t w r → At run es (suc i) r
+  found-turn : kindOf (e .kind) ≡ queued → (p : ℕ) (r : Across) → looked ≡ some p → OwnerTurn run aside e (entryAt es p) i p t w r → At run es aside (suc i) r
   found-turn q p r found turn =
       let c = entryAt es p in
       let is = owner-contact es e (asFold w) i p inside found in
-      let sight : contactSeen (c .version) (partOf run c) ≡ seenAt es look looked = sym (seen-as run es c contact (ap kindOf is)) ∙ ap (seenAt es look) (sym found) in
+      let shows : ownerSeen run aside c ≡ seenAt es look looked = sym (contact-seen run es aside c is) ∙ ap (seenAt es look) (sym found) in
       let there : true ≡ present looked = ap present (sym found) in
-      let sent = turn .stands .sent ∙ ap (λ (x : Seen). x .«sent_msgno») sight in
-      let unacked = turn .stands .unacked ∙ ap (λ (x : Seen). x .unacked) sight in
+      let sent = turn .stands .sent ∙ ap (λ (x : Seen). x .«sent_msgno») shows in
+      let unacked = turn .stands .unacked ∙ ap (λ (x : Seen). x .unacked) shows in
       let new = queued-new es e i w (numbered (e .kind) queued q) in
       rw (turn .so)
       (after-turn queued q _ _
@@ -194,7 +193,7 @@ module _ (run : List ℕ) (es : List Entry) (i : ℕ) (w : Walk) (b : i < length
         spot = keep (w .spot) (sym found y);
       }) (λ y. turn .stands)))
 
-  queued-turn : kindOf (e .kind) ≡ queued → (p : ℕ) (r : Across) → looked ≡ foundIn p i → (f : Bool) → ltb p i ≡ f → FoundTurn f run e (entryAt es p) i p t w r → At run es (suc i) r
+  queued-turn : kindOf (e .kind) ≡ queued → (p : ℕ) (r : Across) → looked ≡ foundIn p i → (f : Bool) → ltb p i ≡ f → FoundTurn f run aside e (entryAt es p) i p t w r → At run es aside (suc i) r
   queued-turn q p r found true x h = found-turn q p r (found ∙ ap (λ (f : Bool). cond f (some p) none) x) h
   queued-turn q p r found false x h =
       let lost : looked ≡ none = found ∙ ap (λ (f : Bool). cond f (some p) none) x in
@@ -205,7 +204,7 @@ module _ (run : List ℕ) (es : List Entry) (i : ℕ) (w : Walk) (b : i < length
   abbrev p : ℕ
   p = ownerOf es e (ownerLimit e i (Going w)) (w .spot)
 
-  pub turn-as : (k : Kind) → kindOf (e .kind) ≡ k → (r : Across) → SettledAs k run e (entryAt es p) i p t w r → At run es (suc i) r
+  pub turn-as : (k : Kind) → kindOf (e .kind) ≡ k → (r : Across) → SettledAs k run aside e (entryAt es p) i p t w r → At run es aside (suc i) r
   turn-as device q r h = rw h (device-turn q)
   turn-as contact q r h = rw h (contact-turn q)
   turn-as queued q r h =
@@ -215,12 +214,12 @@ module _ (run : List ℕ) (es : List Entry) (i : ℕ) (w : Walk) (b : i < length
   turn-as unknown q r h = rw h (unknown-turn q)
 
   -- what is kept of a contact is so where that contact is found again
-  pub owner-again : Reusable run e (entryAt es p) i p (Going w)
+  pub owner-again : Reusable run aside e (entryAt es p) i p (Going w)
   owner-again = go (eqb (e .kind) QUEUED)
     where
-      go : (f : Bool) → (let j = ownerOf es e (cond f i 0) (w .spot) in j < cond f i 0 → j ≡ w .spot → OwnerStands (entryAt es j .version) (partOf run (entryAt es j)) (w .owner))
+      go : (f : Bool) → (let j = ownerOf es e (cond f i 0) (w .spot) in j < cond f i 0 → j ≡ w .spot → OwnerStands (ownerSeen run aside (entryAt es j)) (partOf run (entryAt es j)) (w .owner))
       go true c x =
           let j = ownerOf es e i (w .spot) in
           let is = owner-contact es e (asFold w) i j inside (lookup-owner es e (asFold w) i inside ∙ found-in j i c) in
-          subst (λ (n : ℕ). OwnerStands (entryAt es n .version) (partOf run (entryAt es n)) (w .owner)) (sym x) (before .owner (subst (λ (n : ℕ). entryAt es n .kind ≡ CONTACT) x is))
+          subst (λ (n : ℕ). OwnerStands (ownerSeen run aside (entryAt es n)) (partOf run (entryAt es n)) (w .owner)) (sym x) (before .owner (subst (λ (n : ℕ). entryAt es n .kind ≡ CONTACT) x is))
       go false c x = absurd (omega arith)

@@ -9,18 +9,19 @@ use native.Mathlib.Numerals.{add-one}
 use lib.ListN.{length}
 use lib.Dec.{leb, ltb, eqb, leb→le, ltb→lt}
 use Rattle.store.specs.declared.Entry.{Entry}
+use Rattle.store.specs.declared.Aside.{Aside}
 use Rattle.store.specs.declared.Asked.{Asked}
 use Rattle.store.specs.declared.Asked.the-variants as so
 use Rattle.store.specs.Rounds.{turn}
 use Rattle.store.specs.Kinds.{DEVICE, CONTACT, QUEUED, kindOf}
-use Rattle.store.specs.Store.{entryAt, storeOf, seen}
+use Rattle.store.specs.Store.{entryAt}
 use Rattle.store.specs.Find.{firstOf}
 use Rattle.store.specs.Walk.{begin, kept}
 use Rattle.store.proofs.Tests.{truth}
 use Rattle.across.specs.declared.Across.{Across}
 use Rattle.across.specs.declared.Across.the-variants.{Going, Refused}
 use Rattle.across.specs.Across.{begunFrom, contactOf, earlier, farLimit, chosen, aboveAll, ownerOf, ownerLimit, spotOf, twinOf, twinLimit, Settled, Reusable}
-use Rattle.across.specs.At.{readSo, At}
+use Rattle.across.specs.At.{readSo, sight, At}
 use Rattle.across.proofs.Steps.{noAt, across-last, first-device}
 use Rattle.across.proofs.ByKind.{turn-as, owner-again}
 
@@ -66,23 +67,23 @@ twin-below-limit e i (Going w) = or-limit (aboveAll (kindOf (e .kind)) w e) i
 twin-below-limit e i (Refused n j) = omega arith
 
 -- ---- turn by turn
-pub reusable : (run : List ℕ) (es : List Entry) (i : ℕ) (s : Across) → i < length es → At run es i s
-    → (let e = entryAt es i in let p = ownerOf es e (ownerLimit e i s) (spotOf s) in Reusable run e (entryAt es p) i p s)
-reusable run es i (Going w) b a = owner-again run es i w b (a .asked) (a .so-kept)
-reusable run es i (Refused n j) b a = tt
+pub reusable : (run : List ℕ) (es : List Entry) (aside : Aside) (i : ℕ) (s : Across) → i < length es → At run es aside i s
+    → (let e = entryAt es i in let p = ownerOf es e (ownerLimit e i s) (spotOf s) in Reusable run aside e (entryAt es p) i p s)
+reusable run es aside i (Going w) b a = owner-again run es aside i w b (a .asked) (a .so-kept)
+reusable run es aside i (Refused n j) b a = tt
 
-pub turned : (run : List ℕ) (es : List Entry) (i : ℕ) (s r : Across) → i < length es → At run es i s
-    → (let e = entryAt es i in let p = ownerOf es e (ownerLimit e i s) (spotOf s) in Settled run e (entryAt es p) i p (firstOf es (twinOf e) 0 (twinLimit e i s)) s r)
-    → At run es (i + 1) r
-turned run es i (Going w) r b a h = rw (add-one i) (turn-as run es i w b (a .asked) (a .so-kept) (kindOf (entryAt es i .kind)) refl r h)
-turned run es i (Refused n j) r b a h =
-    let o = noAt es (seen (storeOf run es)) i (kept es 0 i begin) in
-    rw (add-one i, h) (record { asked = ap (turn o i) (a .asked) ∙ sym (across-last (storeOf run es) i (readSo run es)); so-kept = tt })
+pub turned : (run : List ℕ) (es : List Entry) (aside : Aside) (i : ℕ) (s r : Across) → i < length es → At run es aside i s
+    → (let e = entryAt es i in let p = ownerOf es e (ownerLimit e i s) (spotOf s) in Settled run aside e (entryAt es p) i p (firstOf es (twinOf e) 0 (twinLimit e i s)) s r)
+    → At run es aside (i + 1) r
+turned run es aside i (Going w) r b a h = rw (add-one i) (turn-as run es aside i w b (a .asked) (a .so-kept) (kindOf (entryAt es i .kind)) refl r h)
+turned run es aside i (Refused n j) r b a h =
+    let o = noAt es (sight run es aside) i (kept es 0 i begin) in
+    rw (add-one i, h) (record { asked = ap (turn o i) (a .asked) ∙ sym (across-last es (sight run es aside) i (readSo run es aside)); so-kept = tt })
 
-pub begins : (run : List ℕ) (es : List Entry) → At run es 0 (begunFrom (readSo run es))
-begins run es = go (readSo run es) refl
+pub begins : (run : List ℕ) (es : List Entry) (aside : Aside) → At run es aside 0 (begunFrom (readSo run es aside))
+begins run es aside = go (readSo run es aside) refl
   where
-    go : (a : Asked) → readSo run es ≡ a → At run es 0 (begunFrom a)
+    go : (a : Asked) → readSo run es aside ≡ a → At run es aside 0 (begunFrom a)
     go so.Going x = record {
       asked = sym x;
       so-kept = record {
@@ -92,7 +93,7 @@ begins run es = go (readSo run es) refl
         «queued_id» = refl;
         «queued_no» = refl;
         spot = refl;
-        owner = λ k. let z : DEVICE ≡ CONTACT = sym (first-device run es x) ∙ k in absurd (omega arith);
+        owner = λ k. let z : DEVICE ≡ CONTACT = sym (first-device run es aside x) ∙ k in absurd (omega arith);
       };
     }
     go (so.Refused n j) x = record { asked = sym x; so-kept = tt }

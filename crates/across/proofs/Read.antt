@@ -1,10 +1,10 @@
 -- What is read in rows.
 -- Assumes nothing.
 use Prim.Native.Nat.{ℕ}
-use mathlib.Core.List.{List}
+use mathlib.Core.List.{List, []}
 use mathlib.Core.Bool.{Bool, true, false, cond}
 use mathlib.Core.Option.{Option, none, some}
-use mathlib.Core.Path.{_≡_, refl, sym, ap, _∙_}
+use mathlib.Core.Path.{_≡_, refl, sym, ap, _∙_, subst}
 use native.Mathlib.Omega.{arith}
 use lib.Dec.{T, eqb}
 use Rattle.layout.specs.Questions.{UNACKED}
@@ -19,11 +19,14 @@ use Rattle.rows.specs.Rows as rows
 use Rattle.rows.proofs.Proved.{proved}
 use Rattle.lists.specs.Lists as lists
 use Rattle.lists.proofs.Ends.{none-left}
-use Rattle.store.specs.Kinds.{contact, seenOf}
+use Rattle.store.specs.Kinds.{contact, Seen, seenOf}
 use Rattle.contact.specs.Check.{contactFrom, Places}
 use Rattle.contact.specs.declared.ContactAt.{ContactAt}
-use Rattle.across.specs.Owner.{OwnerStands}
-use Rattle.across.specs.Across.{noOwner}
+use Rattle.store.specs.declared.Aside.{Aside}
+use Rattle.store.specs.declared.Aside.the-variants as left
+use Rattle.store.specs.Aside.{asideSeen}
+use Rattle.across.specs.Owner.{contactSeen, OwnerStands}
+use Rattle.across.specs.Across.{noOwner, ownerAside}
 use Rattle.across.specs.declared.Owner.{Owner}
 
 -- what an answer shows, of the row or of an equal part of the run
@@ -57,7 +60,7 @@ abbrev pub ownerAt : ContactAt → Owner
 ownerAt at = record { unacked = at .numbers .unacked .first; count = at .numbers .unacked .count; «sent_msgno» = at .keys .«sent_msgno» }
 
 pub found : (version : ℕ) (row : List ℕ) (at : ContactAt) → Bytes row
-    → readRow (rows.contact version) row ≡ accepted (contactFrom row at) → Places row at → OwnerStands version row (ownerAt at)
+    → readRow (rows.contact version) row ≡ accepted (contactFrom row at) → Places row at → OwnerStands (contactSeen version row) row (ownerAt at)
 found version row at by e p = record {
   sent = sym (ap (λ (a : Answer Contact). seenOf contact a .«sent_msgno») e);
   unacked = sym (ap (λ (a : Answer Contact). seenOf contact a .unacked) e);
@@ -68,15 +71,24 @@ found version row at by e p = record {
   };
 }
 
--- ... and one that was not
-pub refused : (version : ℕ) (row : List ℕ) {q : ℕ} → readRow (rows.contact version) row ≡ refusedBy q → OwnerStands version row noOwner
+-- ---- no unacked numbers
+bare : (row : List ℕ) (sent : ℕ) → OwnerStands (record { «next_contact» = 0; «sent_msgno» = sent; unacked = []; depositor = none }) row (record { unacked = 0; count = 0; «sent_msgno» = sent })
 unfolding lists.items form.readMany
-refused version row e = record {
-  sent = sym (ap (λ (a : Answer Contact). seenOf contact a .«sent_msgno») e);
-  unacked = sym (ap (λ (a : Answer Contact). seenOf contact a .unacked) e);
+bare row sent = record {
+  sent = refl;
+  unacked = refl;
   searchable = record {
     stands = record { next = 0; so = record { starts = omega arith; ends = none-left u32 row 0 0 0 refl (omega arith) } };
     highest = 0;
     rises = tt;
   };
 }
+
+-- of a contact that was refused
+pub refused : (version : ℕ) (row : List ℕ) {q : ℕ} → readRow (rows.contact version) row ≡ refusedBy q → OwnerStands (contactSeen version row) row noOwner
+refused version row e = subst (λ (x : Seen). OwnerStands x row noOwner) (sym (ap (seenOf contact) e)) (bare row 0)
+
+-- ... and of the one aside
+pub left-aside : (aside : Aside) (row : List ℕ) → OwnerStands (asideSeen aside) row (ownerAside aside)
+left-aside left.Nothing row = bare row 0
+left-aside (left.Contact id sent) row = bare row sent

@@ -11,11 +11,13 @@ use Rattle.layout.specs.Layout.{readRow}
 use Rattle.rows.specs.Checks.{any}
 use Rattle.rows.specs.Rows as rows
 use Rattle.store.specs.declared.Entry.{Entry}
+use Rattle.store.specs.declared.Aside.{Aside}
 use Rattle.store.specs.declared.Asked.{Asked}
 use Rattle.store.specs.declared.Asked.the-variants as so
 use Rattle.store.specs.Rounds.{ask, firstNo}
 use Rattle.store.specs.Kinds.{CONTACT, QUEUED, Kind, device, contact, queued, courier, unknown, kindOf, seenOf}
 use Rattle.store.specs.Store.{partOf, lastSlot}
+use Rattle.store.specs.Aside.{asideSeen}
 use Rattle.store.specs.Walk.{raised}
 use Rattle.store.specs.declared.Wanted.{Wanted}
 use Rattle.store.specs.Find.{firstOf}
@@ -23,7 +25,7 @@ use Rattle.across.specs.declared.Owner.{Owner}
 use Rattle.across.specs.declared.Walk.{Walk}
 use Rattle.across.specs.declared.Across.{Across}
 use Rattle.across.specs.declared.Across.the-variants.{Going, Refused}
-use Rattle.across.specs.Owner.{unackedAt, OwnerStands}
+use Rattle.across.specs.Owner.{ownerSeen, unackedAt, OwnerStands}
 
 -- ---- before the first turn
 abbrev pub noOwner : Owner
@@ -145,15 +147,19 @@ queuedTurn row e i p t o w =
       «queued_no» = cond (pairAbove w e) (e .msgno) (w .«queued_no»);
     })
 
+-- of the contact aside
+abbrev pub ownerAside : Aside → Owner
+ownerAside aside = record { unacked = 0; count = 0; «sent_msgno» = asideSeen aside .«sent_msgno» }
+
 -- the contact's fields are those kept, or are read again
-pub record OwnerTurn (run : List ℕ) (e c : Entry) (i p t : ℕ) (w : Walk) (r : Across) : Type 0 where
+pub record OwnerTurn (run : List ℕ) (aside : Aside) (e c : Entry) (i p t : ℕ) (w : Walk) (r : Across) : Type 0 where
   pub owner : Owner
-  pub stands : OwnerStands (c .version) (partOf run c) owner
+  pub stands : OwnerStands (ownerSeen run aside c) (partOf run c) owner
   pub so : r ≡ queuedTurn (partOf run c) e i p t owner w
 
-abbrev pub FoundTurn : Bool → (run : List ℕ) (e c : Entry) (i p t : ℕ) (w : Walk) (r : Across) → Type 0
-FoundTurn true run e c i p t w r = OwnerTurn run e c i p t w r
-FoundTurn false run e c i p t w r = r ≡ Refused «QUEUED_CONTACT» i
+abbrev pub FoundTurn : Bool → (run : List ℕ) (aside : Aside) (e c : Entry) (i p t : ℕ) (w : Walk) (r : Across) → Type 0
+FoundTurn true run aside e c i p t w r = OwnerTurn run aside e c i p t w r
+FoundTurn false run aside e c i p t w r = r ≡ Refused «QUEUED_CONTACT» i
 
 abbrev pub courierTurn : (run : List ℕ) → Entry → (i t : ℕ) → Walk → Across
 courierTurn run e i t w =
@@ -173,18 +179,18 @@ courierTurn run e i t w =
       «queued_no» = w .«queued_no»;
     })
 
-abbrev pub SettledAs : Kind → (run : List ℕ) (e c : Entry) (i p t : ℕ) (w : Walk) (r : Across) → Type 0
-SettledAs device run e c i p t w r = r ≡ deviceTurn run e w
-SettledAs contact run e c i p t w r = r ≡ contactTurn e i t w
-SettledAs queued run e c i p t w r = FoundTurn (ltb p i) run e c i p t w r
-SettledAs courier run e c i p t w r = r ≡ courierTurn run e i t w
-SettledAs unknown run e c i p t w r = r ≡ Going w
+abbrev pub SettledAs : Kind → (run : List ℕ) (aside : Aside) (e c : Entry) (i p t : ℕ) (w : Walk) (r : Across) → Type 0
+SettledAs device run aside e c i p t w r = r ≡ deviceTurn run e w
+SettledAs contact run aside e c i p t w r = r ≡ contactTurn e i t w
+SettledAs queued run aside e c i p t w r = FoundTurn (ltb p i) run aside e c i p t w r
+SettledAs courier run aside e c i p t w r = r ≡ courierTurn run e i t w
+SettledAs unknown run aside e c i p t w r = r ≡ Going w
 
-abbrev pub Settled : (run : List ℕ) (e c : Entry) (i p t : ℕ) (state r : Across) → Type 0
-Settled run e c i p t (Going w) r = SettledAs (kindOf (e .kind)) run e c i p t w r
-Settled run e c i p t (Refused n j) r = r ≡ Refused n j
+abbrev pub Settled : (run : List ℕ) (aside : Aside) (e c : Entry) (i p t : ℕ) (state r : Across) → Type 0
+Settled run aside e c i p t (Going w) r = SettledAs (kindOf (e .kind)) run aside e c i p t w r
+Settled run aside e c i p t (Refused n j) r = r ≡ Refused n j
 
--- where the contact is the one kept, what is kept of it stands in its row
-abbrev pub Reusable : (run : List ℕ) (e c : Entry) (i p : ℕ) → Across → Type 0
-Reusable run e c i p (Going w) = p < ownerLimit e i (Going w) → p ≡ w .spot → OwnerStands (c .version) (partOf run c) (w .owner)
-Reusable run e c i p (Refused n j) = Unit {0}
+-- where the contact is the one kept, what is kept of it is what is seen of it
+abbrev pub Reusable : (run : List ℕ) (aside : Aside) (e c : Entry) (i p : ℕ) → Across → Type 0
+Reusable run aside e c i p (Going w) = p < ownerLimit e i (Going w) → p ≡ w .spot → OwnerStands (ownerSeen run aside c) (partOf run c) (w .owner)
+Reusable run aside e c i p (Refused n j) = Unit {0}

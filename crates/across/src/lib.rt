@@ -6,6 +6,7 @@ use courier::HeldAt;
 use device::DeviceCheck;
 use fields::U32Field;
 use layout::question;
+use store::Aside;
 use store::Asked;
 use store::Entry;
 use store::Wanted;
@@ -14,8 +15,8 @@ ghost use Prim.Native.Nat.{_<_};
 ghost use lib.Dec.{ltb, eqb};
 ghost use Rattle.rows.specs.Checks.{any};
 ghost use Rattle.store.specs.Store.{partOf};
-ghost use Rattle.across.specs.Owner.{unackedAt, Searchable, OwnerStands};
-ghost use Rattle.across.specs.Across.{begunFrom, contactOf, earlier, farLimit, chosen, ownerLimit, spotOf, twinOf, pairAbove, twinBelow, twinLimit, lowIn, nextContactIn, depositorIn, deviceTurn, contactTurn, FoundTurn, courierTurn, Settled, Reusable};
+ghost use Rattle.across.specs.Owner.{contactSeen, ownerSeen, unackedAt, Searchable, OwnerStands};
+ghost use Rattle.across.specs.Across.{begunFrom, ownerAside, contactOf, earlier, farLimit, chosen, ownerLimit, spotOf, twinOf, pairAbove, twinBelow, twinLimit, lowIn, nextContactIn, depositorIn, deviceTurn, contactTurn, FoundTurn, courierTurn, Settled, Reusable};
 
 // What is asked of a queued row's contact: sent_msgno, and where in its row the unacked numbers start and how many they are.
 pub struct Owner {
@@ -93,7 +94,7 @@ fn low_depositor(run: &[u8], e: Entry, next: u64) -> bool
 }
 
 fn owner_in(version: u32, row: &[u8]) -> Owner
-    ensures { λ r. ⌜ OwnerStands version (now (row .entry)) r ⌝ }
+    ensures { λ r. ⌜ OwnerStands (contactSeen version (now (row .entry))) (now (row .entry)) r ⌝ }
 {
     let ContactCheck::Fields(at) = contact::check_contact(version, row) else {
         return Owner {
@@ -107,6 +108,24 @@ fn owner_in(version: u32, row: &[u8]) -> Owner
         unacked: unacked.first,
         count: unacked.count,
         sent_msgno: at.keys.sent_msgno,
+    }
+}
+
+// The contact aside has its sent_msgno, and no unacked numbers.
+fn owner_aside(aside: Aside) -> Owner
+    ensures { λ r. ⌜ r ≡ ownerAside aside ⌝ }
+{
+    let Aside::Contact(_, sent_msgno) = aside else {
+        return Owner {
+            unacked: 0,
+            count: 0,
+            sent_msgno: 0,
+        };
+    };
+    Owner {
+        unacked: 0,
+        count: 0,
+        sent_msgno,
     }
 }
 
@@ -254,25 +273,37 @@ fn settle_contact(e: Entry, i: usize, t: usize, w: Walk) -> Across
 }
 
 // The contact's fields are those kept where it is the same, and are read again where it is not.
-fn owner_of(run: &[u8], c: Entry, p: usize, w: Walk) -> Owner
-    requires { ⌜ (p ≡ w .spot → OwnerStands (c .version) (partOf (now run) c) (w .owner)) ⌝ }
-    ensures { λ r. ⌜ OwnerStands (c .version) (partOf (now (run .entry)) c) r ⌝ }
+fn owner_of(run: &[u8], aside: Aside, c: Entry, p: usize, w: Walk) -> Owner
+    requires { ⌜ (p ≡ w .spot → OwnerStands (ownerSeen (now run) aside c) (partOf (now run) c) (w .owner)) ⌝ }
+    ensures { λ r. ⌜ OwnerStands (ownerSeen (now (run .entry)) aside c) (partOf (now (run .entry)) c) r ⌝ }
 {
     if p == w.spot {
         return w.owner;
+    }
+    if store::is_aside(c, aside) {
+        return owner_aside(aside);
     }
     let row = store::part_of(run, c);
     owner_in(c.version, row)
 }
 
-fn settle_queued(run: &[u8], e: Entry, c: Entry, i: usize, p: usize, t: usize, w: Walk) -> Across
-    requires { ⌜ (p < i → p ≡ w .spot → OwnerStands (c .version) (partOf (now run) c) (w .owner)) ⌝ }
-    ensures { λ r. ⌜ FoundTurn (ltb p i) (now (run .entry)) e c i p t w r ⌝ }
+fn settle_queued(
+    run: &[u8],
+    aside: Aside,
+    e: Entry,
+    c: Entry,
+    i: usize,
+    p: usize,
+    t: usize,
+    w: Walk,
+) -> Across
+    requires { ⌜ (p < i → p ≡ w .spot → OwnerStands (ownerSeen (now run) aside c) (partOf (now run) c) (w .owner)) ⌝ }
+    ensures { λ r. ⌜ FoundTurn (ltb p i) (now (run .entry)) aside e c i p t w r ⌝ }
 {
     if i <= p {
         return Across::Refused(question::QUEUED_CONTACT, i);
     }
-    let owner = owner_of(run, c, p, w);
+    let owner = owner_of(run, aside, c, p, w);
     if e.msgno < 1 {
         return Across::Refused(question::QUEUED_MSGNO, i);
     }
@@ -315,9 +346,18 @@ fn settle_courier(run: &[u8], e: Entry, i: usize, t: usize, w: Walk) -> Across
     Across::Going(after)
 }
 
-pub fn settle(run: &[u8], e: Entry, c: Entry, i: usize, p: usize, t: usize, state: Across) -> Across
-    requires { ⌜ Reusable (now run) e c i p state ⌝ }
-    ensures { λ r. ⌜ Settled (now (run .entry)) e c i p t state r ⌝ }
+pub fn settle(
+    run: &[u8],
+    aside: Aside,
+    e: Entry,
+    c: Entry,
+    i: usize,
+    p: usize,
+    t: usize,
+    state: Across,
+) -> Across
+    requires { ⌜ Reusable (now run) aside e c i p state ⌝ }
+    ensures { λ r. ⌜ Settled (now (run .entry)) aside e c i p t state r ⌝ }
 {
     let Across::Going(w) = state else {
         return state;
@@ -326,7 +366,7 @@ pub fn settle(run: &[u8], e: Entry, c: Entry, i: usize, p: usize, t: usize, stat
     match kind {
         0 => settle_device(run, e, w),
         1 => settle_contact(e, i, t, w),
-        2 => settle_queued(run, e, c, i, p, t, w),
+        2 => settle_queued(run, aside, e, c, i, p, t, w),
         3 => settle_courier(run, e, i, t, w),
         _ => Across::Going(w),
     }

@@ -1,12 +1,31 @@
 -- `across::owner_of` meets its contract.
-use mathlib.Core.Path.{subst}
+use Prim.Native.Nat.{ℕ}
+use mathlib.Core.List.{List}
+use mathlib.Core.Path.{sym, _∙_, subst}
 use borrow.Author.Needs.{needs}
-use Rattle.across.specs.Owner.{OwnerStands}
+use Rattle.store.specs.Store.{partOf}
+use Rattle.across.specs.Owner.{contactSeen, OwnerStands}
+use Rattle.across.proofs.Read.{left-aside}
 use Rattle.across.proofs.owner_of.Statement.{statement}
 use Rattle.across.proofs.owner_of.Tie as tie
 
+abbrev start : tie.After-is-aside → tie.Start
+start c = c .before .before .before .before
+
 returns : tie.Need-returns
 returns c = let t = c .before in t .before .before .before .pre (t .if1 .taken)
+
+is-aside-requires : tie.Need-is-aside-requires
+is-aside-requires c κs = search needs
+
+owner-aside-requires : tie.Need-owner-aside-requires
+owner-aside-requires c κs = search needs
+
+returns-2 : tie.Need-returns-2
+returns-2 c =
+    let t = c .before in
+    let a = start (t .before) .args in
+    rw (sym (t .before .is-aside .ensures) ∙ t .if2 .taken, c .owner-aside .ensures) (left-aside (a .aside) (partOf (a .run .now) (a .c)))
 
 part-of-requires : tie.Need-part-of-requires
 part-of-requires c κs = search needs
@@ -14,11 +33,13 @@ part-of-requires c κs = search needs
 owner-in-requires : tie.Need-owner-in-requires
 owner-in-requires c κs = search needs
 
-returns-2 : tie.Need-returns-2
-returns-2 c =
+returns-3 : tie.Need-returns-3
+returns-3 c =
     let p = c .before in
-    let a = p .before .before .before .before .args in
-    subst (λ row. OwnerStands (a .c .version) row (c .owner-in .result)) (p .part-of .ensures) (c .owner-in .ensures)
+    let n = p .before in
+    let a = start (n .before) .args in
+    rw (sym (n .before .is-aside .ensures) ∙ n .if2 .left)
+    (subst (λ (row : List ℕ). OwnerStands (contactSeen (a .c .version) row) row (c .owner-in .result)) (p .part-of .ensures) (c .owner-in .ensures))
 
 pub owner-of-spec : {M : Type 1} → statement M
-owner-of-spec = tie.close (tie.spec returns part-of-requires owner-in-requires returns-2)
+owner-of-spec = tie.close (tie.spec returns is-aside-requires owner-aside-requires returns-2 part-of-requires owner-in-requires returns-3)

@@ -14,8 +14,8 @@ start s = s .before .before .before
 
 -- the turn of an entry of this kind
 turn : (k : Kind) (s : tie.After-state) (r : Across) → let a = start s .args in
-    kindOf (a .e .kind) ≡ k → SettledAs k (a .run .now) (a .e) (a .c) (a .i) (a .p) (a .t) (s .state .given .0 .0) r → Settled (a .run .now) (a .e) (a .c) (a .i) (a .p) (a .t) (a .state) r
-turn k s r is so = let a = start s .args in settled (a .run .now) (a .e) (a .c) (a .i) (a .p) (a .t) k r (s .state .given .1) is so
+    kindOf (a .e .kind) ≡ k → SettledAs k (a .run .now) (a .aside) (a .e) (a .c) (a .i) (a .p) (a .t) (s .state .given .0 .0) r → Settled (a .run .now) (a .aside) (a .e) (a .c) (a .i) (a .p) (a .t) (a .state) r
+turn k s r is so = let a = start s .args in settled (a .run .now) (a .aside) (a .e) (a .c) (a .i) (a .p) (a .t) k r (s .state .given .1) is so
 
 enum-known-state : tie.Need-enum-known-state
 enum-known-state c = search needs
@@ -24,7 +24,7 @@ enum-told : tie.Need-enum-told
 enum-told c = search needs
 
 returns : tie.Need-returns
-returns c = let a = c .before .before .before .args in stopped (a .run .now) (a .e) (a .c) (a .i) (a .p) (a .t) (c .enum-told .given .1)
+returns c = let a = c .before .before .before .args in stopped (a .run .now) (a .aside) (a .e) (a .c) (a .i) (a .p) (a .t) (c .enum-told .given .1)
 
 settle-device-requires : tie.Need-settle-device-requires
 settle-device-requires c κs = search needs
@@ -36,7 +36,7 @@ settle-queued-requires : tie.Need-settle-queued-requires
 settle-queued-requires c κs =
     let s = c .before .before in
     let a = start s .args in
-    reusable (a .run .now) (a .e) (a .c) (a .i) (a .p) (a .t) (s .state .given .1) (c .match2 .keys3) (start s .pre)
+    reusable (a .run .now) (a .aside) (a .e) (a .c) (a .i) (a .p) (a .t) (s .state .given .1) (c .match2 .keys3) (start s .pre)
 
 settle-courier-requires : tie.Need-settle-courier-requires
 settle-courier-requires c κs = search needs

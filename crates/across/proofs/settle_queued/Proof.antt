@@ -15,7 +15,7 @@ abbrev start : tie.After-owner-of → tie.Start
 start c = c .before .before .before
 
 -- ---- what is known once 27, 28 and 29 are a yes
-found : (c : tie.After-owner-of) → let a = start c .args in Found (a .run .now) (a .e) (a .c) (a .i) (a .p) (a .t) (a .w) (c .owner-of .result)
+found : (c : tie.After-owner-of) → let a = start c .args in Found (a .run .now) (a .aside) (a .e) (a .c) (a .i) (a .p) (a .t) (a .w) (c .owner-of .result)
 found c = record { here = c .before .if1 .left; stands = c .owner-of .ensures }
 
 abbrev owner2 : tie.Else2 → tie.After-owner-of
@@ -24,7 +24,7 @@ owner2 c = c .before .before
 abbrev owner3 : tie.Else3 → tie.After-owner-of
 owner3 c = owner2 (c .before .before .before)
 
-sent : (c : tie.Else3) → let o = owner3 c in let a = start o .args in Sent (a .run .now) (a .e) (a .c) (a .i) (a .p) (a .t) (a .w) (o .owner-of .result)
+sent : (c : tie.Else3) → let o = owner3 c in let a = start o .args in Sent (a .run .now) (a .aside) (a .e) (a .c) (a .i) (a .p) (a .t) (a .w) (o .owner-of .result)
 sent c = record { found = found (owner3 c); one = c .before .before .before .if2 .left; sent = c .if3 .left }
 
 -- is_unacked was asked of the contact's row
@@ -38,12 +38,12 @@ searched c =
 abbrev owner4 : tie.Else4 → tie.After-owner-of
 owner4 c = owner3 (c .before .before .before)
 
-acked : (c : tie.Else4) → let o = owner4 c in let a = start o .args in Acked (a .run .now) (a .e) (a .c) (a .i) (a .p) (a .t) (a .w) (o .owner-of .result)
+acked : (c : tie.Else4) → let o = owner4 c in let a = start o .args in Acked (a .run .now) (a .aside) (a .e) (a .c) (a .i) (a .p) (a .t) (a .w) (o .owner-of .result)
 acked c = record { sent = sent (c .before .before .before); acked = searched (c .before) ∙ c .if4 .left }
 
 -- ---- what is asked
 returns : tie.Need-returns
-returns c = let a = c .before .before .args in missing (a .run .now) (a .e) (a .c) (a .i) (a .p) (a .t) (a .w) (c .if1 .taken)
+returns c = let a = c .before .before .args in missing (a .run .now) (a .aside) (a .e) (a .c) (a .i) (a .p) (a .t) (a .w) (c .if1 .taken)
 
 owner-of-requires : tie.Need-owner-of-requires
 owner-of-requires c κs = c .before .before .pre (c .if1 .left)
