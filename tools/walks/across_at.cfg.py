@@ -1,6 +1,6 @@
 crate = "restore"
 fn = "across_at"
-FOUND = "(now run) (now entries) i state (asks .0) (asks .1) e c limit spot p is-e is-limit is-spot is-p is-c"
+FOUND = "(now run) (now entries) aside i state (asks .0) (asks .1) e c limit spot p is-e is-limit is-spot is-p is-c"
 requires = {
     "e": "asks .0",
     "p": "limit-place e i state limit (length (now entries)) is-limit (asks .0)",

@@ -1,11 +1,4 @@
 crate = "restore"
 fn = "restore"
-PLACES = "all-places n (now entries) is-n"
-requires = {
-    "ordered": PLACES,
-    "bounded": PLACES,
-    "read": PLACES,
-    "end": f"({PLACES}, begins-at (now run) (now entries) n begun ordered bounded read state is-n is-begun is-ordered is-bounded is-read is-state)",
-}
-ends = "answers (now run) (now entries) n end r is-n is-end is-r"
-uses = ["use Rattle.restore.proofs.Ends.{all-places, begins-at, answers}"]
+ends = "answers (now run) (now entries) aside end r is-aside is-end is-r"
+uses = ["use Rattle.restore.proofs.Ends.{answers}"]

@@ -7,6 +7,7 @@ use mathlib.Core.List.{List}
 use mathlib.Core.Path.{_≡_, sym, _∙_, ap, subst}
 use lib.ListN.{length}
 use Rattle.store.specs.declared.Entry.{Entry}
+use Rattle.store.specs.declared.Aside.{Aside}
 use Rattle.store.specs.declared.Wanted.{Wanted}
 use Rattle.store.specs.Store.{entryAt}
 use Rattle.store.specs.Find.{firstOf}
@@ -26,7 +27,7 @@ pub twin-places : (e : Entry) (i : ℕ) (s : Across) (upto n : ℕ) → upto ≡
 twin-places e i s upto n is l = (omega arith, omega (arith, is, twin-below-limit e i s, l))
 
 -- ---- what is found is what the definitions name
-module _ (run : List ℕ) (es : List Entry) (i : ℕ) (s : Across) (l : i < length es) (at : At run es i s) where
+module _ (run : List ℕ) (es : List Entry) (aside : Aside) (i : ℕ) (s : Across) (l : i < length es) (at : At run es aside i s) where
   abbrev owner : ℕ
   owner = ownerOf es (entryAt es i) (ownerLimit (entryAt es i) i s) (spotOf s)
 
@@ -35,12 +36,12 @@ module _ (run : List ℕ) (es : List Entry) (i : ℕ) (s : Across) (l : i < leng
     found : p ≡ owner
     found = is-p ∙ (λ k. ownerOf es (is-e k) ((is-limit ∙ ap (λ x. ownerLimit x i s) is-e) k) (is-spot k))
 
-    pub may-reuse : Reusable run e c i p s
-    may-reuse = subst (λ (x : Entry × Entry × ℕ). Reusable run (x .0) (x .1) i (x .2) s) (sym (λ k. (is-e k, (is-c ∙ ap (entryAt es) found) k, found k))) (reusable run es i s l at)
+    pub may-reuse : Reusable run aside e c i p s
+    may-reuse = subst (λ (x : Entry × Entry × ℕ). Reusable run aside (x .0) (x .1) i (x .2) s) (sym (λ k. (is-e k, (is-c ∙ ap (entryAt es) found) k, found k))) (reusable run es aside i s l at)
 
-    pub settled : (w : Wanted) (upto t : ℕ) (r : Across) → w ≡ twinOf e → upto ≡ twinLimit e i s → t ≡ firstOf es w 0 (upto - 0) → Settled run e c i p t s r → At run es (i + 1) r
-    settled w upto t r is-w is-upto is-t is-r = turned run es i s r l at
-        (subst (λ (x : Entry × Entry × ℕ × ℕ). Settled run (x .0) (x .1) i (x .2) (x .3) s r) (λ k. (is-e k, (is-c ∙ ap (entryAt es) found) k, found k, twin k)) is-r)
+    pub settled : (w : Wanted) (upto t : ℕ) (r : Across) → w ≡ twinOf e → upto ≡ twinLimit e i s → t ≡ firstOf es w 0 (upto - 0) → Settled run aside e c i p t s r → At run es aside (i + 1) r
+    settled w upto t r is-w is-upto is-t is-r = turned run es aside i s r l at
+        (subst (λ (x : Entry × Entry × ℕ × ℕ). Settled run aside (x .0) (x .1) i (x .2) (x .3) s r) (λ k. (is-e k, (is-c ∙ ap (entryAt es) found) k, found k, twin k)) is-r)
       where
         twin : t ≡ firstOf es (twinOf (entryAt es i)) 0 (twinLimit (entryAt es i) i s)
         twin = is-t ∙ (ap (firstOf es w 0) (sub-zero upto) ∙ (λ k. firstOf es ((is-w ∙ ap twinOf is-e) k) 0 ((is-upto ∙ ap (λ x. twinLimit x i s) is-e) k)))
@@ -52,5 +53,5 @@ none-yet upto = omega arith
 pub one-more : (i upto : ℕ) → i < upto → i + 1 ≤ upto
 one-more i upto l = omega arith
 
-pub at-last : (run : List ℕ) (es : List Entry) (i upto : ℕ) (s : Across) → upto ≤ i → (i ≤ upto) × At run es i s → At run es upto s
-at-last run es i upto s over so = let same : i ≡ upto = omega (arith, over, so .0) in subst (λ n. At run es n s) same (so .1)
+pub at-last : (run : List ℕ) (es : List Entry) (aside : Aside) (i upto : ℕ) (s : Across) → upto ≤ i → (i ≤ upto) × At run es aside i s → At run es aside upto s
+at-last run es aside i upto s over so = let same : i ≡ upto = omega (arith, over, so .0) in subst (λ n. At run es aside n s) same (so .1)

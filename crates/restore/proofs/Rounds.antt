@@ -7,9 +7,10 @@ use native.Mathlib.Numerals.{add-one}
 use mathlib.Core.List.{List}
 use mathlib.Core.Path.{_≡_, _∙_, ap}
 use Rattle.store.specs.declared.Entry.{Entry}
+use Rattle.store.specs.declared.Aside.{Aside}
 use Rattle.store.specs.declared.Asked.{Asked}
 use Rattle.store.specs.Rounds.{Round, turn, turns}
-use Rattle.store.specs.Store.{entryAt, storeOf}
+use Rattle.store.specs.Store.{entryAt}
 use Rattle.rounds.specs.Rounds.{roundOf, roundAsks}
 use Rattle.rounds.proofs.Laws.{asks-is}
 
@@ -17,10 +18,10 @@ use Rattle.rounds.proofs.Laws.{asks-is}
 pub before-below : (i j n : ℕ) → j ≡ i - 1 → i < n → j < n
 before-below i j n e l = omega (arith, e, l)
 
-pub turn-is : (run : List ℕ) (es : List Entry) (q i j : ℕ) (b e : Entry) (a r : Asked) → j ≡ i - 1 → b ≡ entryAt es j → e ≡ entryAt es i → r ≡ turn (roundAsks run b e q i) i a
-    → r ≡ turn (roundOf q (storeOf run es) i) i a
-turn-is run es q i j b e a r is-j is-b is-e is-r =
-    is-r ∙ ap (λ o. turn o i a) ((λ k. roundAsks run ((is-b ∙ ap (entryAt es) is-j) k) (is-e k) q i) ∙ asks-is run es q i)
+pub turn-is : (run : List ℕ) (es : List Entry) (aside : Aside) (q i j : ℕ) (b e : Entry) (a r : Asked) → j ≡ i - 1 → b ≡ entryAt es j → e ≡ entryAt es i → r ≡ turn (roundAsks run aside b e q i) i a
+    → r ≡ turn (roundOf q run es aside i) i a
+turn-is run es aside q i j b e a r is-j is-b is-e is-r =
+    is-r ∙ ap (λ o. turn o i a) ((λ k. roundAsks run aside ((is-b ∙ ap (entryAt es) is-j) k) (is-e k) q i) ∙ asks-is run es aside q i)
 
 -- ---- a loop: what is left of the round makes of a what all of it makes of `asked`
 pub record Still (round : Round) (upto : ℕ) (asked : Asked) (i : ℕ) (a : Asked) : Type 0 where

@@ -1,6 +1,7 @@
 // Restore: questions 1 to 33 of a run of bytes and an entry for each row. It writes to nothing.
 use across::Across;
 use layout::question;
+use store::Aside;
 use store::Asked;
 use store::Entry;
 ghost use mathlib.Core.Path.{_≡_};
@@ -11,7 +12,8 @@ ghost use Rattle.store.specs.Store.{storeOf, restore};
 ghost use Rattle.rounds.specs.Rounds.{roundOf};
 ghost use Rattle.across.specs.Across.{ownerOf};
 ghost use Rattle.across.specs.At.{At};
-ghost use Rattle.restore.specs.Restored.{begunWith, ended, answered};
+ghost use Rattle.store.specs.declared.Aside.the-variants.{Nothing};
+ghost use Rattle.restore.specs.Restored.{begunWith, ended, answered, Questioned};
 
 // next_contact and next_slot; or the number of the question whose answer is no, and the entry's index.
 pub enum Restored {
@@ -27,6 +29,13 @@ fn begin(n: usize) -> Asked
         return Asked::Refused(question::ORDER, 0);
     }
     Asked::Going
+}
+
+// No row is left aside.
+fn nothing() -> Aside
+    ensures { λ r. ⌜ r ≡ Nothing ⌝ }
+{
+    Aside::Nothing
 }
 
 fn answer(state: Across) -> Restored
@@ -45,25 +54,25 @@ fn before(i: usize) -> usize
     if i == 0 { 0 } else { i - 1 }
 }
 
-fn turn_at(run: &[u8], entries: &[Entry], round: u8, i: usize, asked: Asked) -> Asked
+fn turn_at(run: &[u8], entries: &[Entry], aside: Aside, round: u8, i: usize, asked: Asked) -> Asked
     requires { ⌜ i < length (now entries) ⌝ }
-    ensures { λ r. ⌜ r ≡ turn (roundOf round (storeOf (now (run .entry)) (now (entries .entry))) i) i asked ⌝ }
+    ensures { λ r. ⌜ r ≡ turn (roundOf round (now (run .entry)) (now (entries .entry)) aside i) i asked ⌝ }
 {
     let j = before(i);
     let b = entries::entry_at(entries, j);
     let e = entries::entry_at(entries, i);
-    rounds::turn(run, b, e, round, i, asked)
+    rounds::turn(run, aside, b, e, round, i, asked)
 }
 
 // A round of the entries below `upto`.
-fn turns(run: &[u8], entries: &[Entry], round: u8, upto: usize, asked: Asked) -> Asked
+fn turns(run: &[u8], entries: &[Entry], aside: Aside, round: u8, upto: usize, asked: Asked) -> Asked
     requires { ⌜ upto ≤ length (now entries) ⌝ }
-    ensures { λ r. ⌜ r ≡ turns (roundOf round (storeOf (now (run .entry)) (now (entries .entry)))) 0 upto asked ⌝ }
+    ensures { λ r. ⌜ r ≡ turns (roundOf round (now (run .entry)) (now (entries .entry)) aside) 0 upto asked ⌝ }
 {
     let mut i = 0;
     let mut a = asked;
     while i < upto {
-        a = turn_at(run, entries, round, i, a);
+        a = turn_at(run, entries, aside, round, i, a);
         i = i + 1;
     }
     a
@@ -82,9 +91,9 @@ fn owner_at(entries: &[Entry], e: Entry, upto: usize, spot: usize) -> usize
     across::chosen(p, o, far, upto)
 }
 
-fn across_at(run: &[u8], entries: &[Entry], i: usize, state: Across) -> Across
-    requires { ⌜ (i < length (now entries)) × At (now run) (now entries) i state ⌝ }
-    ensures { λ r. ⌜ At (now (run .entry)) (now (entries .entry)) (i + 1) r ⌝ }
+fn across_at(run: &[u8], entries: &[Entry], aside: Aside, i: usize, state: Across) -> Across
+    requires { ⌜ (i < length (now entries)) × At (now run) (now entries) aside i state ⌝ }
+    ensures { λ r. ⌜ At (now (run .entry)) (now (entries .entry)) aside (i + 1) r ⌝ }
 {
     let e = entries::entry_at(entries, i);
     let limit = across::owner_limit(e, i, state);
@@ -94,32 +103,40 @@ fn across_at(run: &[u8], entries: &[Entry], i: usize, state: Across) -> Across
     let twin = across::twin_of(e);
     let upto = across::twin_limit(e, i, state);
     let t = entries::find(entries, twin, 0, upto);
-    across::settle(run, e, c, i, p, t, state)
+    across::settle(run, aside, e, c, i, p, t, state)
 }
 
 // 25 to 33, of the entries below `upto`.
-fn across_turns(run: &[u8], entries: &[Entry], upto: usize, state: Across) -> Across
-    requires { ⌜ (upto ≤ length (now entries)) × At (now run) (now entries) 0 state ⌝ }
-    ensures { λ r. ⌜ At (now (run .entry)) (now (entries .entry)) upto r ⌝ }
+fn across_turns(run: &[u8], entries: &[Entry], aside: Aside, upto: usize, state: Across) -> Across
+    requires { ⌜ (upto ≤ length (now entries)) × At (now run) (now entries) aside 0 state ⌝ }
+    ensures { λ r. ⌜ At (now (run .entry)) (now (entries .entry)) aside upto r ⌝ }
 {
     let mut i = 0;
     let mut after = state;
     while i < upto {
-        after = across_at(run, entries, i, after);
+        after = across_at(run, entries, aside, i, after);
         i = i + 1;
     }
     after
 }
 
-pub fn restore(run: &[u8], entries: &[Entry]) -> Restored
-    ensures { λ r. ⌜ r ≡ answered (restore (storeOf (now (run .entry)) (now (entries .entry)))) ⌝ }
+// Questions 1 to 33, with the row of a contact left aside, or with none.
+pub fn questions(run: &[u8], entries: &[Entry], aside: Aside) -> Across
+    ensures { λ r. ⌜ Questioned (now (run .entry)) (now (entries .entry)) aside r ⌝ }
 {
     let n = entries::entry_count(entries);
     let begun = begin(n);
-    let ordered = turns(run, entries, question::ORDER, n, begun);
-    let bounded = turns(run, entries, question::BOUNDS, n, ordered);
-    let read = turns(run, entries, question::VERSION, n, bounded);
+    let ordered = turns(run, entries, aside, question::ORDER, n, begun);
+    let bounded = turns(run, entries, aside, question::BOUNDS, n, ordered);
+    let read = turns(run, entries, aside, question::VERSION, n, bounded);
     let state = across::begin(read);
-    let end = across_turns(run, entries, n, state);
+    across_turns(run, entries, aside, n, state)
+}
+
+pub fn restore(run: &[u8], entries: &[Entry]) -> Restored
+    ensures { λ r. ⌜ r ≡ answered (restore (storeOf (now (run .entry)) (now (entries .entry)))) ⌝ }
+{
+    let aside = nothing();
+    let end = questions(run, entries, aside);
     answer(end)
 }

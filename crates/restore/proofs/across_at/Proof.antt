@@ -43,6 +43,9 @@ use Rattle.across.proofs.Across.Laws as AcrossL
 use Rattle.store.specs.declared.Entry.{Entry}
 use Rattle.store.proofs.Entry as EntryT
 use Rattle.store.proofs.Entry.Laws as EntryL
+use Rattle.store.specs.declared.Aside.{Aside}
+use Rattle.store.proofs.Aside as AsideT
+use Rattle.store.proofs.Aside.Laws as AsideL
 use Rattle.store.specs.declared.Wanted.{Wanted}
 use Rattle.store.proofs.Wanted as WantedT
 use Rattle.store.proofs.Wanted.Laws as WantedL
@@ -82,6 +85,9 @@ module _ {M : Type 1} (𝓤 : URA M) (H : Heap 𝓤) (A : Atoms 𝓤) (W : Given
   -- how values lie in locals
   abbrev as-Across : Held W AcrossT.the-row
   as-Across = of-enum W AcrossT.the-type AcrossL.the-laws AcrossL.the-plain tt
+
+  abbrev as-Aside : Held W AsideT.the-row
+  as-Aside = of-enum W AsideT.the-type AsideL.the-laws AsideL.the-plain tt
 
   abbrev as-w64 : Held W (UInt w64)
   as-w64 = number W w64
@@ -133,14 +139,24 @@ module _ {M : Type 1} (𝓤 : URA M) (H : Heap 𝓤) (A : Atoms 𝓤) (W : Given
   abbrev This : Contract 𝓤
   This = walkOf 𝓤 H A this.ended stayed clauses
 
-  module _ (κ₀ κ₁ : Lft) (q₀ q₁ : Share) (run : RefT (List ℕ)) (entries : RefT (List Entry)) (i : ℕ) (state : Across)
+  module _ (κ₀ κ₁ : Lft) (q₀ q₁ : Share) (run : RefT (List ℕ)) (entries : RefT (List Entry)) (aside : Aside) (i : ℕ) (state : Across)
       (in-run : Is (ShrSlice (named 0) κ₀ (UInt w8)) run (slice-vals run))
       (in-entries : Is (ShrSlice (named 1) κ₁ EntryT.the-row) entries (slice-vals entries))
+      (in-aside : Lies as-Aside aside)
       (in-i : Lies as-w64 i)
       (in-state : Lies as-Across state)
-      (asks : (i < length (now entries)) × At (now run) (now entries) i state) where
+      (asks : (i < length (now entries)) × At (now run) (now entries) aside i state) where
     abbrev bound : This .Ghost
-    bound = (((κ₀, (κ₁, tt)), (q₀, (q₁, tt)), tt, (run, (entries, (i, (state, tt)))), (slice-vals run, (slice-vals entries, (vals as-w64 i, (vals as-Across state, tt))))), tt)
+    bound = (
+      (
+        (κ₀, (κ₁, tt)),
+        (q₀, (q₁, tt)),
+        tt,
+        (run, (entries, (aside, (i, (state, tt))))),
+        (slice-vals run, (slice-vals entries, (vals as-Aside aside, (vals as-w64 i, (vals as-Across state, tt))))),
+      ),
+      tt,
+    )
 
     -- what each call is handed
     abbrev to-e : Its-entries-entry-at .Ghost
@@ -173,8 +189,8 @@ module _ {M : Type 1} (𝓤 : URA M) (H : Heap 𝓤) (A : Atoms 𝓤) (W : Given
         (κ₀, tt),
         (q₀, tt),
         tt,
-        (run, (e, (c, (i, (p, (t, (state, tt))))))),
-        (slice-vals run, (vals as-Entry e, (vals as-Entry c, (vals as-w64 i, (vals as-w64 p, (vals as-w64 t, (vals as-Across state, tt))))))),
+        (run, (aside, (e, (c, (i, (p, (t, (state, tt)))))))),
+        (slice-vals run, (vals as-Aside aside, (vals as-Entry e, (vals as-Entry c, (vals as-w64 i, (vals as-w64 p, (vals as-w64 t, (vals as-Across state, tt)))))))),
       ),
       tt,
     )
@@ -192,16 +208,17 @@ module _ {M : Type 1} (𝓤 : URA M) (H : Heap 𝓤) (A : Atoms 𝓤) (W : Given
           qed W (raw (toks 𝓤 A 2 (κ₀, (κ₁, tt)) (q₀, (q₁, tt))) ∷ ‵ (owns (typesAt (this.signature .params) (κ₀, (κ₁, tt))) (bound .0 .3) (bound .0 .4)) ∷ []) ∵
           untok ! 2 (κ₀, (κ₁, tt)) (q₀, (q₁, tt)) $ move ! (2 ∷ []) $ fsplit ! $ move ! (1 ∷ []) $ fsplit ! $ keep ! (3 ∷ 4 ∷ 2 ∷ 0 ∷ []) $ enter ! C Λ code.function (This .args bound) _ $
           alloc1 ! (λ l₀. alloc1 ! (λ l₁. alloc1 ! (λ l₂. alloc1 ! (λ l₃. alloc1 !
-          (λ l₄. alloc1 ! (λ l₅. alloc1 ! (λ l₆. alloc1 ! (λ l₇. alloc1 ! (λ l₈. alloc1 ! (λ l₉. alloc1 ! (λ l₁₀. alloc1 ! (λ l₁₁. alloc1 ! (λ l₁₂. alloc0 ! $ params1 ! $
-          pass1 ! (init ! 22 refl (shr-slice-lawful 𝓤 H A W (named 0) κ₀ (UInt w8) .typed run (slice-vals run) in-run .0)) $
-          pass1 ! (init ! 20 refl (shr-slice-lawful 𝓤 H A W (named 1) κ₁ EntryT.the-row .typed entries (slice-vals entries) in-entries .0)) $
+          (λ l₄. alloc1 ! (λ l₅. alloc1 ! (λ l₆. alloc1 ! (λ l₇. alloc1 ! (λ l₈. alloc1 ! (λ l₉. alloc1 ! (λ l₁₀. alloc1 ! (λ l₁₁. alloc1 ! (λ l₁₂. alloc1 ! (λ l₁₃. alloc0 ! $ params1 ! $
+          pass1 ! (init ! 24 refl (shr-slice-lawful 𝓤 H A W (named 0) κ₀ (UInt w8) .typed run (slice-vals run) in-run .0)) $
+          pass1 ! (init ! 22 refl (shr-slice-lawful 𝓤 H A W (named 1) κ₁ EntryT.the-row .typed entries (slice-vals entries) in-entries .0)) $
+          pass1 ! (init ! 20 refl (as-Aside .lawful .typed aside _ in-aside .0)) $
           pass1 ! (init ! 18 refl (as-w64 .lawful .typed i _ in-i .0)) $
           pass1 ! (init ! 16 refl (as-Across .lawful .typed state _ in-state .0)) $
-          pass0 ! $ move ! (26 ∷ 27 ∷ 28 ∷ 29 ∷ []) $
+          pass0 ! $ move ! (28 ∷ 29 ∷ 30 ∷ 31 ∷ []) $
           -- e is entries::entry_at(entries, i)
           nothing ! $ plus ! as-w64 i in-i $ lends ! 3 (named 1) κ₁ EntryT.the-row entries refl $ move ! (2 ∷ 0 ∷ []) $
           calls-held ! fm entries-entry-at.ended (entries-entry-at.clauses 𝓤 H A mem calling) (known .entries-entry-at) to-e (factI 𝓤 _ (emp 𝓤) (asks .0)) as-Entry (λ r ws. id⊢ 𝓤 _)
-          (and-then ! (local ! (look ! 24 refl)) (and-then ! (local ! (look ! 22 refl)) (no-more !))) (λ e is-e in-e.
+          (and-then ! (local ! (look ! 26 refl)) (and-then ! (local ! (look ! 22 refl)) (no-more !))) (λ e is-e in-e.
           land ! (into !) (init ! 18 refl (as-Entry .lawful .typed e _ in-e .0)) $
           -- limit is across::owner_limit(e, i, state)
           nothing ! $ plus ! as-Across state in-state $ plus ! as-w64 i in-i $ plus ! as-Entry e in-e $
@@ -217,14 +234,14 @@ module _ {M : Type 1} (𝓤 : URA M) (H : Heap 𝓤) (A : Atoms 𝓤) (W : Given
           nothing ! $ plus ! as-w64 spot in-spot $ plus ! as-w64 limit in-limit $ plus ! as-Entry e in-e $ lends ! 3 (named 1) κ₁ EntryT.the-row entries refl $ move ! (1 ∷ 0 ∷ []) $
           calls-held ! fm owner-at.ended (owner-at.clauses 𝓤 H A mem calling) (known .owner-at) (to-p e limit spot)
           (factI 𝓤 _ (emp 𝓤) (limit-place e i state limit (length (now entries)) is-limit (asks .0))) as-w64 (λ r ws. id⊢ 𝓤 _)
-          (and-then ! (local ! (look ! 24 refl)) (and-then ! (local ! (look ! 18 refl)) (and-then ! (local ! (look ! 16 refl)) (and-then ! (local ! (look ! 14 refl)) (no-more !)))))
+          (and-then ! (local ! (look ! 26 refl)) (and-then ! (local ! (look ! 18 refl)) (and-then ! (local ! (look ! 16 refl)) (and-then ! (local ! (look ! 14 refl)) (no-more !)))))
           (λ p is-p in-p.
           land ! (into !) (init ! 12 refl (as-w64 .lawful .typed p _ in-p .0)) $
           -- c is entries::entry_at(entries, p)
           nothing ! $ plus ! as-w64 p in-p $ lends ! 3 (named 1) κ₁ EntryT.the-row entries refl $ move ! (1 ∷ 0 ∷ []) $
           calls-held ! fm entries-entry-at.ended (entries-entry-at.clauses 𝓤 H A mem calling) (known .entries-entry-at) (to-c e limit spot p)
           (factI 𝓤 _ (emp 𝓤) (owner-place (now entries) e i state limit spot p (length (now entries)) is-limit is-p (asks .0))) as-Entry (λ r ws. id⊢ 𝓤 _)
-          (and-then ! (local ! (look ! 24 refl)) (and-then ! (local ! (look ! 12 refl)) (no-more !))) (λ c is-c in-c.
+          (and-then ! (local ! (look ! 26 refl)) (and-then ! (local ! (look ! 12 refl)) (no-more !))) (λ c is-c in-c.
           land ! (into !) (init ! 10 refl (as-Entry .lawful .typed c _ in-c .0)) $
           -- twin is across::twin_of(e)
           nothing ! $ plus ! as-Entry e in-e $
@@ -241,36 +258,37 @@ module _ {M : Type 1} (𝓤 : URA M) (H : Heap 𝓤) (A : Atoms 𝓤) (W : Given
           move ! (1 ∷ 0 ∷ []) $
           calls-held ! fm entries-find.ended (entries-find.clauses 𝓤 H A mem calling) (known .entries-find) (to-t e limit spot p c twin upto)
           (factI 𝓤 _ (emp 𝓤) (twin-places e i state upto (length (now entries)) is-upto (asks .0))) as-w64 (λ r ws. id⊢ 𝓤 _)
-          (and-then ! (local ! (look ! 24 refl)) (and-then ! (local ! (look ! 8 refl)) (and-then ! (lit ! tt) (and-then ! (local ! (look ! 6 refl)) (no-more !))))) (λ t is-t in-t.
+          (and-then ! (local ! (look ! 26 refl)) (and-then ! (local ! (look ! 8 refl)) (and-then ! (lit ! tt) (and-then ! (local ! (look ! 6 refl)) (no-more !))))) (λ t is-t in-t.
           land ! (into !) (init ! 4 refl (as-w64 .lawful .typed t _ in-t .0)) $
-          -- r is across::settle(run, e, c, i, p, t, state)
+          -- r is across::settle(run, aside, e, c, i, p, t, state)
           nothing ! $ plus ! as-Across state in-state $ plus ! as-w64 t in-t $ plus ! as-w64 p in-p $ plus ! as-w64 i in-i $ plus ! as-Entry c in-c $ plus ! as-Entry e in-e $
-          lends ! 2 (named 0) κ₀ (UInt w8) run refl $ move ! (2 ∷ 0 ∷ []) $
+          plus ! as-Aside aside in-aside $ lends ! 2 (named 0) κ₀ (UInt w8) run refl $ move ! (2 ∷ 0 ∷ []) $
           calls-held ! fm across-settle.ended (across-settle.clauses 𝓤 H A mem calling) (known .across-settle) (to-r e limit spot p c twin upto t)
-          (factI 𝓤 _ (emp 𝓤) (may-reuse (now run) (now entries) i state (asks .0) (asks .1) e c limit spot p is-e is-limit is-spot is-p is-c)) as-Across (λ r ws. id⊢ 𝓤 _)
-          (and-then ! (local ! (look ! 26 refl)) (and-then ! (local ! (look ! 18 refl))
-          (and-then ! (local ! (look ! 10 refl)) (and-then ! (local ! (look ! 22 refl))
-          (and-then ! (local ! (look ! 12 refl)) (and-then ! (local ! (look ! 4 refl)) (and-then ! (local ! (look ! 20 refl)) (no-more !)))))))) (λ r is-r in-r.
-          land ! (into !) (init ! 28 refl (as-Across .lawful .typed r _ in-r .0)) $
-          returns ! (look ! 28 refl) $
-          gone ! 28 refl refl $ gone ! 26 refl refl $ gone ! 24 refl refl $ gone ! 22 refl refl $ gone ! 20 refl refl $ gone ! 18 refl refl $ gone ! 16 refl refl $ gone ! 14 refl refl $
-          gone ! 12 refl refl $ gone ! 10 refl refl $ gone ! 8 refl refl $ gone ! 6 refl refl $ gone ! 4 refl refl $ free0 ! $
-          suffices ! _ (ends-at 𝓤 H A this.ended stayed clauses W bound (as-Across .val r) r (tt, (tt, (tt, (tt, tt)))) (tt, (tt, (tt, (tt, tt))))) $
-          says ! (settled (now run) (now entries) i state (asks .0) (asks .1) e c limit spot p is-e is-limit is-spot is-p is-c twin upto t r is-twin is-upto is-t is-r) $
-          keep ! (0 ∷ 1 ∷ []) $ retok ! 2 (κ₀, (κ₁, tt)) (q₀, (q₁, tt)) $ frame ! $ nothing ! $ none ! $ none ! $ none ! $ none ! $ frame ! $
-          owned ! AcrossT.the-row (Is AcrossT.the-row) (as-Across .makes) r _ in-r $ done !))))))))))))))))))))))
+          (factI 𝓤 _ (emp 𝓤) (may-reuse (now run) (now entries) aside i state (asks .0) (asks .1) e c limit spot p is-e is-limit is-spot is-p is-c)) as-Across (λ r ws. id⊢ 𝓤 _)
+          (and-then ! (local ! (look ! 28 refl)) (and-then ! (local ! (look ! 24 refl))
+          (and-then ! (local ! (look ! 18 refl)) (and-then ! (local ! (look ! 10 refl))
+          (and-then ! (local ! (look ! 22 refl)) (and-then ! (local ! (look ! 12 refl)) (and-then ! (local ! (look ! 4 refl)) (and-then ! (local ! (look ! 20 refl)) (no-more !)))))))))
+          (λ r is-r in-r.
+          land ! (into !) (init ! 30 refl (as-Across .lawful .typed r _ in-r .0)) $
+          returns ! (look ! 30 refl) $
+          gone ! 30 refl refl $ gone ! 28 refl refl $ gone ! 26 refl refl $ gone ! 24 refl refl $ gone ! 22 refl refl $ gone ! 20 refl refl $ gone ! 18 refl refl $ gone ! 16 refl refl $
+          gone ! 14 refl refl $ gone ! 12 refl refl $ gone ! 10 refl refl $ gone ! 8 refl refl $ gone ! 6 refl refl $ gone ! 4 refl refl $ free0 ! $
+          suffices ! _ (ends-at 𝓤 H A this.ended stayed clauses W bound (as-Across .val r) r (tt, (tt, (tt, (tt, (tt, tt))))) (tt, (tt, (tt, (tt, (tt, tt)))))) $
+          says ! (settled (now run) (now entries) aside i state (asks .0) (asks .1) e c limit spot p is-e is-limit is-spot is-p is-c twin upto t r is-twin is-upto is-t is-r) $
+          keep ! (0 ∷ 1 ∷ []) $ retok ! 2 (κ₀, (κ₁, tt)) (q₀, (q₁, tt)) $ frame ! $ nothing ! $ none ! $ none ! $ none ! $ none ! $ none ! $ frame ! $
+          owned ! AcrossT.the-row (Is AcrossT.the-row) (as-Across .makes) r _ in-r $ done !)))))))))))))))))))))))
 
   module _ (𝓣 : Tables 𝓤 H) (known : Known (𝓣 .C)) where
     walks : Walks 𝓤 H A this.ended stayed (WpFn 𝓤 H (𝓣 .C) (𝓣 .Λ) code.function) clauses
     walks = walked 𝓤 H A this.ended stayed clauses (WpFn 𝓤 H (𝓣 .C) (𝓣 .Λ) code.function)
-        (λ κs. (slice-vals, (slice-vals, (vals as-w64, (vals as-Across, tt)))))
-        (λ κs. (shr-slice-tells (named 0) (κs .0) (UInt w8), (shr-slice-tells (named 1) (κs .1 .0) EntryT.the-row, (as-w64 .tells, (as-Across .tells, tt)))))
-        (λ κs qs bounds a g are. needs 𝓤 _ _ (λ asks. walk (κs .0) (κs .1 .0) (qs .0) (qs .1 .0) (a .0) (a .1 .0) (a .1 .1 .0) (a .1 .1 .1 .0) (are .0) (are .1 .0) (are .1 .1 .0)
-        (are .1 .1 .1 .0) asks 𝓣 (fmOf 𝓤 H (W .laws) 𝓣) known))
+        (λ κs. (slice-vals, (slice-vals, (vals as-Aside, (vals as-w64, (vals as-Across, tt))))))
+        (λ κs. (shr-slice-tells (named 0) (κs .0) (UInt w8), (shr-slice-tells (named 1) (κs .1 .0) EntryT.the-row, (as-Aside .tells, (as-w64 .tells, (as-Across .tells, tt))))))
+        (λ κs qs bounds a g are. needs 𝓤 _ _ (λ asks. walk (κs .0) (κs .1 .0) (qs .0) (qs .1 .0) (a .0) (a .1 .0) (a .1 .1 .0) (a .1 .1 .1 .0) (a .1 .1 .1 .1 .0) (are .0) (are .1 .0)
+        (are .1 .1 .0) (are .1 .1 .1 .0) (are .1 .1 .1 .1 .0) asks 𝓣 (fmOf 𝓤 H (W .laws) 𝓣) known))
 
     meets : Meets 𝓤 H A this.signature (WpFn 𝓤 H (𝓣 .C) (𝓣 .Λ) code.function) (this.spec 𝓤 H A mem calling)
     meets = walk-meets 𝓤 H A this.ended stayed W
-        (drops-go 𝓤 H A W 2 (this.ended .signature .params) (this.ended .kept) (λ κs x f. refl, (λ κs x f. refl, (λ κs x f. refl, (λ κs x f. refl, tt)))))
+        (drops-go 𝓤 H A W 2 (this.ended .signature .params) (this.ended .kept) (λ κs x f. refl, (λ κs x f. refl, (λ κs x f. refl, (λ κs x f. refl, (λ κs x f. refl, tt))))))
         clauses (WpFn 𝓤 H (𝓣 .C) (𝓣 .Λ) code.function) (WpFn-mono 𝓤 H (W .laws) 𝓣 code.function) walks
 
 pub across-at-spec : {M : Type 1} → stated.statement M

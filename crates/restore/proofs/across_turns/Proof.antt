@@ -48,6 +48,9 @@ use Rattle.across.proofs.Across as AcrossT
 use Rattle.across.proofs.Across.Laws as AcrossL
 use Rattle.store.specs.declared.Entry.{Entry}
 use Rattle.store.proofs.Entry as EntryT
+use Rattle.store.specs.declared.Aside.{Aside}
+use Rattle.store.proofs.Aside as AsideT
+use Rattle.store.proofs.Aside.Laws as AsideL
 use Rattle.restore.proofs.across_at as across-at
 use Rattle.restore.proofs.across_at.Symbol as across-at-def
 use Rattle.restore.proofs.across_at.Met as across-at-thm
@@ -65,6 +68,9 @@ module _ {M : Type 1} (𝓤 : URA M) (H : Heap 𝓤) (A : Atoms 𝓤) (W : Given
   abbrev as-Across : Held W AcrossT.the-row
   as-Across = of-enum W AcrossT.the-type AcrossL.the-laws AcrossL.the-plain tt
 
+  abbrev as-Aside : Held W AsideT.the-row
+  as-Aside = of-enum W AsideT.the-type AsideL.the-laws AsideL.the-plain tt
+
   abbrev as-w64 : Held W (UInt w64)
   as-w64 = number W w64
 
@@ -81,14 +87,24 @@ module _ {M : Type 1} (𝓤 : URA M) (H : Heap 𝓤) (A : Atoms 𝓤) (W : Given
   abbrev This : Contract 𝓤
   This = walkOf 𝓤 H A this.ended stayed clauses
 
-  module _ (κ₀ κ₁ : Lft) (q₀ q₁ : Share) (run : RefT (List ℕ)) (entries : RefT (List Entry)) (upto : ℕ) (state : Across)
+  module _ (κ₀ κ₁ : Lft) (q₀ q₁ : Share) (run : RefT (List ℕ)) (entries : RefT (List Entry)) (aside : Aside) (upto : ℕ) (state : Across)
       (in-run : Is (ShrSlice (named 0) κ₀ (UInt w8)) run (slice-vals run))
       (in-entries : Is (ShrSlice (named 1) κ₁ EntryT.the-row) entries (slice-vals entries))
+      (in-aside : Lies as-Aside aside)
       (in-upto : Lies as-w64 upto)
       (in-state : Lies as-Across state)
-      (asks : (upto ≤ length (now entries)) × At (now run) (now entries) 0 state) where
+      (asks : (upto ≤ length (now entries)) × At (now run) (now entries) aside 0 state) where
     abbrev bound : This .Ghost
-    bound = (((κ₀, (κ₁, tt)), (q₀, (q₁, tt)), tt, (run, (entries, (upto, (state, tt)))), (slice-vals run, (slice-vals entries, (vals as-w64 upto, (vals as-Across state, tt))))), tt)
+    bound = (
+      (
+        (κ₀, (κ₁, tt)),
+        (q₀, (q₁, tt)),
+        tt,
+        (run, (entries, (aside, (upto, (state, tt))))),
+        (slice-vals run, (slice-vals entries, (vals as-Aside aside, (vals as-w64 upto, (vals as-Across state, tt))))),
+      ),
+      tt,
+    )
 
     -- the variables before a turn, and what is known of them
     record Turn : Type 0 where
@@ -96,7 +112,7 @@ module _ {M : Type 1} (𝓤 : URA M) (H : Heap 𝓤) (A : Atoms 𝓤) (W : Given
       after : Across
       in-i : Lies as-w64 i
       in-after : Lies as-Across after
-      so : (i ≤ upto) × At (now run) (now entries) i after
+      so : (i ≤ upto) × At (now run) (now entries) aside i after
 
     abbrev first-turn : Turn
     first-turn = record { i = 0; after = state; in-i = (refl, lit< tt); in-after = in-state; so = (none-yet upto, asks .1) }
@@ -116,8 +132,8 @@ module _ {M : Type 1} (𝓤 : URA M) (H : Heap 𝓤) (A : Atoms 𝓤) (W : Given
         (κ₀, (κ₁, tt)),
         (q₀, (q₁, tt)),
         tt,
-        (run, (entries, ((t .i), ((t .after), tt)))),
-        (slice-vals run, (slice-vals entries, (vals as-w64 (t .i), (vals as-Across (t .after), tt)))),
+        (run, (entries, (aside, ((t .i), ((t .after), tt))))),
+        (slice-vals run, (slice-vals entries, (vals as-Aside aside, (vals as-w64 (t .i), (vals as-Across (t .after), tt))))),
       ),
       tt,
     )
@@ -129,18 +145,18 @@ module _ {M : Type 1} (𝓤 : URA M) (H : Heap 𝓤) (A : Atoms 𝓤) (W : Given
       abbrev Λ : Loops 𝓤 H
       Λ = 𝓣 .Λ
 
-      module _ (l₀ l₁ l₂ l₃ l₄ l₅ l₆ l₇ : ℕ) where
+      module _ (l₀ l₁ l₂ l₃ l₄ l₅ l₆ l₇ l₈ : ℕ) where
         abbrev En : Env 𝓤 H
-        En = (AcrossL.mir, l₀) ∷ ((sliceTy (tyRef (named 0) imm (tyInt w8))), l₁) ∷ ((sliceTy (tyRef (named 1) imm (pointee (EntryT.the-row .written)))), l₂) ∷ ((tyInt w64), l₃) ∷
-            (AcrossL.mir, l₄) ∷ ((tyInt w64), l₅) ∷ (AcrossL.mir, l₆) ∷ (tyBool, l₇) ∷ []
+        En = (AcrossL.mir, l₀) ∷ ((sliceTy (tyRef (named 0) imm (tyInt w8))), l₁) ∷ ((sliceTy (tyRef (named 1) imm (pointee (EntryT.the-row .written)))), l₂) ∷ (AsideL.mir, l₃) ∷
+            ((tyInt w64), l₄) ∷ (AcrossL.mir, l₅) ∷ ((tyInt w64), l₆) ∷ (AcrossL.mir, l₇) ∷ (tyBool, l₈) ∷ []
 
         abbrev Before : Turn → List (Item 𝓤)
         Before t = ‵ (flft κ₀ q₀) ∷ ‵ (flft κ₁ q₁) ∷ ‵ (ShrSlice (named 0) κ₀ (UInt w8) .own run (slice-vals run)) ∷ ‵
-            (ShrSlice (named 1) κ₁ EntryT.the-row .own entries (slice-vals entries)) ∷ empty tyBool l₇
-            (holds AcrossL.mir l₆ (as-Across .val (t .after)) (holds (tyInt w64) l₅ (as-w64 .val (t .i))
-            (holds AcrossL.mir l₄ (as-Across .val state) (holds (tyInt w64) l₃ (as-w64 .val upto)
-            (holds (sliceTy (tyRef (named 1) imm (pointee (EntryT.the-row .written)))) l₂ (sliceVal (entries .ptr) (length (entries .now)))
-            (holds (sliceTy (tyRef (named 0) imm (tyInt w8))) l₁ (sliceVal (run .ptr) (length (run .now))) (empty AcrossL.mir l₀ [])))))))
+            (ShrSlice (named 1) κ₁ EntryT.the-row .own entries (slice-vals entries)) ∷ empty tyBool l₈
+            (holds AcrossL.mir l₇ (as-Across .val (t .after)) (holds (tyInt w64) l₆ (as-w64 .val (t .i))
+            (holds AcrossL.mir l₅ (as-Across .val state) (holds (tyInt w64) l₄ (as-w64 .val upto)
+            (holds AsideL.mir l₃ (as-Aside .val aside) (holds (sliceTy (tyRef (named 1) imm (pointee (EntryT.the-row .written)))) l₂ (sliceVal (entries .ptr) (length (entries .now)))
+            (holds (sliceTy (tyRef (named 0) imm (tyInt w8))) l₁ (sliceVal (run .ptr) (length (run .now))) (empty AcrossL.mir l₀ []))))))))
 
         abbrev Turned : Turn → Out → SProp 𝓤
         Turned t = afterTurn 𝓤 H (Below 𝓤 H A Nearer Before t) (afterBlock 𝓤 H
@@ -152,12 +168,12 @@ module _ {M : Type 1} (𝓤 : URA M) (H : Heap 𝓤) (A : Atoms 𝓤) (W : Given
             assigns ! (bin ! (local ! (look ! 8 refl)) (local ! (look ! 12 refl)) tt) (into !) (init ! 4 refl (tt, tt)) $
             first ! $ branches ! (local ! (look ! 4 refl))
             (λ less. skips ! $ exec ! C Λ En (rest-of (rest-of steps.turn-1)) (anyQ (Turned t)) $
-            nothing ! $ plus ! as-Across (t .after) (t .in-after) $ plus ! as-w64 (t .i) (t .in-i) $ lends ! 3 (named 1) κ₁ EntryT.the-row entries refl $
+            nothing ! $ plus ! as-Across (t .after) (t .in-after) $ plus ! as-w64 (t .i) (t .in-i) $ plus ! as-Aside aside in-aside $ lends ! 3 (named 1) κ₁ EntryT.the-row entries refl $
             lends ! 2 (named 0) κ₀ (UInt w8) run refl $ move ! (1 ∷ 2 ∷ 0 ∷ []) $
             calls-held ! fm across-at.ended (across-at.clauses 𝓤 H A mem calling) (known .across-at) (to t)
             (factI 𝓤 _ (emp 𝓤) (within (t .i) upto (length (now entries)) (ltb→lt (t .i) upto less) (asks .0), (t .so) .1)) as-Across (λ r ws. id⊢ 𝓤 _)
-            (and-then ! (local ! (look ! 15 refl)) (and-then ! (local ! (look ! 13 refl)) (and-then ! (local ! (look ! 7 refl)) (and-then ! (local ! (look ! 5 refl)) (no-more !)))))
-            (λ next told in-next.
+            (and-then ! (local ! (look ! 17 refl)) (and-then ! (local ! (look ! 15 refl))
+            (and-then ! (local ! (look ! 13 refl)) (and-then ! (local ! (look ! 7 refl)) (and-then ! (local ! (look ! 5 refl)) (no-more !)))))) (λ next told in-next.
             land ! (into !) (store ! 6 refl (as-Across .lawful .typed next _ in-next .0)) $
             assigns-last ! (bin ! (local ! (look ! 8 refl)) (lit ! tt) (record { fits = fits (ltb→lt (t .i) upto less) })) (into !)
             (store ! 8 refl (tt, record { fits = fits (ltb→lt (t .i) upto less) })) $
@@ -170,12 +186,12 @@ module _ {M : Type 1} (𝓤 : URA M) (H : Heap 𝓤) (A : Atoms 𝓤) (W : Given
                   (one-more (t .i) upto (ltb→lt (t .i) upto less), told);
             }) (add-one-dec upto (t .i) (ltb→lt (t .i) upto less))))
             (λ over. jumps ! $ exec ! C Λ En steps.t-4 (atRet En (This .post bound)) $
-            assigns ! (of-opd ! (local ! (look ! 6 refl))) (into !) (init ! 18 refl (as-Across .lawful .typed (t .after) _ (t .in-after) .0)) $ returns ! (look ! 18 refl) $
-            gone ! 18 refl refl $ gone ! 16 refl refl $ gone ! 14 refl refl $ gone ! 12 refl refl $ gone ! 10 refl refl $ gone ! 8 refl refl $ gone ! 6 refl refl $ gone ! 4 refl refl $
-            free0 ! $
-            suffices ! _ (ends-at 𝓤 H A this.ended stayed clauses W bound (as-Across .val (t .after)) (t .after) (tt, (tt, (tt, (tt, tt)))) (tt, (tt, (tt, (tt, tt))))) $
-            says ! (at-last (now run) (now entries) (t .i) upto (t .after) (nltb→le (t .i) upto over) (t .so)) $
-            keep ! (0 ∷ 1 ∷ []) $ retok ! 2 (κ₀, (κ₁, tt)) (q₀, (q₁, tt)) $ frame ! $ nothing ! $ none ! $ none ! $ none ! $ none ! $ frame ! $
+            assigns ! (of-opd ! (local ! (look ! 6 refl))) (into !) (init ! 20 refl (as-Across .lawful .typed (t .after) _ (t .in-after) .0)) $ returns ! (look ! 20 refl) $
+            gone ! 20 refl refl $ gone ! 18 refl refl $ gone ! 16 refl refl $ gone ! 14 refl refl $ gone ! 12 refl refl $ gone ! 10 refl refl $ gone ! 8 refl refl $ gone ! 6 refl refl $
+            gone ! 4 refl refl $ free0 ! $
+            suffices ! _ (ends-at 𝓤 H A this.ended stayed clauses W bound (as-Across .val (t .after)) (t .after) (tt, (tt, (tt, (tt, (tt, tt))))) (tt, (tt, (tt, (tt, (tt, tt)))))) $
+            says ! (at-last (now run) (now entries) aside (t .i) upto (t .after) (nltb→le (t .i) upto over) (t .so)) $
+            keep ! (0 ∷ 1 ∷ []) $ retok ! 2 (κ₀, (κ₁, tt)) (q₀, (q₁, tt)) $ frame ! $ nothing ! $ none ! $ none ! $ none ! $ none ! $ none ! $ frame ! $
             owned ! AcrossT.the-row (Is AcrossT.the-row) (as-Across .makes) (t .after) _ (t .in-after) $ done !)
           where
             fits : (t .i) < upto → (t .i) + 1 < 2 ^ 64
@@ -189,27 +205,28 @@ module _ {M : Type 1} (𝓤 : URA M) (H : Heap 𝓤) (A : Atoms 𝓤) (W : Given
       walk =
           qed W (raw (toks 𝓤 A 2 (κ₀, (κ₁, tt)) (q₀, (q₁, tt))) ∷ ‵ (owns (typesAt (this.signature .params) (κ₀, (κ₁, tt))) (bound .0 .3) (bound .0 .4)) ∷ []) ∵
           untok ! 2 (κ₀, (κ₁, tt)) (q₀, (q₁, tt)) $ move ! (2 ∷ []) $ fsplit ! $ move ! (1 ∷ []) $ fsplit ! $ keep ! (3 ∷ 4 ∷ 2 ∷ 0 ∷ []) $ enter ! C Λ code.function (This .args bound) _ $
-          alloc1 ! (λ l₀. alloc1 ! (λ l₁. alloc1 ! (λ l₂. alloc1 ! (λ l₃. alloc1 ! (λ l₄. alloc1 ! (λ l₅. alloc1 ! (λ l₆. alloc1 ! (λ l₇. alloc0 ! $ params1 ! $
-          pass1 ! (init ! 12 refl (shr-slice-lawful 𝓤 H A W (named 0) κ₀ (UInt w8) .typed run (slice-vals run) in-run .0)) $
-          pass1 ! (init ! 10 refl (shr-slice-lawful 𝓤 H A W (named 1) κ₁ EntryT.the-row .typed entries (slice-vals entries) in-entries .0)) $
+          alloc1 ! (λ l₀. alloc1 ! (λ l₁. alloc1 ! (λ l₂. alloc1 ! (λ l₃. alloc1 ! (λ l₄. alloc1 ! (λ l₅. alloc1 ! (λ l₆. alloc1 ! (λ l₇. alloc1 ! (λ l₈. alloc0 ! $ params1 ! $
+          pass1 ! (init ! 14 refl (shr-slice-lawful 𝓤 H A W (named 0) κ₀ (UInt w8) .typed run (slice-vals run) in-run .0)) $
+          pass1 ! (init ! 12 refl (shr-slice-lawful 𝓤 H A W (named 1) κ₁ EntryT.the-row .typed entries (slice-vals entries) in-entries .0)) $
+          pass1 ! (init ! 10 refl (as-Aside .lawful .typed aside _ in-aside .0)) $
           pass1 ! (init ! 8 refl (as-w64 .lawful .typed upto _ in-upto .0)) $
           pass1 ! (init ! 6 refl (as-Across .lawful .typed state _ in-state .0)) $
-          pass0 ! $ move ! (16 ∷ 17 ∷ 18 ∷ 19 ∷ []) $
+          pass0 ! $ move ! (18 ∷ 19 ∷ 20 ∷ 21 ∷ []) $
           assigns ! (of-opd ! (lit ! tt)) (into !) (init ! 8 refl (as-w64 .lawful .typed 0 _ (refl, lit< tt) .0)) $
           assigns ! (of-opd ! (local ! (look ! 10 refl))) (into !) (init ! 6 refl (as-Across .lawful .typed state _ in-state .0)) $
-          looped l₀ l₁ l₂ l₃ l₄ l₅ l₆ l₇))))))))
+          looped l₀ l₁ l₂ l₃ l₄ l₅ l₆ l₇ l₈)))))))))
 
   module _ (𝓣 : Tables 𝓤 H) (known : Known (𝓣 .C)) where
     walks : Walks 𝓤 H A this.ended stayed (WpFn 𝓤 H (𝓣 .C) (𝓣 .Λ) code.function) clauses
     walks = walked 𝓤 H A this.ended stayed clauses (WpFn 𝓤 H (𝓣 .C) (𝓣 .Λ) code.function)
-        (λ κs. (slice-vals, (slice-vals, (vals as-w64, (vals as-Across, tt)))))
-        (λ κs. (shr-slice-tells (named 0) (κs .0) (UInt w8), (shr-slice-tells (named 1) (κs .1 .0) EntryT.the-row, (as-w64 .tells, (as-Across .tells, tt)))))
-        (λ κs qs bounds a g are. needs 𝓤 _ _ (λ asks. walk (κs .0) (κs .1 .0) (qs .0) (qs .1 .0) (a .0) (a .1 .0) (a .1 .1 .0) (a .1 .1 .1 .0) (are .0) (are .1 .0) (are .1 .1 .0)
-        (are .1 .1 .1 .0) asks 𝓣 (fmOf 𝓤 H (W .laws) 𝓣) known))
+        (λ κs. (slice-vals, (slice-vals, (vals as-Aside, (vals as-w64, (vals as-Across, tt))))))
+        (λ κs. (shr-slice-tells (named 0) (κs .0) (UInt w8), (shr-slice-tells (named 1) (κs .1 .0) EntryT.the-row, (as-Aside .tells, (as-w64 .tells, (as-Across .tells, tt))))))
+        (λ κs qs bounds a g are. needs 𝓤 _ _ (λ asks. walk (κs .0) (κs .1 .0) (qs .0) (qs .1 .0) (a .0) (a .1 .0) (a .1 .1 .0) (a .1 .1 .1 .0) (a .1 .1 .1 .1 .0) (are .0) (are .1 .0)
+        (are .1 .1 .0) (are .1 .1 .1 .0) (are .1 .1 .1 .1 .0) asks 𝓣 (fmOf 𝓤 H (W .laws) 𝓣) known))
 
     meets : Meets 𝓤 H A this.signature (WpFn 𝓤 H (𝓣 .C) (𝓣 .Λ) code.function) (this.spec 𝓤 H A mem calling)
     meets = walk-meets 𝓤 H A this.ended stayed W
-        (drops-go 𝓤 H A W 2 (this.ended .signature .params) (this.ended .kept) (λ κs x f. refl, (λ κs x f. refl, (λ κs x f. refl, (λ κs x f. refl, tt)))))
+        (drops-go 𝓤 H A W 2 (this.ended .signature .params) (this.ended .kept) (λ κs x f. refl, (λ κs x f. refl, (λ κs x f. refl, (λ κs x f. refl, (λ κs x f. refl, tt))))))
         clauses (WpFn 𝓤 H (𝓣 .C) (𝓣 .Λ) code.function) (WpFn-mono 𝓤 H (W .laws) 𝓣 code.function) walks
 
 pub across-turns-spec : {M : Type 1} → stated.statement M

@@ -40,6 +40,9 @@ use Rattle.store.proofs.Asked.Laws as AskedL
 use Rattle.store.specs.declared.Entry.{Entry}
 use Rattle.store.proofs.Entry as EntryT
 use Rattle.store.proofs.Entry.Laws as EntryL
+use Rattle.store.specs.declared.Aside.{Aside}
+use Rattle.store.proofs.Aside as AsideT
+use Rattle.store.proofs.Aside.Laws as AsideL
 use Rattle.restore.proofs.before as before
 use Rattle.restore.proofs.before.Symbol as before-def
 use Rattle.restore.proofs.before.Met as before-thm
@@ -61,6 +64,9 @@ module _ {M : Type 1} (𝓤 : URA M) (H : Heap 𝓤) (A : Atoms 𝓤) (W : Given
   -- how values lie in locals
   abbrev as-Asked : Held W AskedT.the-row
   as-Asked = of-enum W AskedT.the-type AskedL.the-laws AskedL.the-plain tt
+
+  abbrev as-Aside : Held W AsideT.the-row
+  as-Aside = of-enum W AsideT.the-type AsideL.the-laws AsideL.the-plain tt
 
   abbrev as-w8 : Held W (UInt w8)
   as-w8 = number W w8
@@ -92,9 +98,10 @@ module _ {M : Type 1} (𝓤 : URA M) (H : Heap 𝓤) (A : Atoms 𝓤) (W : Given
   abbrev This : Contract 𝓤
   This = walkOf 𝓤 H A this.ended stayed clauses
 
-  module _ (κ₀ κ₁ : Lft) (q₀ q₁ : Share) (run : RefT (List ℕ)) (entries : RefT (List Entry)) (round : ℕ) (i : ℕ) (asked : Asked)
+  module _ (κ₀ κ₁ : Lft) (q₀ q₁ : Share) (run : RefT (List ℕ)) (entries : RefT (List Entry)) (aside : Aside) (round : ℕ) (i : ℕ) (asked : Asked)
       (in-run : Is (ShrSlice (named 0) κ₀ (UInt w8)) run (slice-vals run))
       (in-entries : Is (ShrSlice (named 1) κ₁ EntryT.the-row) entries (slice-vals entries))
+      (in-aside : Lies as-Aside aside)
       (in-round : Lies as-w8 round)
       (in-i : Lies as-w64 i)
       (in-asked : Lies as-Asked asked)
@@ -105,8 +112,8 @@ module _ {M : Type 1} (𝓤 : URA M) (H : Heap 𝓤) (A : Atoms 𝓤) (W : Given
         (κ₀, (κ₁, tt)),
         (q₀, (q₁, tt)),
         tt,
-        (run, (entries, (round, (i, (asked, tt))))),
-        (slice-vals run, (slice-vals entries, (vals as-w8 round, (vals as-w64 i, (vals as-Asked asked, tt))))),
+        (run, (entries, (aside, (round, (i, (asked, tt)))))),
+        (slice-vals run, (slice-vals entries, (vals as-Aside aside, (vals as-w8 round, (vals as-w64 i, (vals as-Asked asked, tt)))))),
       ),
       tt,
     )
@@ -127,8 +134,8 @@ module _ {M : Type 1} (𝓤 : URA M) (H : Heap 𝓤) (A : Atoms 𝓤) (W : Given
         (κ₀, tt),
         (q₀, tt),
         tt,
-        (run, (b, (e, (round, (i, (asked, tt)))))),
-        (slice-vals run, (vals as-Entry b, (vals as-Entry e, (vals as-w8 round, (vals as-w64 i, (vals as-Asked asked, tt)))))),
+        (run, (aside, (b, (e, (round, (i, (asked, tt))))))),
+        (slice-vals run, (vals as-Aside aside, (vals as-Entry b, (vals as-Entry e, (vals as-w8 round, (vals as-w64 i, (vals as-Asked asked, tt))))))),
       ),
       tt,
     )
@@ -145,13 +152,15 @@ module _ {M : Type 1} (𝓤 : URA M) (H : Heap 𝓤) (A : Atoms 𝓤) (W : Given
       walk =
           qed W (raw (toks 𝓤 A 2 (κ₀, (κ₁, tt)) (q₀, (q₁, tt))) ∷ ‵ (owns (typesAt (this.signature .params) (κ₀, (κ₁, tt))) (bound .0 .3) (bound .0 .4)) ∷ []) ∵
           untok ! 2 (κ₀, (κ₁, tt)) (q₀, (q₁, tt)) $ move ! (2 ∷ []) $ fsplit ! $ move ! (1 ∷ []) $ fsplit ! $ keep ! (3 ∷ 4 ∷ 2 ∷ 0 ∷ []) $ enter ! C Λ code.function (This .args bound) _ $
-          alloc1 ! (λ l₀. alloc1 ! (λ l₁. alloc1 ! (λ l₂. alloc1 ! (λ l₃. alloc1 ! (λ l₄. alloc1 ! (λ l₅. alloc1 ! (λ l₆. alloc1 ! (λ l₇. alloc1 ! (λ l₈. alloc0 ! $ params1 ! $
-          pass1 ! (init ! 14 refl (shr-slice-lawful 𝓤 H A W (named 0) κ₀ (UInt w8) .typed run (slice-vals run) in-run .0)) $
-          pass1 ! (init ! 12 refl (shr-slice-lawful 𝓤 H A W (named 1) κ₁ EntryT.the-row .typed entries (slice-vals entries) in-entries .0)) $
+          alloc1 ! (λ l₀. alloc1 ! (λ l₁. alloc1 ! (λ l₂. alloc1 ! (λ l₃. alloc1 ! (λ l₄. alloc1 ! (λ l₅. alloc1 ! (λ l₆. alloc1 ! (λ l₇. alloc1 ! (λ l₈. alloc1 ! (λ l₉. alloc0 ! $
+          params1 ! $
+          pass1 ! (init ! 16 refl (shr-slice-lawful 𝓤 H A W (named 0) κ₀ (UInt w8) .typed run (slice-vals run) in-run .0)) $
+          pass1 ! (init ! 14 refl (shr-slice-lawful 𝓤 H A W (named 1) κ₁ EntryT.the-row .typed entries (slice-vals entries) in-entries .0)) $
+          pass1 ! (init ! 12 refl (as-Aside .lawful .typed aside _ in-aside .0)) $
           pass1 ! (init ! 10 refl (as-w8 .lawful .typed round _ in-round .0)) $
           pass1 ! (init ! 8 refl (as-w64 .lawful .typed i _ in-i .0)) $
           pass1 ! (init ! 6 refl (as-Asked .lawful .typed asked _ in-asked .0)) $
-          pass0 ! $ move ! (18 ∷ 19 ∷ 20 ∷ 21 ∷ []) $
+          pass0 ! $ move ! (20 ∷ 21 ∷ 22 ∷ 23 ∷ []) $
           -- j is restore::before(i)
           nothing ! $ plus ! as-w64 i in-i $
           calls-held ! fm before.ended (before.clauses 𝓤 H A mem calling) (known .before) to-j (id⊢ 𝓤 _) as-w64 (λ r ws. id⊢ 𝓤 _)
@@ -161,40 +170,46 @@ module _ {M : Type 1} (𝓤 : URA M) (H : Heap 𝓤) (A : Atoms 𝓤) (W : Given
           nothing ! $ plus ! as-w64 j in-j $ lends ! 3 (named 1) κ₁ EntryT.the-row entries refl $ move ! (2 ∷ 0 ∷ []) $
           calls-held ! fm entries-entry-at.ended (entries-entry-at.clauses 𝓤 H A mem calling) (known .entries-entry-at) (to-b j)
           (factI 𝓤 _ (emp 𝓤) (before-below i j (length (now entries)) is-j asks)) as-Entry (λ r ws. id⊢ 𝓤 _)
-          (and-then ! (local ! (look ! 16 refl)) (and-then ! (local ! (look ! 8 refl)) (no-more !))) (λ b is-b in-b.
+          (and-then ! (local ! (look ! 18 refl)) (and-then ! (local ! (look ! 8 refl)) (no-more !))) (λ b is-b in-b.
           land ! (into !) (init ! 6 refl (as-Entry .lawful .typed b _ in-b .0)) $
           -- e is entries::entry_at(entries, i)
           nothing ! $ plus ! as-w64 i in-i $ lends ! 3 (named 1) κ₁ EntryT.the-row entries refl $ move ! (1 ∷ 0 ∷ []) $
           calls-held ! fm entries-entry-at.ended (entries-entry-at.clauses 𝓤 H A mem calling) (known .entries-entry-at) (to-e j b) (factI 𝓤 _ (emp 𝓤) asks) as-Entry (λ r ws. id⊢ 𝓤 _)
-          (and-then ! (local ! (look ! 16 refl)) (and-then ! (local ! (look ! 12 refl)) (no-more !))) (λ e is-e in-e.
+          (and-then ! (local ! (look ! 18 refl)) (and-then ! (local ! (look ! 12 refl)) (no-more !))) (λ e is-e in-e.
           land ! (into !) (init ! 4 refl (as-Entry .lawful .typed e _ in-e .0)) $
-          -- r is rounds::turn(run, b, e, round, i, asked)
+          -- r is rounds::turn(run, aside, b, e, round, i, asked)
           nothing ! $ plus ! as-Asked asked in-asked $ plus ! as-w64 i in-i $ plus ! as-w8 round in-round $ plus ! as-Entry e in-e $ plus ! as-Entry b in-b $
-          lends ! 2 (named 0) κ₀ (UInt w8) run refl $ move ! (2 ∷ 0 ∷ []) $
+          plus ! as-Aside aside in-aside $ lends ! 2 (named 0) κ₀ (UInt w8) run refl $ move ! (2 ∷ 0 ∷ []) $
           calls-held ! fm rounds-turn.ended (rounds-turn.clauses 𝓤 H A mem calling) (known .rounds-turn) (to-r j b e) (id⊢ 𝓤 _) as-Asked (λ r ws. id⊢ 𝓤 _)
-          (and-then ! (local ! (look ! 18 refl)) (and-then ! (local ! (look ! 6 refl))
-          (and-then ! (local ! (look ! 4 refl)) (and-then ! (local ! (look ! 14 refl)) (and-then ! (local ! (look ! 12 refl)) (and-then ! (local ! (look ! 10 refl)) (no-more !)))))))
-          (λ r is-r in-r.
-          land ! (into !) (init ! 20 refl (as-Asked .lawful .typed r _ in-r .0)) $
-          returns ! (look ! 20 refl) $
-          gone ! 20 refl refl $ gone ! 18 refl refl $ gone ! 16 refl refl $ gone ! 14 refl refl $ gone ! 12 refl refl $ gone ! 10 refl refl $ gone ! 8 refl refl $ gone ! 6 refl refl $
-          gone ! 4 refl refl $ free0 ! $
-          suffices ! _ (ends-at 𝓤 H A this.ended stayed clauses W bound (as-Asked .val r) r (tt, (tt, (tt, (tt, (tt, tt))))) (tt, (tt, (tt, (tt, (tt, tt)))))) $
-          says ! (turn-is (now run) (now entries) round i j b e asked r is-j is-b is-e is-r) $
-          keep ! (0 ∷ 1 ∷ []) $ retok ! 2 (κ₀, (κ₁, tt)) (q₀, (q₁, tt)) $ frame ! $ nothing ! $ none ! $ none ! $ none ! $ none ! $ none ! $ frame ! $
-          owned ! AskedT.the-row (Is AskedT.the-row) (as-Asked .makes) r _ in-r $ done !)))))))))))))
+          (and-then ! (local ! (look ! 20 refl)) (and-then ! (local ! (look ! 16 refl))
+          (and-then ! (local ! (look ! 6 refl)) (and-then ! (local ! (look ! 4 refl))
+          (and-then ! (local ! (look ! 14 refl)) (and-then ! (local ! (look ! 12 refl)) (and-then ! (local ! (look ! 10 refl)) (no-more !)))))))) (λ r is-r in-r.
+          land ! (into !) (init ! 22 refl (as-Asked .lawful .typed r _ in-r .0)) $
+          returns ! (look ! 22 refl) $
+          gone ! 22 refl refl $ gone ! 20 refl refl $ gone ! 18 refl refl $ gone ! 16 refl refl $ gone ! 14 refl refl $ gone ! 12 refl refl $ gone ! 10 refl refl $ gone ! 8 refl refl $
+          gone ! 6 refl refl $ gone ! 4 refl refl $ free0 ! $
+          suffices ! _ (ends-at 𝓤 H A this.ended stayed clauses W bound (as-Asked .val r) r (tt, (tt, (tt, (tt, (tt, (tt, tt)))))) (tt, (tt, (tt, (tt, (tt, (tt, tt))))))) $
+          says ! (turn-is (now run) (now entries) aside round i j b e asked r is-j is-b is-e is-r) $
+          keep ! (0 ∷ 1 ∷ []) $ retok ! 2 (κ₀, (κ₁, tt)) (q₀, (q₁, tt)) $ frame ! $ nothing ! $ none ! $ none ! $ none ! $ none ! $ none ! $ none ! $ frame ! $
+          owned ! AskedT.the-row (Is AskedT.the-row) (as-Asked .makes) r _ in-r $ done !))))))))))))))
 
   module _ (𝓣 : Tables 𝓤 H) (known : Known (𝓣 .C)) where
     walks : Walks 𝓤 H A this.ended stayed (WpFn 𝓤 H (𝓣 .C) (𝓣 .Λ) code.function) clauses
     walks = walked 𝓤 H A this.ended stayed clauses (WpFn 𝓤 H (𝓣 .C) (𝓣 .Λ) code.function)
-        (λ κs. (slice-vals, (slice-vals, (vals as-w8, (vals as-w64, (vals as-Asked, tt))))))
-        (λ κs. (shr-slice-tells (named 0) (κs .0) (UInt w8), (shr-slice-tells (named 1) (κs .1 .0) EntryT.the-row, (as-w8 .tells, (as-w64 .tells, (as-Asked .tells, tt))))))
-        (λ κs qs bounds a g are. needs 𝓤 _ _ (λ asks. walk (κs .0) (κs .1 .0) (qs .0) (qs .1 .0) (a .0) (a .1 .0) (a .1 .1 .0) (a .1 .1 .1 .0) (a .1 .1 .1 .1 .0) (are .0) (are .1 .0)
-        (are .1 .1 .0) (are .1 .1 .1 .0) (are .1 .1 .1 .1 .0) asks 𝓣 (fmOf 𝓤 H (W .laws) 𝓣) known))
+        (λ κs. (slice-vals, (slice-vals, (vals as-Aside, (vals as-w8, (vals as-w64, (vals as-Asked, tt)))))))
+        (λ κs. (
+          shr-slice-tells (named 0) (κs .0) (UInt w8),
+          (
+            shr-slice-tells (named 1) (κs .1 .0) EntryT.the-row,
+            (as-Aside .tells, (as-w8 .tells, (as-w64 .tells, (as-Asked .tells, tt)))),
+          ),
+        ))
+        (λ κs qs bounds a g are. needs 𝓤 _ _ (λ asks. walk (κs .0) (κs .1 .0) (qs .0) (qs .1 .0) (a .0) (a .1 .0) (a .1 .1 .0) (a .1 .1 .1 .0) (a .1 .1 .1 .1 .0) (a .1 .1 .1 .1 .1 .0)
+        (are .0) (are .1 .0) (are .1 .1 .0) (are .1 .1 .1 .0) (are .1 .1 .1 .1 .0) (are .1 .1 .1 .1 .1 .0) asks 𝓣 (fmOf 𝓤 H (W .laws) 𝓣) known))
 
     meets : Meets 𝓤 H A this.signature (WpFn 𝓤 H (𝓣 .C) (𝓣 .Λ) code.function) (this.spec 𝓤 H A mem calling)
     meets = walk-meets 𝓤 H A this.ended stayed W
-        (drops-go 𝓤 H A W 2 (this.ended .signature .params) (this.ended .kept) (λ κs x f. refl, (λ κs x f. refl, (λ κs x f. refl, (λ κs x f. refl, (λ κs x f. refl, tt))))))
+        (drops-go 𝓤 H A W 2 (this.ended .signature .params) (this.ended .kept) (λ κs x f. refl, (λ κs x f. refl, (λ κs x f. refl, (λ κs x f. refl, (λ κs x f. refl, (λ κs x f. refl, tt)))))))
         clauses (WpFn 𝓤 H (𝓣 .C) (𝓣 .Λ) code.function) (WpFn-mono 𝓤 H (W .laws) 𝓣 code.function) walks
 
 pub turn-at-spec : {M : Type 1} → stated.statement M

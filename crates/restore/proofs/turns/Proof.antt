@@ -40,7 +40,6 @@ use denote.Triple.Table.{entered, cited}
 use denote.Triple.Walked.{says, needs, Stays, walkOf, Walks, ends-at, walked, walk-meets}
 use Rattle.walks.proofs.Walk.{untok, retok, gone, rest-of, drops, drops-go}
 use Rattle.walks.proofs.Held.{Held, number, of-enum, vals, Lies, holds, empty, plus, lends, none, calls-held, into, local}
-use Rattle.store.specs.Store.{storeOf}
 use Rattle.rounds.specs.Rounds.{roundOf}
 use Rattle.restore.proofs.Rounds.{Still, starts, goes-on, stops, within}
 use Rattle.store.specs.declared.Asked.{Asked}
@@ -48,6 +47,9 @@ use Rattle.store.proofs.Asked as AskedT
 use Rattle.store.proofs.Asked.Laws as AskedL
 use Rattle.store.specs.declared.Entry.{Entry}
 use Rattle.store.proofs.Entry as EntryT
+use Rattle.store.specs.declared.Aside.{Aside}
+use Rattle.store.proofs.Aside as AsideT
+use Rattle.store.proofs.Aside.Laws as AsideL
 use Rattle.restore.proofs.turn_at as turn-at
 use Rattle.restore.proofs.turn_at.Symbol as turn-at-def
 use Rattle.restore.proofs.turn_at.Met as turn-at-thm
@@ -64,6 +66,9 @@ module _ {M : Type 1} (𝓤 : URA M) (H : Heap 𝓤) (A : Atoms 𝓤) (W : Given
   -- how values lie in locals
   abbrev as-Asked : Held W AskedT.the-row
   as-Asked = of-enum W AskedT.the-type AskedL.the-laws AskedL.the-plain tt
+
+  abbrev as-Aside : Held W AsideT.the-row
+  as-Aside = of-enum W AsideT.the-type AsideL.the-laws AsideL.the-plain tt
 
   abbrev as-w8 : Held W (UInt w8)
   as-w8 = number W w8
@@ -84,9 +89,10 @@ module _ {M : Type 1} (𝓤 : URA M) (H : Heap 𝓤) (A : Atoms 𝓤) (W : Given
   abbrev This : Contract 𝓤
   This = walkOf 𝓤 H A this.ended stayed clauses
 
-  module _ (κ₀ κ₁ : Lft) (q₀ q₁ : Share) (run : RefT (List ℕ)) (entries : RefT (List Entry)) (round : ℕ) (upto : ℕ) (asked : Asked)
+  module _ (κ₀ κ₁ : Lft) (q₀ q₁ : Share) (run : RefT (List ℕ)) (entries : RefT (List Entry)) (aside : Aside) (round : ℕ) (upto : ℕ) (asked : Asked)
       (in-run : Is (ShrSlice (named 0) κ₀ (UInt w8)) run (slice-vals run))
       (in-entries : Is (ShrSlice (named 1) κ₁ EntryT.the-row) entries (slice-vals entries))
+      (in-aside : Lies as-Aside aside)
       (in-round : Lies as-w8 round)
       (in-upto : Lies as-w64 upto)
       (in-asked : Lies as-Asked asked)
@@ -97,8 +103,8 @@ module _ {M : Type 1} (𝓤 : URA M) (H : Heap 𝓤) (A : Atoms 𝓤) (W : Given
         (κ₀, (κ₁, tt)),
         (q₀, (q₁, tt)),
         tt,
-        (run, (entries, (round, (upto, (asked, tt))))),
-        (slice-vals run, (slice-vals entries, (vals as-w8 round, (vals as-w64 upto, (vals as-Asked asked, tt))))),
+        (run, (entries, (aside, (round, (upto, (asked, tt)))))),
+        (slice-vals run, (slice-vals entries, (vals as-Aside aside, (vals as-w8 round, (vals as-w64 upto, (vals as-Asked asked, tt)))))),
       ),
       tt,
     )
@@ -109,10 +115,10 @@ module _ {M : Type 1} (𝓤 : URA M) (H : Heap 𝓤) (A : Atoms 𝓤) (W : Given
       a : Asked
       in-i : Lies as-w64 i
       in-a : Lies as-Asked a
-      so : Still (roundOf round (storeOf (now run) (now entries))) upto asked i a
+      so : Still (roundOf round (now run) (now entries) aside) upto asked i a
 
     abbrev first-turn : Turn
-    first-turn = record { i = 0; a = asked; in-i = (refl, lit< tt); in-a = in-asked; so = starts (roundOf round (storeOf (now run) (now entries))) upto asked }
+    first-turn = record { i = 0; a = asked; in-i = (refl, lit< tt); in-a = in-asked; so = starts (roundOf round (now run) (now entries) aside) upto asked }
 
     abbrev far : Turn → ℕ
     far t = upto - (t .i)
@@ -129,8 +135,8 @@ module _ {M : Type 1} (𝓤 : URA M) (H : Heap 𝓤) (A : Atoms 𝓤) (W : Given
         (κ₀, (κ₁, tt)),
         (q₀, (q₁, tt)),
         tt,
-        (run, (entries, (round, ((t .i), ((t .a), tt))))),
-        (slice-vals run, (slice-vals entries, (vals as-w8 round, (vals as-w64 (t .i), (vals as-Asked (t .a), tt))))),
+        (run, (entries, (aside, (round, ((t .i), ((t .a), tt)))))),
+        (slice-vals run, (slice-vals entries, (vals as-Aside aside, (vals as-w8 round, (vals as-w64 (t .i), (vals as-Asked (t .a), tt)))))),
       ),
       tt,
     )
@@ -142,18 +148,19 @@ module _ {M : Type 1} (𝓤 : URA M) (H : Heap 𝓤) (A : Atoms 𝓤) (W : Given
       abbrev Λ : Loops 𝓤 H
       Λ = 𝓣 .Λ
 
-      module _ (l₀ l₁ l₂ l₃ l₄ l₅ l₆ l₇ l₈ : ℕ) where
+      module _ (l₀ l₁ l₂ l₃ l₄ l₅ l₆ l₇ l₈ l₉ : ℕ) where
         abbrev En : Env 𝓤 H
-        En = (AskedL.mir, l₀) ∷ ((sliceTy (tyRef (named 0) imm (tyInt w8))), l₁) ∷ ((sliceTy (tyRef (named 1) imm (pointee (EntryT.the-row .written)))), l₂) ∷ ((tyInt w8), l₃) ∷
-            ((tyInt w64), l₄) ∷ (AskedL.mir, l₅) ∷ ((tyInt w64), l₆) ∷ (AskedL.mir, l₇) ∷ (tyBool, l₈) ∷ []
+        En = (AskedL.mir, l₀) ∷ ((sliceTy (tyRef (named 0) imm (tyInt w8))), l₁) ∷ ((sliceTy (tyRef (named 1) imm (pointee (EntryT.the-row .written)))), l₂) ∷ (AsideL.mir, l₃) ∷
+            ((tyInt w8), l₄) ∷ ((tyInt w64), l₅) ∷ (AskedL.mir, l₆) ∷ ((tyInt w64), l₇) ∷ (AskedL.mir, l₈) ∷ (tyBool, l₉) ∷ []
 
         abbrev Before : Turn → List (Item 𝓤)
         Before t = ‵ (flft κ₀ q₀) ∷ ‵ (flft κ₁ q₁) ∷ ‵ (ShrSlice (named 0) κ₀ (UInt w8) .own run (slice-vals run)) ∷ ‵
-            (ShrSlice (named 1) κ₁ EntryT.the-row .own entries (slice-vals entries)) ∷ empty tyBool l₈
-            (holds AskedL.mir l₇ (as-Asked .val (t .a)) (holds (tyInt w64) l₆ (as-w64 .val (t .i))
-            (holds AskedL.mir l₅ (as-Asked .val asked) (holds (tyInt w64) l₄ (as-w64 .val upto)
-            (holds (tyInt w8) l₃ (as-w8 .val round) (holds (sliceTy (tyRef (named 1) imm (pointee (EntryT.the-row .written)))) l₂ (sliceVal (entries .ptr) (length (entries .now)))
-            (holds (sliceTy (tyRef (named 0) imm (tyInt w8))) l₁ (sliceVal (run .ptr) (length (run .now))) (empty AskedL.mir l₀ []))))))))
+            (ShrSlice (named 1) κ₁ EntryT.the-row .own entries (slice-vals entries)) ∷ empty tyBool l₉
+            (holds AskedL.mir l₈ (as-Asked .val (t .a)) (holds (tyInt w64) l₇ (as-w64 .val (t .i))
+            (holds AskedL.mir l₆ (as-Asked .val asked) (holds (tyInt w64) l₅ (as-w64 .val upto)
+            (holds (tyInt w8) l₄ (as-w8 .val round) (holds AsideL.mir l₃ (as-Aside .val aside)
+            (holds (sliceTy (tyRef (named 1) imm (pointee (EntryT.the-row .written)))) l₂ (sliceVal (entries .ptr) (length (entries .now)))
+            (holds (sliceTy (tyRef (named 0) imm (tyInt w8))) l₁ (sliceVal (run .ptr) (length (run .now))) (empty AskedL.mir l₀ [])))))))))
 
         abbrev Turned : Turn → Out → SProp 𝓤
         Turned t = afterTurn 𝓤 H (Below 𝓤 H A Nearer Before t) (afterBlock 𝓤 H
@@ -165,12 +172,13 @@ module _ {M : Type 1} (𝓤 : URA M) (H : Heap 𝓤) (A : Atoms 𝓤) (W : Given
             assigns ! (bin ! (local ! (look ! 8 refl)) (local ! (look ! 12 refl)) tt) (into !) (init ! 4 refl (tt, tt)) $
             first ! $ branches ! (local ! (look ! 4 refl))
             (λ less. skips ! $ exec ! C Λ En (rest-of (rest-of steps.turn-1)) (anyQ (Turned t)) $
-            nothing ! $ plus ! as-Asked (t .a) (t .in-a) $ plus ! as-w64 (t .i) (t .in-i) $ plus ! as-w8 round in-round $ lends ! 3 (named 1) κ₁ EntryT.the-row entries refl $
-            lends ! 2 (named 0) κ₀ (UInt w8) run refl $ move ! (1 ∷ 2 ∷ 0 ∷ []) $
+            nothing ! $ plus ! as-Asked (t .a) (t .in-a) $ plus ! as-w64 (t .i) (t .in-i) $ plus ! as-w8 round in-round $ plus ! as-Aside aside in-aside $
+            lends ! 3 (named 1) κ₁ EntryT.the-row entries refl $ lends ! 2 (named 0) κ₀ (UInt w8) run refl $ move ! (1 ∷ 2 ∷ 0 ∷ []) $
             calls-held ! fm turn-at.ended (turn-at.clauses 𝓤 H A mem calling) (known .turn-at) (to t)
             (factI 𝓤 _ (emp 𝓤) (within (t .i) upto (length (now entries)) (ltb→lt (t .i) upto less) asks)) as-Asked (λ r ws. id⊢ 𝓤 _)
-            (and-then ! (local ! (look ! 17 refl)) (and-then ! (local ! (look ! 15 refl))
-            (and-then ! (local ! (look ! 13 refl)) (and-then ! (local ! (look ! 7 refl)) (and-then ! (local ! (look ! 5 refl)) (no-more !)))))) (λ next told in-next.
+            (and-then ! (local ! (look ! 19 refl)) (and-then ! (local ! (look ! 17 refl))
+            (and-then ! (local ! (look ! 15 refl)) (and-then ! (local ! (look ! 13 refl)) (and-then ! (local ! (look ! 7 refl)) (and-then ! (local ! (look ! 5 refl)) (no-more !)))))))
+            (λ next told in-next.
             land ! (into !) (store ! 6 refl (as-Asked .lawful .typed next _ in-next .0)) $
             assigns-last ! (bin ! (local ! (look ! 8 refl)) (lit ! tt) (record { fits = fits (ltb→lt (t .i) upto less) })) (into !)
             (store ! 8 refl (tt, record { fits = fits (ltb→lt (t .i) upto less) })) $
@@ -180,15 +188,15 @@ module _ {M : Type 1} (𝓤 : URA M) (H : Heap 𝓤) (A : Atoms 𝓤) (W : Given
               in-i = (refl, fits (ltb→lt (t .i) upto less));
               in-a = in-next;
               so = goes-on
-                  (roundOf round (storeOf (now run) (now entries))) upto asked (t .i) (t .a) next (ltb→lt (t .i) upto less) (t .so) told;
+                  (roundOf round (now run) (now entries) aside) upto asked (t .i) (t .a) next (ltb→lt (t .i) upto less) (t .so) told;
             }) (add-one-dec upto (t .i) (ltb→lt (t .i) upto less))))
             (λ over. jumps ! $ exec ! C Λ En steps.t-4 (atRet En (This .post bound)) $
-            assigns ! (of-opd ! (local ! (look ! 6 refl))) (into !) (init ! 20 refl (as-Asked .lawful .typed (t .a) _ (t .in-a) .0)) $ returns ! (look ! 20 refl) $
-            gone ! 20 refl refl $ gone ! 18 refl refl $ gone ! 16 refl refl $ gone ! 14 refl refl $ gone ! 12 refl refl $ gone ! 10 refl refl $ gone ! 8 refl refl $ gone ! 6 refl refl $
-            gone ! 4 refl refl $ free0 ! $
-            suffices ! _ (ends-at 𝓤 H A this.ended stayed clauses W bound (as-Asked .val (t .a)) (t .a) (tt, (tt, (tt, (tt, (tt, tt))))) (tt, (tt, (tt, (tt, (tt, tt)))))) $
-            says ! (stops (roundOf round (storeOf (now run) (now entries))) upto asked (t .i) (t .a) (nltb→le (t .i) upto over) (t .so)) $
-            keep ! (0 ∷ 1 ∷ []) $ retok ! 2 (κ₀, (κ₁, tt)) (q₀, (q₁, tt)) $ frame ! $ nothing ! $ none ! $ none ! $ none ! $ none ! $ none ! $ frame ! $
+            assigns ! (of-opd ! (local ! (look ! 6 refl))) (into !) (init ! 22 refl (as-Asked .lawful .typed (t .a) _ (t .in-a) .0)) $ returns ! (look ! 22 refl) $
+            gone ! 22 refl refl $ gone ! 20 refl refl $ gone ! 18 refl refl $ gone ! 16 refl refl $ gone ! 14 refl refl $ gone ! 12 refl refl $ gone ! 10 refl refl $ gone ! 8 refl refl $
+            gone ! 6 refl refl $ gone ! 4 refl refl $ free0 ! $
+            suffices ! _ (ends-at 𝓤 H A this.ended stayed clauses W bound (as-Asked .val (t .a)) (t .a) (tt, (tt, (tt, (tt, (tt, (tt, tt)))))) (tt, (tt, (tt, (tt, (tt, (tt, tt))))))) $
+            says ! (stops (roundOf round (now run) (now entries) aside) upto asked (t .i) (t .a) (nltb→le (t .i) upto over) (t .so)) $
+            keep ! (0 ∷ 1 ∷ []) $ retok ! 2 (κ₀, (κ₁, tt)) (q₀, (q₁, tt)) $ frame ! $ nothing ! $ none ! $ none ! $ none ! $ none ! $ none ! $ none ! $ frame ! $
             owned ! AskedT.the-row (Is AskedT.the-row) (as-Asked .makes) (t .a) _ (t .in-a) $ done !)
           where
             fits : (t .i) < upto → (t .i) + 1 < 2 ^ 64
@@ -202,28 +210,36 @@ module _ {M : Type 1} (𝓤 : URA M) (H : Heap 𝓤) (A : Atoms 𝓤) (W : Given
       walk =
           qed W (raw (toks 𝓤 A 2 (κ₀, (κ₁, tt)) (q₀, (q₁, tt))) ∷ ‵ (owns (typesAt (this.signature .params) (κ₀, (κ₁, tt))) (bound .0 .3) (bound .0 .4)) ∷ []) ∵
           untok ! 2 (κ₀, (κ₁, tt)) (q₀, (q₁, tt)) $ move ! (2 ∷ []) $ fsplit ! $ move ! (1 ∷ []) $ fsplit ! $ keep ! (3 ∷ 4 ∷ 2 ∷ 0 ∷ []) $ enter ! C Λ code.function (This .args bound) _ $
-          alloc1 ! (λ l₀. alloc1 ! (λ l₁. alloc1 ! (λ l₂. alloc1 ! (λ l₃. alloc1 ! (λ l₄. alloc1 ! (λ l₅. alloc1 ! (λ l₆. alloc1 ! (λ l₇. alloc1 ! (λ l₈. alloc0 ! $ params1 ! $
-          pass1 ! (init ! 14 refl (shr-slice-lawful 𝓤 H A W (named 0) κ₀ (UInt w8) .typed run (slice-vals run) in-run .0)) $
-          pass1 ! (init ! 12 refl (shr-slice-lawful 𝓤 H A W (named 1) κ₁ EntryT.the-row .typed entries (slice-vals entries) in-entries .0)) $
+          alloc1 ! (λ l₀. alloc1 ! (λ l₁. alloc1 ! (λ l₂. alloc1 ! (λ l₃. alloc1 ! (λ l₄. alloc1 ! (λ l₅. alloc1 ! (λ l₆. alloc1 ! (λ l₇. alloc1 ! (λ l₈. alloc1 ! (λ l₉. alloc0 ! $
+          params1 ! $
+          pass1 ! (init ! 16 refl (shr-slice-lawful 𝓤 H A W (named 0) κ₀ (UInt w8) .typed run (slice-vals run) in-run .0)) $
+          pass1 ! (init ! 14 refl (shr-slice-lawful 𝓤 H A W (named 1) κ₁ EntryT.the-row .typed entries (slice-vals entries) in-entries .0)) $
+          pass1 ! (init ! 12 refl (as-Aside .lawful .typed aside _ in-aside .0)) $
           pass1 ! (init ! 10 refl (as-w8 .lawful .typed round _ in-round .0)) $
           pass1 ! (init ! 8 refl (as-w64 .lawful .typed upto _ in-upto .0)) $
           pass1 ! (init ! 6 refl (as-Asked .lawful .typed asked _ in-asked .0)) $
-          pass0 ! $ move ! (18 ∷ 19 ∷ 20 ∷ 21 ∷ []) $
+          pass0 ! $ move ! (20 ∷ 21 ∷ 22 ∷ 23 ∷ []) $
           assigns ! (of-opd ! (lit ! tt)) (into !) (init ! 8 refl (as-w64 .lawful .typed 0 _ (refl, lit< tt) .0)) $
           assigns ! (of-opd ! (local ! (look ! 10 refl))) (into !) (init ! 6 refl (as-Asked .lawful .typed asked _ in-asked .0)) $
-          looped l₀ l₁ l₂ l₃ l₄ l₅ l₆ l₇ l₈)))))))))
+          looped l₀ l₁ l₂ l₃ l₄ l₅ l₆ l₇ l₈ l₉))))))))))
 
   module _ (𝓣 : Tables 𝓤 H) (known : Known (𝓣 .C)) where
     walks : Walks 𝓤 H A this.ended stayed (WpFn 𝓤 H (𝓣 .C) (𝓣 .Λ) code.function) clauses
     walks = walked 𝓤 H A this.ended stayed clauses (WpFn 𝓤 H (𝓣 .C) (𝓣 .Λ) code.function)
-        (λ κs. (slice-vals, (slice-vals, (vals as-w8, (vals as-w64, (vals as-Asked, tt))))))
-        (λ κs. (shr-slice-tells (named 0) (κs .0) (UInt w8), (shr-slice-tells (named 1) (κs .1 .0) EntryT.the-row, (as-w8 .tells, (as-w64 .tells, (as-Asked .tells, tt))))))
-        (λ κs qs bounds a g are. needs 𝓤 _ _ (λ asks. walk (κs .0) (κs .1 .0) (qs .0) (qs .1 .0) (a .0) (a .1 .0) (a .1 .1 .0) (a .1 .1 .1 .0) (a .1 .1 .1 .1 .0) (are .0) (are .1 .0)
-        (are .1 .1 .0) (are .1 .1 .1 .0) (are .1 .1 .1 .1 .0) asks 𝓣 (fmOf 𝓤 H (W .laws) 𝓣) known))
+        (λ κs. (slice-vals, (slice-vals, (vals as-Aside, (vals as-w8, (vals as-w64, (vals as-Asked, tt)))))))
+        (λ κs. (
+          shr-slice-tells (named 0) (κs .0) (UInt w8),
+          (
+            shr-slice-tells (named 1) (κs .1 .0) EntryT.the-row,
+            (as-Aside .tells, (as-w8 .tells, (as-w64 .tells, (as-Asked .tells, tt)))),
+          ),
+        ))
+        (λ κs qs bounds a g are. needs 𝓤 _ _ (λ asks. walk (κs .0) (κs .1 .0) (qs .0) (qs .1 .0) (a .0) (a .1 .0) (a .1 .1 .0) (a .1 .1 .1 .0) (a .1 .1 .1 .1 .0) (a .1 .1 .1 .1 .1 .0)
+        (are .0) (are .1 .0) (are .1 .1 .0) (are .1 .1 .1 .0) (are .1 .1 .1 .1 .0) (are .1 .1 .1 .1 .1 .0) asks 𝓣 (fmOf 𝓤 H (W .laws) 𝓣) known))
 
     meets : Meets 𝓤 H A this.signature (WpFn 𝓤 H (𝓣 .C) (𝓣 .Λ) code.function) (this.spec 𝓤 H A mem calling)
     meets = walk-meets 𝓤 H A this.ended stayed W
-        (drops-go 𝓤 H A W 2 (this.ended .signature .params) (this.ended .kept) (λ κs x f. refl, (λ κs x f. refl, (λ κs x f. refl, (λ κs x f. refl, (λ κs x f. refl, tt))))))
+        (drops-go 𝓤 H A W 2 (this.ended .signature .params) (this.ended .kept) (λ κs x f. refl, (λ κs x f. refl, (λ κs x f. refl, (λ κs x f. refl, (λ κs x f. refl, (λ κs x f. refl, tt)))))))
         clauses (WpFn 𝓤 H (𝓣 .C) (𝓣 .Λ) code.function) (WpFn-mono 𝓤 H (W .laws) 𝓣 code.function) walks
 
 pub turns-spec : {M : Type 1} → stated.statement M
