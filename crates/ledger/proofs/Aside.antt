@@ -3,7 +3,7 @@
 use Prim.Native.Nat.{ℕ}
 use mathlib.Core.List.{List, [], _∷_}
 use mathlib.Core.Bool.{Bool, true, false, cond, _&&_}
-use mathlib.Core.Option.{none, some}
+use mathlib.Core.Option.{Option, none, some}
 use mathlib.Core.Path.{_≡_, refl, sym, ap, _∙_, subst}
 use native.Mathlib.Omega.{arith}
 use lib.ListN.{length}
@@ -20,18 +20,20 @@ use Rattle.contact_laws.proofs.RoundTrip.{image-value}
 use Rattle.store.specs.declared.Entry.{Entry}
 use Rattle.store.specs.declared.Asked.{Asked}
 use Rattle.store.specs.declared.Asked.the-variants as asks
-use Rattle.store.specs.Rounds.{ask, firstNo}
+use Rattle.store.specs.Rounds.{ask, firstNo, turns, rounds}
 use Rattle.store.specs.Kinds.{CONTACT, contact, kindOf, layoutOf, Seen, nothing, seenOf, seenIn, refusalIn}
-use Rattle.store.specs.Store.{storeOf, replacedIn, entryAt, isOf, partOf, seen, allRounds, begun, asked, before, going}
-use Rattle.store.proofs.Rounds.{rounds-same, some≢none}
-use Rattle.store.proofs.Tests.{truth, holds, is-of, any-found}
+use Rattle.store.specs.Store as store
+use Rattle.store.specs.Store.{Store, storeOf, replacedIn, entryAt, isOf, partOf, answerOf, seen, order, bounds, across, begun, asked, before, going}
+use Rattle.store.specs.Aside.{readAside, seenAside, acrossAside, askedAside}
+use Rattle.store.proofs.Rounds.{turns-refused, rounds-quiet, rounds-same, some≢none}
+use Rattle.store.proofs.Tests.{truth, holds, all-yes, is-of, any-found}
 use Rattle.store.proofs.Same.{across-same}
 use Rattle.store.proofs.Accepted.{going-quiet}
 use Rattle.store.proofs.Opened.{other-version}
 use Rattle.received.proofs.Tests.{either}
 use Rattle.ledger.specs.Call.{Hand}
 use Rattle.ledger.specs.Step.{passes}
-use Rattle.ledger.specs.Aside.{sightOf, seenAside, asideRounds, askedAside, passesAside, isLength, passesInParts}
+use Rattle.ledger.specs.Aside.{sightOf, passesAside, isLength, passesInParts}
 
 -- ---- a row that is accepted
 module _ (run : List ℕ) (es : List Entry) (k : ℕ) (bytes : List ℕ) (v : Contact) (read : readRow (rows.contact 3) bytes ≡ accepted v) where
@@ -60,28 +62,41 @@ module _ (run : List ℕ) (es : List Entry) (k : ℕ) (bytes : List ℕ) (v : Co
   read-same e true p = answered-at e p .0
   read-same e false p = refl
 
-  seen-same : (e : Entry) (t : Bool) → isOf CONTACT k e ≡ t
+  -- ... where its version is 3
+  seen-same : (e : Entry) (t : Bool) (o : Option ℕ) → isOf CONTACT k e ≡ t → cond t (firstNo (ask VERSION (eqb (e .version) 3) ∷ [])) o ≡ none
       → seenOf (kindOf (e .kind)) (readRow (layoutOf (kindOf (e .kind)) (e .version)) (cond t bytes (partOf run e)))
-      ≡ cond t (cond (eqb (e .version) 3) (seenIn contact v) nothing) (seenOf (kindOf (e .kind)) (readRow (layoutOf (kindOf (e .kind)) (e .version)) (partOf run e)))
-  seen-same e true p = answered-at e p .1
-  seen-same e false p = refl
+      ≡ cond t (seenIn contact v) (seenOf (kindOf (e .kind)) (readRow (layoutOf (kindOf (e .kind)) (e .version)) (partOf run e)))
+  seen-same e true o p h = answered-at e p .1 ∙ ap (λ (t : Bool). cond t (seenIn contact v) nothing) (holds (eqb (e .version) 3) (all-yes (ask VERSION (eqb (e .version) 3) ∷ []) h .0))
+  seen-same e false o p h = refl
 
-  asked-same : asked (replacedIn run es k bytes) ≡ askedAside run es k (seenIn contact v)
-  asked-same =
-      rounds-same (allRounds (replacedIn run es k bytes)) (asideRounds run es k (seenIn contact v)) (length es) (begun (storeOf run es)) (
-        (λ j h. refl),
-        (
-          (λ j h. refl),
-          (
-            (λ j h. read-same (entryAt es j) (isOf CONTACT k (entryAt es j)) refl),
-            (
-              (λ j h. ap firstNo (across-same es (seen (replacedIn run es k bytes)) (seenAside run es k (seenIn contact v))
-                  (λ i b. seen-same (entryAt es i) (isOf CONTACT k (entryAt es i)) refl) (kindOf (entryAt es j .kind)) j h)),
-              tt,
-            ),
-          ),
-        ),
+  abbrev s : Store
+  s = replacedIn run es k bytes
+
+  abbrev isLeft : Entry → Bool
+  isLeft = isOf CONTACT k
+
+  -- the rounds before, in both
+  abbrev readSame : Asked
+  readSame = rounds (order s ∷ bounds s ∷ readAside run es isLeft ∷ []) (length es) (begun s)
+
+  read-so : rounds (order s ∷ bounds s ∷ store.read s ∷ []) (length es) (begun s) ≡ readSame
+  read-so =
+      rounds-same (order s ∷ bounds s ∷ store.read s ∷ []) (order s ∷ bounds s ∷ readAside run es isLeft ∷ []) (length es) (begun s)
+      ((λ j h. refl), ((λ j h. refl), ((λ j h. read-same (entryAt es j) (isLeft (entryAt es j)) refl), tt)))
+
+  -- 25 to 33, of what those have left
+  across-so : (a : Asked) → readSame ≡ a → turns (across s) 0 (length es) a ≡ turns (acrossAside run es isLeft (seenIn contact v)) 0 (length es) a
+  across-so (asks.Refused n i) e = turns-refused (across s) 0 (length es) n i ∙ sym (turns-refused (acrossAside run es isLeft (seenIn contact v)) 0 (length es) n i)
+  across-so asks.Going e =
+      let quiet = rounds-quiet (order s ∷ bounds s ∷ readAside run es isLeft ∷ []) (length es) (begun s) e .1 .1 .0 in
+      rounds-same (across s ∷ []) (acrossAside run es isLeft (seenIn contact v) ∷ []) (length es) asks.Going (
+        (λ j h. ap firstNo (across-same es (seen s) (seenAside run es isLeft (seenIn contact v))
+            (λ i b. let x = entryAt es i in seen-same x (isLeft x) (refusalIn (answerOf (storeOf run es) x)) refl (quiet i (omega arith) b)) (kindOf (entryAt es j .kind)) j h)),
+        tt,
       )
+
+  asked-same : asked s ≡ askedAside run es isLeft (seenIn contact v)
+  asked-same = ap (turns (across s) 0 (length es)) read-so ∙ across-so readSame refl
 
 -- ---- a row that is refused, though the contact is in the store: no
 refused-stops : (run : List ℕ) (es : List Entry) (k : ℕ) (bytes : List ℕ) (q : ℕ) → readRow (rows.contact 3) bytes ≡ refusedBy q → before es (length es) CONTACT k ≡ true
