@@ -107,29 +107,39 @@ module _ (c : Contact) (l : Lists) (ty : ContactTyped c) (lt : ListsTyped l) whe
     refused-not : {q : ℕ} → parse (contact 3) (image c l) ≡ refused q → ⊥
     refused-not r = accepted≢ (sym e ∙ ap layout.answer r)
 
-    pub image-value : readRow (contact 3) (image c l) ≡ accepted (contactIn c l)
-    image-value = card (refusalOf paired (pairedOf c)) refl
+    -- ... and none of 17 to 24 is a no
+    abbrev Granted : Type 0
+    Granted = (readRow (contact 3) (image c l) ≡ accepted (contactIn c l)) × (inconsistency (contactIn c l) ≡ none)
+
+    image-granted : Granted
+    image-granted = card (refusalOf paired (pairedOf c)) refl
       where
-        asked : (o : Option ℕ) → parse (contact 3) (image c l) ≡ said o (contactIn c l) [] → readRow (contact 3) (image c l) ≡ accepted (contactIn c l)
-        asked none r = ap layout.answer r
-        asked (some q) r = absurd (refused-not r)
+        asked : (o : Option ℕ) → inconsistency (contactIn c l) ≡ o → parse (contact 3) (image c l) ≡ said o (contactIn c l) [] → Granted
+        asked none is r = (ap layout.answer r, is)
+        asked (some q) is r = absurd (refused-not r)
 
         keys : refusalOf paired (pairedOf c) ≡ none → (cs : List values.Chain) (rest : List ℕ) → readPlaces 51 (group chain) (c .chains) (l .chains) ≡ value cs rest
-            → (y : Read (List values.Skipped)) → readPlaces 46 (group skipped) (c .skipped) (l .skipped) ≡ y → readRow (contact 3) (image c l) ≡ accepted (contactIn c l)
+            → (y : Read (List values.Skipped)) → readPlaces 46 (group skipped) (c .skipped) (l .skipped) ≡ y → Granted
         keys granted cs rest p (value ks rest′) q =
-            asked (inconsistency (contactIn c l)) (images.all-read c ty l all lt granted cs rest p ks rest′ q (contactIn c l)
+            asked (inconsistency (contactIn c l)) refl (images.all-read c ty l all lt granted cs rest p ks rest′ q (contactIn c l)
             (λ i. joined (pairedOf c) (keysOf c)
             (record { pending = pendingOf c; send = sendOf (c .send) (c .«send_key»); chains = places-are 51 (group chain) (c .chains) (l .chains) p i; skipped = places-are 46 (group skipped) (c .skipped) (l .skipped) q i })
             (numbersOf c l)))
         keys granted cs rest p (refused n) q = absurd (refused-not (images.skipped-refused c ty l all lt granted cs rest p n q))
 
-        chains : refusalOf paired (pairedOf c) ≡ none → (x : Read (List values.Chain)) → readPlaces 51 (group chain) (c .chains) (l .chains) ≡ x → readRow (contact 3) (image c l) ≡ accepted (contactIn c l)
+        chains : refusalOf paired (pairedOf c) ≡ none → (x : Read (List values.Chain)) → readPlaces 51 (group chain) (c .chains) (l .chains) ≡ x → Granted
         chains granted (value cs rest) p = keys granted cs rest p (readPlaces 46 (group skipped) (c .skipped) (l .skipped)) refl
         chains granted (refused n) p = absurd (refused-not (images.chains-refused c ty l all lt granted n p))
 
-        card : (o : Option ℕ) → refusalOf paired (pairedOf c) ≡ o → readRow (contact 3) (image c l) ≡ accepted (contactIn c l)
+        card : (o : Option ℕ) → refusalOf paired (pairedOf c) ≡ o → Granted
         card none granted = chains granted (readPlaces 51 (group chain) (c .chains) (l .chains)) refl
         card (some q) r = absurd (refused-not (images.paired-refused c ty l all lt q r))
+
+    pub image-value : readRow (contact 3) (image c l) ≡ accepted (contactIn c l)
+    image-value = image-granted .0
+
+    pub image-consistent : inconsistency (contactIn c l) ≡ none
+    image-consistent = image-granted .1
 
   module _ (out left : List ℕ) (n : ℕ) (contract : written.leaves (Length n) left ≡ writesContact c l out) where
     write-value : readRow (contact 3) (take n left) ≡ accepted (contactIn c l)
