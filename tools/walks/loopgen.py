@@ -11,7 +11,7 @@
         s
     }
 
-START is 0 or a parameter, INIT a parameter, and LIMIT a parameter or s itself. A config sets
+START is 0 or a parameter, INIT a number, a bool or a parameter, and LIMIT a parameter or s itself. A config sets
     crate, fn   the function
     invariant   what holds before each turn, a type
     start       its proof before the first turn
@@ -38,6 +38,7 @@ class Loop(walk.Walk):
         begin, init, block, self.last = function.body[:4]
         turn = mir.statements(block[1][1])
         self.counter, self.state, self.flag = begin.place, init.place, turn[0].place
+        self.tests = [self.flag]
         self.call = turn[2]
         self.step = self.callee(self.call.callee)
         self.i, self.s = self.source.lets[:2]
@@ -60,7 +61,9 @@ class Loop(walk.Walk):
     def start_of(self, operand):
         """What a variable starts with: how it is read, and its value."""
         if operand[0] == "number":
-            return "lit ! tt", walk.Value(str(operand[2]), mir.Number(operand[1]), "(refl, lit< tt)")
+            return self.literal(operand), walk.Value(str(operand[2]), mir.Number(operand[1]), "(refl, lit< tt)")
+        if operand[0] in ("true", "false"):
+            return self.literal(operand), walk.Value(operand[0], mir.Flag(), "refl")
         return None, self.held[operand[1]]
 
     # ---- the proof

@@ -44,7 +44,7 @@ class Other:
 @dataclass(frozen=True)
 class Call:
     callee: str  # crate::function
-    operands: tuple  # of ('local', number), ('number', bits, value) or ('other', text)
+    operands: tuple  # of ('local', number), ('number', bits, value), ('true',), ('false',) or ('other', text)
     result: int  # a local
 
 
@@ -125,6 +125,8 @@ def statements(body):
 
 def operand(term):
     """A local that is copied whole, a literal, or something that no walk here is handed."""
+    if term in ("true", "false"):
+        return (term,)
     if term[0] == "copy" and term[1][2] == "lnil":
         return ("local", int(term[1][1]))
     if term[0] == "int":

@@ -1,7 +1,7 @@
 #!/usr/bin/env python3
 """rt mir CRATE | walkgen.py FN.cfg.py : the proof of a straight-line function over lent slices, which calls others and returns what the last one answers.
 
-The parameters are lent slices (`&` and `&mut`) and plain values; each `&mut` goes to one callee, for good. A config sets
+The parameters are lent slices (`&` and `&mut`) and plain values; each `&mut` goes to one callee for good, and before that to others as `&`. A config sets
     crate, fn   the function
     requires    for a call that requires something, by its result's name: the proof
     ends        the proof of what the function ensures
@@ -28,7 +28,13 @@ class Called:
     @property
     def binds(self):
         """The name of what the callee's contract binds at this call."""
-        return " ".join([f"to-{self.result.name}", *[value.name for value in self.earlier]])
+        made = [name for value in self.lent for name in (value.lifetime_made, value.name_made)]
+        return " ".join([f"to-{self.result.name}", *made, *[value.name for value in self.earlier]])
+
+    @property
+    def lent(self):
+        """What it is lent of `&mut` slices, as `&`."""
+        return [value for value in self.handed if isinstance(value, walk.Lent)]
 
 
 @dataclass
@@ -64,6 +70,9 @@ class Line(walk.Walk):
             elif operand[0] == "number":
                 self.literals.append(mir.Number(operand[1]))
                 handed.append(walk.Value(str(operand[2]), mir.Number(operand[1]), "(refl, lit< tt)"))
+            elif operand[0] in ("true", "false"):
+                self.literals.append(mir.Flag())
+                handed.append(walk.Value(operand[0], mir.Flag(), "refl"))
             else:
                 raise SystemExit(f"{statement.callee} is handed something of another form: {operand[1]}")
         result = walk.Value(name, self.function.locals[statement.result])
@@ -77,7 +86,8 @@ class Line(walk.Walk):
         elif kind == "aggregate":
             pointer = int(mir.items(value)[0][1][1])
             lent = self.pointers[pointer]
-            self.held[statement.place] = self.held[lent]
+            again = self.function.locals[statement.place].mutable
+            self.held[statement.place] = self.held[lent] if again else walk.Lent(self.held[lent])
             self.steps.append(Relent(lent, pointer, statement.place))
         else:
             raise SystemExit(f"a statement of another form: {statement}")
@@ -88,7 +98,8 @@ class Line(walk.Walk):
         self.over_params()
         self.line("    -- what each call is handed")
         for call in self.calls:
-            binders = "".join(f"({value.name} : {walk.denoted(value.type)}) → " for value in call.earlier)
+            binders = "".join(f"({value.lifetime_made} : ℕ) → ({value.name_made} : GName) → " for value in call.lent)
+            binders += "".join(f"({value.name} : {walk.denoted(value.type)}) → " for value in call.earlier)
             self.line(f"    abbrev to-{call.result.name} : {binders}{call.callee.its} .Ghost", f"    {call.binds} = {self.ghost(call.handed)}", "")
         self.over_tables()
         self.starts()
@@ -98,9 +109,11 @@ class Line(walk.Walk):
             if isinstance(step, Relent):
                 lines += self.relent(step, context)
             else:
+                lines += self.lending(step, context)
                 lines += self.called(step, context)
-                opened += 1 + self.settle_lasts(step, context, lines, lasts)
+                opened += 1 + 2 * len(step.lent) + self.settle_lasts(step, context, lines, lasts)
                 lines.append(f"land ! (into !) (init ! {context.at(f'_{step.statement.result}')} refl {step.result.typed}) $")
+                lines += self.taking_back(step, context)
         lines.append(f"returns ! (look ! {context.at('_0')} refl) $")
         lines += self.leaving(context, self.calls[-1].result, self.config["ends"], lasts)
         lines[-1] += ")" * opened
@@ -116,12 +129,35 @@ class Line(walk.Walk):
         lent = any(value.is_mut for value in call.handed)
         step = "calls-lent" if lent else "calls-held"
         lines = [
-            f"-- {name} is {callee.path}({', '.join(value.name for value in call.handed)})",
+            f"-- {name} is {callee.path}({', '.join(getattr(value, 'lender', value).name for value in call.handed)})",
             steps,
             f"{step} ! fm {callee.alias}.ended {callee.clauses} (known .{callee.alias}) {walk.atom(call.binds)} {asked} {walk.held(call.result.type)} (λ r ws. id⊢ 𝓤 _)",
             f"{self.operands(context, call.statement.operands)} (λ {name}{f' ws-{name}' if lent else ''} is-{name} in-{name}.",
         ]
         context.replace_front(1, [*tokens, "lasts"] if lent else tokens)
+        return lines
+
+    def lending(self, call, context):
+        """The steps by which `&mut` slices are lent as `&` for a call."""
+        lines = []
+        for value in call.lent:
+            context.names.insert(0, value.token)
+            front = context.to_front([value.lender.owned, value.lender.token])
+            context.replace_front(2, [value.owned, value.kept])
+            lines.append(f"lft-new ! tt (λ {value.lifetime_made}. {front}lends-shared ! tt {value.loan} (λ {value.name_made}.")
+        return lines
+
+    def taking_back(self, call, context):
+        """The steps by which they come back: the lifetime that was made for the call ends."""
+        lines = []
+        for value in call.lent:
+            steps = context.to_front([value.owned]) + "drop ! $ "
+            context.replace_front(1, [])
+            steps += context.to_front([value.token]) + "lft-end ! tt $ "
+            context.replace_front(1, [value.dead])
+            steps += context.to_front([value.dead, value.kept]) + f"shared-back ! tt {value.loan} $"
+            context.replace_front(2, [value.lender.owned, value.lender.token])
+            lines.append(steps)
         return lines
 
     def settle_lasts(self, call, context, lines, lasts):

@@ -1,0 +1,87 @@
+-- What the loops over all entries come to: the definitions. And whether a contact's entry is found.
+-- Assumes nothing.
+use Prim.Native.Nat.{ℕ, zero, suc, _+_, _-_, _^_, _≤_, _<_}
+use native.Mathlib.Omega.{arith}
+use mathlib.Core.List.{List, [], _∷_, foldl}
+use mathlib.Core.Bool.{Bool, true, false, cond, _||_}
+use mathlib.Core.Option.{none, some}
+use mathlib.Core.Path.{_≡_, refl, _∙_, ap}
+use lib.ListN.{length}
+use Rattle.rows.specs.Checks.{any}
+use Rattle.store.specs.declared.Entry.{Entry}
+use Rattle.store.specs.Kinds.{CONTACT, QUEUED}
+use Rattle.store.specs.Store.{entryAt, isOf, anyBelow, before}
+use Rattle.ledger.specs.Step.{contactIn}
+use Rattle.line.specs.Line.{queuedOf}
+use Rattle.sought.specs.Sought.{soughtOf, soughtIn, isAmong, queuedAmong, soughtNext, queuedNext, amongNext}
+
+-- ---- a contact's first entry: what is found stays
+found-stays : (k : ℕ) (e : Entry) (es : List Entry) → foldl (soughtNext k) (soughtOf (some e)) es ≡ soughtOf (some e)
+found-stays k e [] = refl
+found-stays k e (x ∷ es) = found-stays k e es
+
+pub sought-is : (k : ℕ) (es : List Entry) → foldl (soughtNext k) (soughtOf none) es ≡ soughtIn es k
+sought-is k [] = refl
+sought-is k (e ∷ es) = go (isOf CONTACT k e) (sought-is k es)
+  where
+    go : (b : Bool) → foldl (soughtNext k) (soughtOf none) es ≡ soughtIn es k
+        → foldl (soughtNext k) (cond b (soughtOf (some e)) (soughtOf none)) es ≡ soughtOf (cond b (some e) (contactIn es k))
+    go true later = found-stays k e es
+    go false later = later
+
+-- found is whether an entry of the contact is among them
+any-front : (n : ℕ) (p : ℕ → Bool) → anyBelow (suc n) p ≡ (p 0 || anyBelow n (λ j. p (suc j)))
+any-front zero p = refl
+any-front (suc n) p = ap (λ b. p (suc n) || b) (any-front n p) ∙ swapped (p (suc n)) (p 0) (anyBelow n (λ j. p (suc j)))
+  where
+    swapped : (a b c : Bool) → (a || (b || c)) ≡ (b || (a || c))
+    swapped true true c = refl
+    swapped true false c = refl
+    swapped false true c = refl
+    swapped false false c = refl
+
+pub found-is : (k : ℕ) (es : List Entry) → soughtIn es k .found ≡ before es (length es) CONTACT k
+found-is k [] = refl
+found-is k (e ∷ es) = rw (any-front (length es) (λ j. isOf CONTACT k (entryAt (e ∷ es) j))) (go (isOf CONTACT k e) (found-is k es))
+  where
+    go : (b : Bool) → soughtIn es k .found ≡ before es (length es) CONTACT k → soughtOf (cond b (some e) (contactIn es k)) .found ≡ (b || before es (length es) CONTACT k)
+    go true later = refl
+    go false later = later
+
+-- ---- queued rows counted: no more than there are entries
+queued-from : (k n : ℕ) (es : List Entry) → foldl (queuedNext k) n es ≡ n + queuedOf k es
+queued-from k n [] = omega arith
+queued-from k n (e ∷ es) = go (isOf QUEUED k e) (λ m. queued-from k m es)
+  where
+    go : (b : Bool) → ((m : ℕ) → foldl (queuedNext k) m es ≡ m + queuedOf k es) → foldl (queuedNext k) (cond b (n + 1) n) es ≡ n + cond b (suc (queuedOf k es)) (queuedOf k es)
+    go true later = omega (arith, later (n + 1))
+    go false later = later n
+
+pub queued-is : (k : ℕ) (es : List Entry) → foldl (queuedNext k) 0 es ≡ queuedOf k es
+queued-is k es = let from = queued-from k 0 es in omega arith
+
+pub none-queued : 0 ≤ 0
+none-queued = omega arith
+
+pub one-fits : (i count n : ℕ) → n ≤ i → i < count → count < 2 ^ 64 → n < 2 ^ 64 - 1
+one-fits i count n l b f = omega arith
+
+pub one-more : (k i n next : ℕ) (e : Entry) → n ≤ i → next ≡ queuedNext k n e → next ≤ i + 1
+one-more k i n next e l is = go (isOf QUEUED k e) is
+  where
+    go : (b : Bool) → next ≡ cond b (n + 1) n → next ≤ i + 1
+    go true p = omega arith
+    go false p = omega arith
+
+-- ---- a queued row among numbers
+among-stays : (k : ℕ) (numbers : List ℕ) (es : List Entry) → foldl (amongNext k numbers) true es ≡ true
+among-stays k numbers [] = refl
+among-stays k numbers (e ∷ es) = among-stays k numbers es
+
+pub among-is : (k : ℕ) (numbers : List ℕ) (es : List Entry) → foldl (amongNext k numbers) false es ≡ queuedAmong k numbers es
+among-is k numbers [] = refl
+among-is k numbers (e ∷ es) = go (isAmong k numbers e) (among-is k numbers es)
+  where
+    go : (b : Bool) → foldl (amongNext k numbers) false es ≡ queuedAmong k numbers es → foldl (amongNext k numbers) b es ≡ (b || queuedAmong k numbers es)
+    go true later = among-stays k numbers es
+    go false later = later

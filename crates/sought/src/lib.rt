@@ -1,0 +1,216 @@
+// What is looked for among lent entries: a contact's entry, and its queued ones. Each search is a loop over all entries with one call in its turn.
+use store::Entry;
+ghost use mathlib.Core.Path.{_≡_};
+ghost use mathlib.Core.List.{foldl};
+ghost use mathlib.Core.Bool.{false};
+ghost use mathlib.Core.Option.{none};
+ghost use Prim.Native.Nat.{_-_, _^_, _<_};
+ghost use lib.ListN.{length, take};
+ghost use lib.Dec.{eqb};
+ghost use Rattle.rows.specs.Checks.{any};
+ghost use Rattle.store.specs.Kinds.{QUEUED};
+ghost use Rattle.store.specs.Store.{entryAt, isOf};
+ghost use Rattle.line.specs.Line.{queuedOf};
+ghost use Rattle.sought.specs.Sought.{soughtOf, soughtIn, queuedAmong, Rises, soughtNext, queuedNext, amongNext};
+
+// A contact's entry; all zeros where there is none.
+pub struct Sought {
+    pub entry: Entry,
+    pub found: bool,
+}
+
+// ---- a contact's first entry
+
+fn none_yet() -> Sought
+    ensures { λ r. ⌜ r ≡ soughtOf none ⌝ }
+{
+    let entry = Entry {
+        id: 0,
+        start: 0,
+        len: 0,
+        msgno: 0,
+        version: 0,
+        kind: 0,
+    };
+    Sought {
+        entry,
+        found: false,
+    }
+}
+
+fn contact_next(e: Entry, id: u64, sought: Sought) -> Sought
+    ensures { λ r. ⌜ r ≡ soughtNext id sought e ⌝ }
+{
+    if sought.found {
+        return sought;
+    }
+    if e.kind != store::CONTACT {
+        return sought;
+    }
+    if e.id != id {
+        return sought;
+    }
+    Sought {
+        entry: e,
+        found: true,
+    }
+}
+
+fn contact_at(entries: &[Entry], id: u64, i: usize, sought: Sought) -> Sought
+    requires { ⌜ i < length (now entries) ⌝ }
+    ensures { λ r. ⌜ r ≡ soughtNext id sought (entryAt (now (entries .entry)) i) ⌝ }
+{
+    let e = entries::entry_at(entries, i);
+    contact_next(e, id, sought)
+}
+
+fn contact_from(entries: &[Entry], id: u64, count: usize, begun: Sought) -> Sought
+    requires { ⌜ count ≡ length (now entries) ⌝ }
+    ensures { λ r. ⌜ r ≡ foldl (soughtNext id) begun (now (entries .entry)) ⌝ }
+{
+    let mut i = 0;
+    let mut sought = begun;
+    while i < count {
+        sought = contact_at(entries, id, i, sought);
+        i = i + 1;
+    }
+    sought
+}
+
+// The first entry of this contact.
+pub fn contact_in(entries: &[Entry], id: u64) -> Sought
+    ensures { λ r. ⌜ r ≡ soughtIn (now (entries .entry)) id ⌝ }
+{
+    let n = entries::entry_count(entries);
+    let begun = none_yet();
+    contact_from(entries, id, n, begun)
+}
+
+// ---- how many rows of a contact are queued
+
+fn is_queued(e: Entry, id: u64) -> bool
+    ensures { λ r. ⌜ r ≡ isOf QUEUED id e ⌝ }
+{
+    if e.kind != store::QUEUED {
+        return false;
+    }
+    e.id == id
+}
+
+// The loop has counted fewer rows than there are entries, so one more fits.
+fn queued_next(e: Entry, id: u64, queued: u64) -> u64
+    requires { ⌜ queued < 2 ^ 64 - 1 ⌝ }
+    ensures { λ r. ⌜ r ≡ queuedNext id queued e ⌝ }
+{
+    if is_queued(e, id) {
+        return queued + 1;
+    }
+    queued
+}
+
+fn queued_at(entries: &[Entry], id: u64, i: usize, queued: u64) -> u64
+    requires { ⌜ (i < length (now entries)) × (queued < 2 ^ 64 - 1) ⌝ }
+    ensures { λ r. ⌜ r ≡ queuedNext id queued (entryAt (now (entries .entry)) i) ⌝ }
+{
+    let e = entries::entry_at(entries, i);
+    queued_next(e, id, queued)
+}
+
+fn queued_from(entries: &[Entry], id: u64, count: usize) -> u64
+    requires { ⌜ count ≡ length (now entries) ⌝ }
+    ensures { λ r. ⌜ r ≡ foldl (queuedNext id) 0 (now (entries .entry)) ⌝ }
+{
+    let mut i = 0;
+    let mut queued = 0;
+    while i < count {
+        queued = queued_at(entries, id, i, queued);
+        i = i + 1;
+    }
+    queued
+}
+
+pub fn queued_of(entries: &[Entry], id: u64) -> u64
+    ensures { λ r. ⌜ r ≡ queuedOf id (now (entries .entry)) ⌝ }
+{
+    let n = entries::entry_count(entries);
+    queued_from(entries, id, n)
+}
+
+// ---- whether a queued row of a contact has one of its unacked numbers
+
+// How many of the first `count` numbers there are.
+fn held(numbers: &[u32], count: usize) -> usize
+    ensures { λ r. ⌜ r ≡ length (take count (now (numbers .entry))) ⌝ }
+{
+    let lent = numbers.len();
+    if lent < count { lent } else { count }
+}
+
+// By halves: right where the numbers rise.
+fn is_among(numbers: &[u32], count: usize, msgno: u32) -> bool
+    ensures { λ r. ⌜ (Rises (take count (now (numbers .entry))) → r ≡ any (eqb msgno) (take count (now (numbers .entry)))) ⌝ }
+{
+    let mut low: usize = 0;
+    let mut high = held(numbers, count);
+    while low < high {
+        let mid = low + (high - low) / 2;
+        let number = numbers[mid];
+        if number == msgno {
+            return true;
+        }
+        if number < msgno {
+            low = mid + 1;
+        } else {
+            high = mid;
+        }
+    }
+    false
+}
+
+fn among_next(e: Entry, id: u64, unacked: &[u32], count: usize, found: bool) -> bool
+    ensures { λ r. ⌜ (Rises (take count (now (unacked .entry))) → r ≡ amongNext id (take count (now (unacked .entry))) found e) ⌝ }
+{
+    if found {
+        return true;
+    }
+    if is_queued(e, id) {
+        return is_among(unacked, count, e.msgno);
+    }
+    false
+}
+
+fn among_at(
+    entries: &[Entry],
+    id: u64,
+    unacked: &[u32],
+    count: usize,
+    i: usize,
+    found: bool,
+) -> bool
+    requires { ⌜ i < length (now entries) ⌝ }
+    ensures { λ r. ⌜ (Rises (take count (now (unacked .entry))) → r ≡ amongNext id (take count (now (unacked .entry))) found (entryAt (now (entries .entry)) i)) ⌝ }
+{
+    let e = entries::entry_at(entries, i);
+    among_next(e, id, unacked, count, found)
+}
+
+fn among_from(entries: &[Entry], id: u64, unacked: &[u32], count: usize, n: usize) -> bool
+    requires { ⌜ n ≡ length (now entries) ⌝ }
+    ensures { λ r. ⌜ (Rises (take count (now (unacked .entry))) → r ≡ foldl (amongNext id (take count (now (unacked .entry)))) false (now (entries .entry))) ⌝ }
+{
+    let mut i = 0;
+    let mut found = false;
+    while i < n {
+        found = among_at(entries, id, unacked, count, i, found);
+        i = i + 1;
+    }
+    found
+}
+
+// Whether a queued row of this contact has one of the first `count` unacked numbers, where these rise. A count above the list's length counts as the length.
+pub fn queued_among(entries: &[Entry], id: u64, unacked: &[u32], count: usize) -> bool
+    ensures { λ r. ⌜ (Rises (take count (now (unacked .entry))) → r ≡ queuedAmong id (take count (now (unacked .entry))) (now (entries .entry))) ⌝ }
+{
+    let n = entries::entry_count(entries);
+    among_from(entries, id, unacked, count, n)
+}

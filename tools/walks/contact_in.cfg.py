@@ -1,0 +1,9 @@
+crate = "sought"
+fn = "contact_in"
+requires = {"r": "is-n"}
+ends = "is-r ∙ (ap (λ b. foldl (soughtNext id) b (now entries)) is-begun ∙ sought-is id (now entries))"
+uses = [
+    "use mathlib.Core.List.{foldl}",
+    "use Rattle.sought.specs.Sought.{soughtNext}",
+    "use Rattle.sought.proofs.Laws.{sought-is}",
+]
