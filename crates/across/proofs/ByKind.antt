@@ -9,13 +9,13 @@ use native.Mathlib.Omega.{arith}
 use lib.ListN.{length}
 use lib.Dec.{leb, ltb, eqb}
 use Rattle.layout.specs.Questions.{«CONTACT_BELOW_NEXT», «CONTACT_NEW», «QUEUED_CONTACT», «QUEUED_MSGNO», «QUEUED_UNACKED», «QUEUED_NEW», DEPOSITOR, «SLOT_NEW», «SLOT_BELOW_LAST»}
-use Rattle.layout.specs.Layout.{readRow, present}
+use Rattle.layout.specs.Layout.{present}
 use Rattle.rows.specs.Checks.{any}
 use Rattle.store.specs.declared.Entry.{Entry}
 use Rattle.store.specs.declared.Aside.{Aside}
 use Rattle.store.specs.declared.Asked.the-variants as so
 use Rattle.store.specs.Rounds.{ask, firstNo, turn, turns}
-use Rattle.store.specs.Kinds.{DEVICE, CONTACT, QUEUED, COURIER, Kind, device, contact, queued, courier, unknown, kindOf, layoutOf, Seen, seenOf}
+use Rattle.store.specs.Kinds.{DEVICE, CONTACT, QUEUED, COURIER, Kind, device, contact, queued, courier, unknown, kindOf, Seen}
 use Rattle.store.specs.Store.{entryAt, partOf, nextIn, lowDepositor, lastSlot}
 use Rattle.store.specs.Find.{firstOf}
 use Rattle.store.specs.Walk.{begin, lookup, movedAs, kept, seenAt, walkAs, keep}

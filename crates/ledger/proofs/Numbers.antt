@@ -64,7 +64,7 @@ abbrev AllNone : List (Option ℕ) → Type 0
 AllNone [] = Unit {0}
 AllNone (a ∷ os) = (a ≡ none) × AllNone os
 
-first-none : (a b : Option ℕ) → first a b ≡ none → (a ≡ none) × (b ≡ none)
+pub first-none : (a b : Option ℕ) → first a b ≡ none → (a ≡ none) × (b ≡ none)
 first-none none b h = (refl, h)
 first-none (some q) b h = absurd (let z : _≡_ {A = ℕ} 0 1 = cc in omega arith)
 

@@ -1,0 +1,110 @@
+-- What the parts of question 34 answer, together: it is the question.
+-- Assumes nothing.
+use Prim.Native.Nat.{ℕ, _+_}
+use mathlib.Core.List.{List, [], _∷_}
+use mathlib.Core.Bool.{Bool, true, false, cond, _&&_, not, false≢true}
+use mathlib.Core.Option.{none}
+use mathlib.Core.Path.{_≡_, refl, sym, ap, _∙_, subst}
+use lib.Dec.{T}
+use lib.ListN.{length, take}
+use Rattle.layout.specs.Questions.{LISTS, «PEER_ACKED», UNACKED, ABOVE, EXPIRED}
+use Rattle.layout.specs.Layout.{Answer, accepted, refusedBy, readRow}
+use Rattle.layout.specs.Write as write
+use Rattle.rows.specs.Values as value
+use Rattle.rows.specs.Rows as rows
+use Rattle.rows.specs.Checks.{ackedSent, rising, canonical, noneAbove}
+use Rattle.received.proofs.Tests.{either}
+use Rattle.contact.specs.Consistent.{chainsRefusal, numbersRefusal, inconsistency}
+use Rattle.contact.specs.Contact.{Lists}
+use Rattle.contact.specs.declared.Contact.{Contact}
+use Rattle.contact_put.specs.Row as row
+use Rattle.contact_put.specs.Row.{counted, image, contactIn, askedContact, ContactTyped, ListsTyped}
+use Rattle.contact_put.proofs.Counts.{all-counted}
+use Rattle.contact_laws.proofs.RoundTrip.{image-consistent}
+use Rattle.store.specs.declared.Entry.{Entry}
+use Rattle.store.specs.declared.Asked.{Asked}
+use Rattle.store.specs.declared.Asked.the-variants.{Going, Refused}
+use Rattle.store.specs.declared.Aside.{Aside}
+use Rattle.store.specs.declared.Aside.the-variants as left
+use Rattle.store.specs.Rounds.{ask}
+use Rattle.store.specs.Kinds.{CONTACT}
+use Rattle.store.specs.Store.{storeOf, isOf, before, asked, found, outcome, restore, going, storePasses, replacedPasses}
+use Rattle.store.specs.Aside.{isAside, asideSeen, askedAside}
+use Rattle.store.proofs.Tests.{all-yes}
+use Rattle.across.specs.declared.Across.{Across}
+use Rattle.across.specs.At.{askedOf}
+use Rattle.restore.specs.declared.Restored.{Restored}
+use Rattle.restore.specs.Restored.{answered, Questioned}
+use Rattle.ledger.specs.declared.Mark.the-variants.{Fresh}
+use Rattle.ledger.specs.Call.{Hand}
+use Rattle.ledger.specs.Aside.{sightOf, isLength, passesInParts}
+use Rattle.ledger.proofs.Numbers.{first-none}
+use Rattle.ledger.proofs.Aside.{passes-in-parts}
+use Rattle.sought.specs.declared.Sought.{Sought}
+use Rattle.sought.specs.Sought.{soughtIn, queuedAmong, Rises}
+use Rattle.sought.proofs.Laws.{found-is}
+use Rattle.passes.specs.Passes.{isGranted, Writable}
+use Rattle.passes.proofs.Among.{sight, asked-apart}
+
+-- ---- the store as it stands
+pub store-is : (run : List ℕ) (es : List Entry) (restored : Restored) (r : Bool) → restored ≡ answered (restore (storeOf run es)) → r ≡ isGranted restored → r ≡ storePasses run es
+store-is run es restored r is-restored is-r = is-r ∙ ap isGranted is-restored ∙ granted (asked (storeOf run es))
+  where
+    granted : (a : Asked) → isGranted (answered (outcome a (found (storeOf run es)))) ≡ going a
+    granted Going = refl
+    granted (Refused number place) = refl
+
+-- ---- fields that could be written have unacked numbers that rise
+unacked-rise : (v : value.Contact) → inconsistency v ≡ none → T (rising 1 (v .«sent_msgno») (v .unacked))
+unacked-rise v e =
+    all-yes (
+    ask «PEER_ACKED» (ackedSent (v .«peer_acked») (v .«sent_msgno»))
+    ∷ ask UNACKED (rising 1 (v .«sent_msgno») (v .unacked))
+    ∷ ask ABOVE (canonical (v .contiguous + 2) (v .above))
+    ∷ ask EXPIRED (canonical 1 (v .expired) && noneAbove (v .«sent_msgno») (v .expired))
+    ∷ [])
+    (first-none (chainsRefusal (v .chains) (v .skipped)) (numbersRefusal (v .«sent_msgno») (v .«peer_acked») (v .contiguous) (v .above) (v .unacked) (v .expired)) e .1) .1 .0
+
+module _ (c : Contact) (l : Lists) (ty : ContactTyped c) (lt : ListsTyped l) where
+  rises : isLength (askedContact c l) ≡ true → Rises (take (c .unacked) (l .unacked))
+  unfolding row.askedContact write.asked
+  rises e = go (counted c l) refl (readRow (rows.contact 3) (image c l)) refl e
+    where
+      go : (b : Bool) → counted c l ≡ b → (y : Answer value.Contact) → readRow (rows.contact 3) (image c l) ≡ y
+          → isLength (cond b (write.sized y (length (image c l))) (write.refuses LISTS)) ≡ true → Rises (take (c .unacked) (l .unacked))
+      go true counts (accepted u) read p = record { highest = c .«sent_msgno»; rises = unacked-rise (contactIn c l) (image-consistent c l ty lt (all-counted c l counts) u read) }
+      go true counts (refusedBy q) read p = absurd (false≢true p)
+      go false counts y read p = absurd (false≢true p)
+
+-- ---- opened fields in place of a contact's row
+module _ (run : List ℕ) (es : List Entry) (id : ℕ) (c : Contact) (l : Lists) where
+  abbrev hand : Hand
+  hand = record { mark = Fresh; run = run; entries = es; contact = c; lists = l; out = [] }
+
+  pub still-is : (writable : Bool) (sought : Sought) (aside : Aside) (end : Across) (count : ℕ) (among r : Bool)
+      → Writable c l writable → sought ≡ soughtIn es id → aside ≡ left.Contact id (c .«sent_msgno») → Questioned run es aside end → count ≡ c .unacked
+      → (Rises (take count (l .unacked)) → among ≡ queuedAmong id (take count (l .unacked)) es)
+      → r ≡ (writable && (sought .found && (going (askedOf end) && not among)))
+      → r ≡ (counted c l && replacedPasses run es id (image c l))
+  still-is writable sought aside end count among r is-writable is-sought is-aside is-end is-count is-among is-r =
+      is-r ∙ (λ k. is-writable .asked k && (there k && (going (askedOf end) && not among))) ∙ in-parts ∙ sym (passes-in-parts id hand (is-writable .contact) (is-writable .lists))
+    where
+      there : sought .found ≡ before es (length es) CONTACT id
+      there = ap (λ (s : Sought). s .found) is-sought ∙ found-is id es
+
+      going-is : askedOf end ≡ askedAside run es (isOf CONTACT id) (sight run es id (c .«sent_msgno») [])
+      going-is = subst (λ (a : Aside). askedOf end ≡ askedAside run es (isAside a) (asideSeen a)) is-aside (is-end .asked)
+
+      among-is : isLength (askedContact c l) ≡ true → among ≡ queuedAmong id (take (c .unacked) (l .unacked)) es
+      among-is t =
+          subst (λ (n : ℕ). Rises (take n (l .unacked)) → among ≡ queuedAmong id (take n (l .unacked)) es) is-count is-among
+          (rises c l (is-writable .contact) (is-writable .lists) t)
+
+      in-parts : isLength (askedContact c l) && (before es (length es) CONTACT id && (going (askedOf end) && not among)) ≡ passesInParts id hand
+      in-parts =
+          either (isLength (askedContact c l))
+          (λ b. (b && (before es (length es) CONTACT id && (going (askedOf end) && not among)))
+          ≡ (b && (before es (length es) CONTACT id && going (askedAside run es (isOf CONTACT id) (sightOf c l)))))
+          (λ t. ap (λ (x : Bool). before es (length es) CONTACT id && x)
+          ((λ k. going (going-is k) && not (among-is t k)) ∙ sym (asked-apart run es id (c .«sent_msgno») (take (c .unacked) (l .unacked)))))
+          (λ f. refl)
