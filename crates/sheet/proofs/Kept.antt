@@ -1,0 +1,100 @@
+-- No byte changes anything behind the largest room.
+-- Assumes nothing.
+use Prim.Native.Nat.{ℕ, suc, _+_, _*_, _/_, _%_, _≤_}
+use mathlib.Core.List.{List, [], _∷_}
+use mathlib.Core.Bool.{Bool, true, false, cond, _&&_}
+use mathlib.Core.Path.{_≡_, refl, _∙_}
+use native.Mathlib.Omega.{arith}
+use lib.ListN.{length, drop, set, length-set}
+use lib.Seq.{drop-set-lt}
+use lib.Dec.{leb, ltb, eqb}
+use borrow.Author.Tests.{ltb-true}
+use Rattle.line.specs.Line.{LF, COMMA}
+use Rattle.put.specs.Put as storing
+use Rattle.put.specs.Put.{put}
+use Rattle.put.proofs.Put.{length-put}
+use Rattle.sheet.specs.declared.State.{State}
+use Rattle.sheet.specs.Blob.{isHex, hexValue}
+use Rattle.sheet.specs.Sheet.{«BLOB_BYTES», LINES}
+use Rattle.sheet.specs.Machine as machine
+use Rattle.sheet.specs.Machine.{HIGH, LOW, REFUSED, roomFor, bytesIn, linesIn, lowRun, lowStep, six, closedPlaces, endPlaces, endStep, commaStep, highStep, otherStep, Held, held, stepped, fed}
+use Rattle.sheet.specs.Proved.{Kept}
+
+-- a list with all behind the first n as it was
+record Same (n : ℕ) (l m : List ℕ) : Type 0 where
+  long : length m ≡ length l
+  behind : drop n m ≡ drop n l
+
+same : (n : ℕ) (l : List ℕ) → Same n l l
+same n l = record { long = refl; behind = refl }
+
+drop-put : (n : ℕ) (l : List ℕ) (at : ℕ) (bs : List ℕ) → at + length bs ≤ n → drop n (put l at bs) ≡ drop n l
+unfolding storing.put
+drop-put n l at [] h = refl
+drop-put n l at (b ∷ bs) h = drop-put n (set l at b) (suc at) bs (omega arith) ∙ drop-set-lt n l at b (omega arith)
+
+pub room-most : (most lent : ℕ) → roomFor most lent ≤ most
+room-most most lent = go (ltb lent most) refl
+  where
+    go : (t : Bool) → ltb lent most ≡ t → cond t lent most ≤ most
+    go true e = omega (arith, ltb-true lent most e)
+    go false e = omega arith
+
+same-run : (b : ℕ) (s : State) (run : List ℕ) → Same «BLOB_BYTES» run (lowRun (bytesIn run) b s run)
+unfolding machine.lowRun
+same-run b s run = go (isHex b) (ltb (s .used) (bytesIn run)) refl
+  where
+    go : (i t : Bool) → ltb (s .used) (bytesIn run) ≡ t → Same «BLOB_BYTES» run (cond i (cond t (set run (s .used) (s .digit % 16 * 16 + hexValue b)) run) run)
+    go false t e = same «BLOB_BYTES» run
+    go true false e = same «BLOB_BYTES» run
+    go true true e = record {
+      long = length-set run (s .used) (s .digit % 16 * 16 + hexValue b);
+      behind = drop-set-lt «BLOB_BYTES» run (s .used) (s .digit % 16 * 16 + hexValue b) (omega (arith, ltb-true (s .used) (bytesIn run) e, room-most «BLOB_BYTES» (length run)));
+    }
+
+same-places : (bytes : ℕ) (s : State) (places : List ℕ) → Same (6 * LINES) places (endPlaces bytes (linesIn places) s places)
+unfolding machine.endPlaces machine.closedPlaces
+same-places bytes s places = go (eqb (s .phase) HIGH) (leb (s .used) bytes) (ltb (s .lines) (linesIn places)) refl
+  where
+    go : (h f t : Bool) → ltb (s .lines) (linesIn places) ≡ t → Same (6 * LINES) places (cond h (cond (f && t) (put places (6 * s .lines) (six s)) places) places)
+    go false f t e = same (6 * LINES) places
+    go true false t e = same (6 * LINES) places
+    go true true false e = same (6 * LINES) places
+    go true true true e = record {
+      long = length-put places (6 * s .lines) (six s);
+      behind = drop-put (6 * LINES) places (6 * s .lines) (six s) (omega (arith, ltb-true (s .lines) (linesIn places) e, room-most LINES (length places / 6)));
+    }
+
+kept-one : (b : ℕ) (h : Held) → Kept h (stepped b h)
+unfolding machine.stepped
+kept-one b (held s run places) = go (eqb (s .phase) REFUSED) (eqb b LF) (eqb b COMMA) (eqb (s .phase) HIGH) (eqb (s .phase) LOW)
+  where
+    both : {run2 places2 : List ℕ} {t : State} → Same «BLOB_BYTES» run run2 → Same (6 * LINES) places places2 → Kept (held s run places) (held t run2 places2)
+    both r p = record { run-long = r .long; run-behind = r .behind; places-long = p .long; places-behind = p .behind }
+
+    go : (x lf c h l : Bool) → Kept (held s run places)
+        (cond x (held s run places)
+        (cond lf (held (endStep (bytesIn run) (linesIn places) s) run (endPlaces (bytesIn run) (linesIn places) s places))
+        (cond c (held (commaStep s) run places)
+        (cond h (held (highStep b s) run places)
+        (cond l (held (lowStep (bytesIn run) b s) (lowRun (bytesIn run) b s run) places)
+        (held (otherStep b s) run places))))))
+    go true lf c h l = both (same «BLOB_BYTES» run) (same (6 * LINES) places)
+    go false true c h l = both (same «BLOB_BYTES» run) (same-places (bytesIn run) s places)
+    go false false true h l = both (same «BLOB_BYTES» run) (same (6 * LINES) places)
+    go false false false true l = both (same «BLOB_BYTES» run) (same (6 * LINES) places)
+    go false false false false true = both (same-run b s run) (same (6 * LINES) places)
+    go false false false false false = both (same «BLOB_BYTES» run) (same (6 * LINES) places)
+
+pub kept-all : (bs : List ℕ) (h : Held) → Kept h (fed bs h)
+unfolding machine.fed
+kept-all [] h = record { run-long = refl; run-behind = refl; places-long = refl; places-behind = refl }
+kept-all (b ∷ bs) h =
+    let one = kept-one b h in
+    let more = kept-all bs (stepped b h) in
+    record {
+      run-long = more .run-long ∙ one .run-long;
+      run-behind = more .run-behind ∙ one .run-behind;
+      places-long = more .places-long ∙ one .places-long;
+      places-behind = more .places-behind ∙ one .places-behind;
+    }

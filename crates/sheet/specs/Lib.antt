@@ -1,0 +1,5 @@
+pub mod Decimal
+pub mod Blob
+pub mod Sheet
+pub mod Machine
+pub mod Proved

@@ -1,0 +1,472 @@
+// The sheet, read byte by byte (questions 41 to 44): lines `D,version,blob`, `C,contact,version,blob`, `Q,contact,msgno,version,blob`,
+// `K,slot,version,blob`, each with its LF. A chunk of any length may be handed in at a time; the state is all that is kept between chunks.
+// Blob bytes go to a lent run, and of each line six numbers go to lent places: kind, id, start, length, msgno, version.
+// 41 is answered as soon as it is sure. 42 and 43 wait for the line's end, since its later bytes can still make it 41.
+use layout::question;
+ghost use mathlib.Core.Path.{_≡_};
+ghost use mathlib.Core.Bool.{true};
+ghost use mathlib.Core.List.{[], _∷_};
+ghost use Prim.Native.Nat.{_+_, _-_, _*_, _/_, _<_, _≤_};
+ghost use lib.ListN.{length};
+ghost use Rattle.line.specs.Line.{isDigit};
+ghost use Rattle.put.specs.Put.{put};
+ghost use Rattle.sheet.specs.Blob.{isHex, hexValue};
+ghost use Rattle.sheet.specs.Sheet.{U32, shapeOf, «BLOB_BYTES»};
+ghost use Rattle.sheet.specs.Machine.{atLine, waiting, stopped, begun, begunAs, highestAt, digitStep, numberStep, taken, commaStep, highStep, roomFor, bytesIn, linesIn, lowStep, lowRun, idIn, msgnoIn, six, closed, closedPlaces, endStep, endPlaces, otherStep, held, stepped, fed, answerOf};
+
+const LF: u8 = 0x0A;
+
+const COMMA: u8 = 0x2C;
+
+const LETTER_D: u8 = 0x44;
+
+const LETTER_C: u8 = 0x43;
+
+const LETTER_Q: u8 = 0x51;
+
+const LETTER_K: u8 = 0x4B;
+
+// The most blob bytes and lines of a sheet.
+pub const BLOB_BYTES: usize = 61440;
+
+pub const LINES: usize = 512;
+
+// How many numbers stand in the places for a line.
+pub const PLACE: usize = 6;
+
+// Where in a line the reader stands: before its letter and behind it, before a decimal and in it, in the blob between pairs and within one, in a line
+// that 42 or 43 refuses unless 41 does, behind a refusal.
+const START: u8 = 0;
+
+const LETTER: u8 = 1;
+
+const FIRST: u8 = 2;
+
+const NUMBER: u8 = 3;
+
+const HIGH: u8 = 4;
+
+const LOW: u8 = 5;
+
+const WAIT: u8 = 6;
+
+const REFUSED: u8 = 7;
+
+// What is kept between bytes. Fields stand from wide to narrow, so that no padding lies between them.
+pub struct State {
+    // the last three decimals of the line
+    pub oldest: u64,
+    pub older: u64,
+    pub newest: u64,
+    // the decimal that is being read
+    pub number: u64,
+    // the lines read
+    pub lines: usize,
+    // where the line's blob starts in the run, and where its next byte goes
+    pub start: usize,
+    pub used: usize,
+    pub kind: u8,
+    // the decimals to come
+    pub left: u8,
+    // the first digit of a pair
+    pub digit: u8,
+    pub refusal: u8,
+    pub phase: u8,
+}
+
+pub enum Answer {
+    // so many lines and blob bytes
+    Read(usize, usize),
+    // the question's number, and the line's from 1
+    Refused(u8, usize),
+}
+
+fn at_line(lines: usize, used: usize) -> State
+    ensures { λ r. ⌜ r ≡ atLine lines used ⌝ }
+{
+    State {
+        oldest: 0,
+        older: 0,
+        newest: 0,
+        number: 0,
+        lines,
+        start: used,
+        used,
+        kind: 0,
+        left: 0,
+        digit: 0,
+        refusal: 0,
+        phase: START,
+    }
+}
+
+// Before a sheet.
+pub fn begin() -> State
+    ensures { λ r. ⌜ r ≡ atLine 0 0 ⌝ }
+{
+    at_line(0, 0)
+}
+
+// Of a line that is refused at its end, by this question or by 41, the decimals to come are kept; of one that is refused, nothing.
+fn waiting(lines: usize, left: u8, question: u8) -> State
+    ensures { λ r. ⌜ r ≡ waiting lines left question ⌝ }
+{
+    let mut s = at_line(lines, 0);
+    s.left = left;
+    s.refusal = question;
+    s.phase = WAIT;
+    s
+}
+
+fn stopped(lines: usize, question: u8) -> State
+    ensures { λ r. ⌜ r ≡ stopped lines question ⌝ }
+{
+    let mut s = at_line(lines, 0);
+    s.refusal = question;
+    s.phase = REFUSED;
+    s
+}
+
+// ---- letter, comma, decimal
+
+fn begun(s: State, kind: u8, left: u8) -> State
+    ensures { λ r. ⌜ r ≡ begun kind left s ⌝ }
+{
+    let mut next = s;
+    next.kind = kind;
+    next.left = left;
+    next.phase = LETTER;
+    next
+}
+
+fn take_letter(s: State, b: u8) -> State
+    ensures { λ r. ⌜ r ≡ begunAs (shapeOf (b ∷ [])) s ⌝ }
+{
+    if b == LETTER_D {
+        return begun(s, 0, 1);
+    }
+    if b == LETTER_C {
+        return begun(s, 1, 2);
+    }
+    if b == LETTER_Q {
+        return begun(s, 2, 3);
+    }
+    if b == LETTER_K {
+        return begun(s, 3, 2);
+    }
+    stopped(s.lines, question::LINE)
+}
+
+fn highest(kind: u8, left: u8) -> u64
+    ensures { λ r. ⌜ (r ≡ highestAt kind left) × (U32 ≤ r) ⌝ }
+{
+    if left == 1 {
+        return 0xFFFFFFFF;
+    }
+    if left == 2 {
+        if kind == 2 {
+            return 0xFFFFFFFF;
+        }
+        return 0xFFFFFFFFFFFFFFFF;
+    }
+    0xFFFFFFFFFFFFFFFF
+}
+
+fn wide(b: u8) -> u64
+    ensures { λ r. ⌜ (r ≡ b) × (r ≤ 255) ⌝ }
+{
+    b as u64
+}
+
+fn is_digit(b: u8) -> bool
+    ensures { λ r. ⌜ r ≡ isDigit b ⌝ }
+{
+    if b < 0x30 {
+        return false;
+    }
+    b <= 0x39
+}
+
+fn take_digit(s: State, b: u8) -> State
+    ensures { λ r. ⌜ r ≡ digitStep b s ⌝ }
+{
+    if is_digit(b) {
+        let d = wide(b - 0x30);
+        let most = highest(s.kind, s.left);
+        let n = s.number;
+        if (most - d) / 10 < n {
+            return waiting(s.lines, s.left, question::DECIMAL);
+        }
+        let mut next = s;
+        next.number = n * 10 + d;
+        next.phase = NUMBER;
+        return next;
+    }
+    waiting(s.lines, s.left, question::DECIMAL)
+}
+
+// No digit stands behind a first 0.
+fn take_next_digit(s: State, b: u8) -> State
+    ensures { λ r. ⌜ r ≡ numberStep b s ⌝ }
+{
+    if s.number == 0 {
+        return waiting(s.lines, s.left, question::DECIMAL);
+    }
+    take_digit(s, b)
+}
+
+// Behind a decimal: the next one, or the blob.
+fn taken(s: State, left: u8) -> State
+    requires { ⌜ s .left ≡ left + 1 ⌝ }
+    ensures { λ r. ⌜ r ≡ taken s ⌝ }
+{
+    let mut next = s;
+    next.oldest = s.older;
+    next.older = s.newest;
+    next.newest = s.number;
+    next.number = 0;
+    next.left = left;
+    if s.left == 1 {
+        next.phase = HIGH;
+        return next;
+    }
+    next.phase = FIRST;
+    next
+}
+
+// A comma behind a letter or a decimal; any other is one too many.
+fn take_comma(s: State) -> State
+    ensures { λ r. ⌜ r ≡ commaStep s ⌝ }
+{
+    if s.phase == LETTER {
+        let mut next = s;
+        next.phase = FIRST;
+        return next;
+    }
+    if s.left == 0 {
+        return stopped(s.lines, question::LINE);
+    }
+    let left = s.left - 1;
+    if s.phase == NUMBER {
+        return taken(s, left);
+    }
+    waiting(s.lines, left, question::DECIMAL)
+}
+
+// ---- blob
+
+fn is_hex(b: u8) -> bool
+    ensures { λ r. ⌜ r ≡ isHex b ⌝ }
+{
+    if is_digit(b) {
+        return true;
+    }
+    if b < 0x61 {
+        return false;
+    }
+    b <= 0x66
+}
+
+fn hex_value(b: u8) -> u8
+    requires { ⌜ isHex b ≡ true ⌝ }
+    ensures { λ r. ⌜ (r ≡ hexValue b) × (r < 16) ⌝ }
+{
+    if b <= 0x39 {
+        return b - 0x30;
+    }
+    b - 0x57
+}
+
+fn take_high(s: State, b: u8) -> State
+    ensures { λ r. ⌜ r ≡ highStep b s ⌝ }
+{
+    if is_hex(b) {
+        let mut next = s;
+        next.digit = hex_value(b);
+        next.phase = LOW;
+        return next;
+    }
+    waiting(s.lines, s.left, question::BLOB)
+}
+
+fn room_for(most: usize, lent: usize) -> usize
+    ensures { λ r. ⌜ (r ≡ roomFor most lent) × (r ≤ most) × (r ≤ lent) ⌝ }
+{
+    if lent < most {
+        return lent;
+    }
+    most
+}
+
+// The byte of a pair goes to the run, if there is room for it.
+fn take_low(s: State, b: u8, run: &mut [u8]) -> State
+    ensures { λ r. ⌜ (r ≡ lowStep (bytesIn (now (run .entry))) b s) × (now (run .exit) ≡ lowRun (bytesIn (now (run .entry))) b s (now (run .entry))) ⌝ }
+{
+    if is_hex(b) {
+        let d = hex_value(b);
+        let room = room_for(BLOB_BYTES, run.len());
+        let used = s.used;
+        let mut next = s;
+        next.digit = 0;
+        next.phase = HIGH;
+        if used < room {
+            run[used] = s.digit % 16 * 16 + d;
+            next.used = used + 1;
+            return next;
+        }
+        next.used = room + 1;
+        return next;
+    }
+    waiting(s.lines, s.left, question::BLOB)
+}
+
+// ---- LF
+
+fn difference(a: usize, b: usize) -> usize
+    ensures { λ r. ⌜ r ≡ a - b ⌝ }
+{
+    if a < b {
+        return 0;
+    }
+    a - b
+}
+
+fn id_in(s: State) -> u64
+    ensures { λ r. ⌜ r ≡ idIn s ⌝ }
+{
+    if s.kind == 2 {
+        return s.oldest;
+    }
+    s.older
+}
+
+fn msgno_in(s: State) -> u64
+    ensures { λ r. ⌜ r ≡ msgnoIn s ⌝ }
+{
+    if s.kind == 2 {
+        return s.older;
+    }
+    0
+}
+
+fn put_six(places: &mut [u64], at: usize, s: State) -> usize
+    requires { ⌜ at + 6 ≤ length (now places) ⌝ }
+    ensures { λ r. ⌜ now (places .exit) ≡ put (now (places .entry)) at (six s) ⌝ }
+{
+    places[at] = wide(s.kind);
+    places[at + 1] = id_in(s);
+    places[at + 2] = s.start as u64;
+    places[at + 3] = difference(s.used, s.start) as u64;
+    places[at + 4] = msgno_in(s);
+    places[at + 5] = s.newest;
+    6
+}
+
+fn close(s: State, lent: usize, places: &mut [u64]) -> State
+    ensures { λ r. ⌜ (r ≡ closed (roomFor «BLOB_BYTES» lent) (linesIn (now (places .entry))) s) × (now (places .exit) ≡ closedPlaces (roomFor «BLOB_BYTES» lent) (linesIn (now (places .entry))) s (now (places .entry))) ⌝ }
+{
+    let bytes = room_for(BLOB_BYTES, lent);
+    let most = room_for(LINES, places.len() / PLACE);
+    let used = s.used;
+    let lines = s.lines;
+    if bytes < used {
+        return stopped(s.lines, question::SHEET_SIZE);
+    }
+    if lines < most {
+        put_six(places, 6 * lines, s);
+        return at_line(lines + 1, used);
+    }
+    stopped(s.lines, question::SHEET_SIZE)
+}
+
+fn end_line(s: State, lent: usize, places: &mut [u64]) -> State
+    ensures { λ r. ⌜ (r ≡ endStep (roomFor «BLOB_BYTES» lent) (linesIn (now (places .entry))) s) × (now (places .exit) ≡ endPlaces (roomFor «BLOB_BYTES» lent) (linesIn (now (places .entry))) s (now (places .entry))) ⌝ }
+{
+    let phase = s.phase;
+    if phase == HIGH {
+        return close(s, lent, places);
+    }
+    if phase == LOW {
+        return stopped(s.lines, question::BLOB);
+    }
+    if phase == WAIT {
+        if s.left == 0 {
+            return stopped(s.lines, s.refusal);
+        }
+        return stopped(s.lines, question::LINE);
+    }
+    stopped(s.lines, question::LINE)
+}
+
+// ---- any byte
+
+fn take_other(s: State, b: u8) -> State
+    ensures { λ r. ⌜ r ≡ otherStep b s ⌝ }
+{
+    let phase = s.phase;
+    if phase == NUMBER {
+        return take_next_digit(s, b);
+    }
+    if phase == FIRST {
+        return take_digit(s, b);
+    }
+    if phase == START {
+        return take_letter(s, b);
+    }
+    if phase == WAIT {
+        return s;
+    }
+    stopped(s.lines, question::LINE)
+}
+
+// One byte more.
+pub fn step(s: State, b: u8, run: &mut [u8], places: &mut [u64]) -> State
+    ensures { λ r. ⌜ held r (now (run .exit)) (now (places .exit)) ≡ stepped b (held s (now (run .entry)) (now (places .entry))) ⌝ }
+{
+    let phase = s.phase;
+    if phase == REFUSED {
+        return s;
+    }
+    if b == LF {
+        return end_line(s, run.len(), places);
+    }
+    if b == COMMA {
+        return take_comma(s);
+    }
+    if phase == HIGH {
+        return take_high(s, b);
+    }
+    if phase == LOW {
+        return take_low(s, b, run);
+    }
+    take_other(s, b)
+}
+
+// All bytes of a chunk.
+pub fn read_chunk(state: State, chunk: &[u8], run: &mut [u8], places: &mut [u64]) -> State
+    ensures { λ r. ⌜ held r (now (run .exit)) (now (places .exit)) ≡ fed (now (chunk .entry)) (held state (now (run .entry)) (now (places .entry))) ⌝ }
+{
+    let mut s = state;
+    let mut i = 0;
+    while i < chunk.len() {
+        let b = chunk[i];
+        i += 1;
+        s = step(s, b, run, places);
+    }
+    s
+}
+
+// Behind a sheet's last byte.
+pub fn finish(state: State) -> Answer
+    ensures { λ r. ⌜ r ≡ answerOf state ⌝ }
+{
+    let phase = state.phase;
+    if phase == START {
+        return Answer::Read(state.lines, state.used);
+    }
+    let line = room_for(LINES, state.lines) + 1;
+    if phase == REFUSED {
+        return Answer::Refused(state.refusal, line);
+    }
+    Answer::Refused(question::LINE, line)
+}
