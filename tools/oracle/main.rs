@@ -5,6 +5,8 @@ extern crate self as subtle;
 extern crate self as zeroize;
 
 mod build;
+mod call_samples;
+mod calls_model;
 mod cards;
 mod compare;
 mod contact_samples;
@@ -13,16 +15,33 @@ mod inputs;
 mod lent;
 mod model;
 mod names;
+mod number_set;
 mod original;
 mod original_store;
+mod program;
+mod programs;
 mod questions;
 mod rattle;
 mod restore_speed;
 mod row_samples;
 mod rows;
 mod samples;
+mod script_build;
+mod script_pairs;
+mod script_run;
+mod script_rust;
+mod script_shrink;
+mod script_stores;
+mod script_text;
+mod scripts;
+mod sheet_build;
+mod sheet_model;
+mod sheet_samples;
+mod sheets;
+mod sheets_speed;
 mod shims;
 mod speed;
+mod statement;
 mod store_break;
 mod store_build;
 mod store_damage;
@@ -108,7 +127,12 @@ const USAGE: &str =
     "usage: oracle all|leb128|utf8|card|device|queued|courier|contact|received|stores [SEED [TIMES]]
        oracle samples DIR
        oracle store-cases DIR
-       oracle speed|restore-speed";
+       oracle program-samples DIR
+       oracle speed|restore-speed
+       oracle scripts|transcript|scripts-rust|sheets|sheets-rust SEED TIMES
+       oracle scripts-check|sheets-check SEED TIMES PROGRAM [WORD..]
+       oracle sheets-speed PROGRAM [WORD..]
+       oracle replay|statement|statement-model (from standard input)";
 
 fn main() -> std::process::ExitCode {
     let words: Vec<String> = std::env::args().skip(1).collect();
@@ -125,6 +149,9 @@ fn main() -> std::process::ExitCode {
 
 /// Whether nothing differed.
 fn run(words: &[&str]) -> Result<bool, Box<dyn std::error::Error>> {
+    if let Some(done) = programs::run(words) {
+        return done;
+    }
     match *words {
         ["samples", folder] => samples::write(folder.as_ref()).map(|()| true),
         ["store-cases", folder] => store_samples::write(folder.as_ref()).map(|()| true),

@@ -68,14 +68,28 @@ pub const DEPOSITOR: u32 = 31;
 pub const SLOT_NEW: u32 = 32;
 /// Slot below 2^64 - 1?
 pub const SLOT_BELOW: u32 = 33;
+/// Store restored, a contact open, and would what is handed in pass?
+pub const STORE: u32 = 34;
+/// open: contact in the store?
+pub const CONTACT_STORED: u32 = 35;
 /// Each lent list long enough for the row's items?
 pub const LISTS: u32 = 36;
 /// cover, covers: 1 <= from <= to?
 pub const RANGE: u32 = 37;
 /// cover: do the resulting ranges fit the limit?
 pub const LIMIT: u32 = 38;
+/// take: sent_msgno below 2^32 - 1?
+pub const LAST_MSGNO: u32 = 39;
 /// Output long enough?
 pub const OUTPUT: u32 = 40;
+/// Letter, field count and LF right?
+pub const LINE: u32 = 41;
+/// Decimals without leading zeros, within width?
+pub const DECIMAL: u32 = 42;
+/// Blob of digit pairs?
+pub const BLOB: u32 = 43;
+/// At most 61,440 blob bytes, 512 lines?
+pub const SHEET_ROOM: u32 = 44;
 
 /// The number where the answer is no.
 pub fn ask(number: u32, yes: bool) -> Result<(), u32> {

@@ -159,7 +159,7 @@ fn contact(random: &mut Random, size: Size) -> Contact {
 }
 
 /// Numbers that their contacts have sent, that are not unacked, and that are used once.
-fn queued(
+pub fn queued(
     random: &mut Random,
     contacts: &[(u64, Contact)],
     count: usize,

@@ -1,0 +1,57 @@
+//! Pairs of lists of calls whose stores differ only in veiled bytes: all answers are alike but for the veiled bytes of rows.
+
+use crate::calls_model::Call;
+use crate::inputs::Random;
+use crate::model;
+use crate::script_text::Step;
+use crate::sheet_model;
+use crate::store_model::Store;
+
+/// The same steps with other veiled bytes, and other bytes in no row.
+pub fn twin(random: &mut Random, steps: &[Step], number: u64) -> Vec<Step> {
+    let blank = random.flag();
+    let mut changed = |step: &Step| match step {
+        Step::Script(_) => Step::Script(number),
+        Step::Restore(lines) => {
+            let store = with_other_bytes(random, blank, &sheet_model::store_of(lines));
+            Step::Restore(sheet_model::lines_of(&store).expect("the rows of a sheet"))
+        }
+        Step::RawRestore(store) => Step::RawRestore(with_other_bytes(random, blank, store)),
+        step => step.clone(),
+    };
+    steps.iter().map(&mut changed).collect()
+}
+
+fn with_other_bytes(random: &mut Random, blank: bool, store: &Store) -> Store {
+    let mut other = store.clone();
+    for (byte, unnoticed) in other.run.iter_mut().zip(store.unnoticed()) {
+        if unnoticed {
+            *byte = if blank { 0 } else { random.byte() };
+        }
+    }
+    other
+}
+
+/// Whether these answers to a step are alike: the same, or rows of the same bytes outside the veiled ones.
+pub fn alike(step: &Step, one: &str, other: &str) -> bool {
+    let shows_row = matches!(step, Step::Call(Call::Write) | Step::State);
+    one == other || (shows_row && blanked(one) == blanked(other))
+}
+
+/// The answer with the veiled bytes of its row, the longest word, zero.
+fn blanked(answer: &str) -> Vec<String> {
+    let blank = |word: &str| match bytes(word) {
+        Some(row) if row.len() > 100 => {
+            let veiled = model::contact(3, &row).veiled;
+            format!("{:?}", model::blanked(&row, &veiled))
+        }
+        _ => word.into(),
+    };
+    answer.split(' ').map(blank).collect()
+}
+
+fn bytes(word: &str) -> Option<Vec<u8>> {
+    let line = format!("D,3,{word}\n");
+    let lines = sheet_model::read(line.as_bytes()).ok()?;
+    Some(lines[0].blob.clone())
+}

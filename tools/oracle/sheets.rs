@@ -1,0 +1,162 @@
+//! Sheets: printed with what `statement` is to print, and compared with the Rust and with a program.
+
+use crate::inputs::Random;
+use crate::program::Program;
+use crate::script_shrink;
+use crate::sheet_build::{self, Made};
+use crate::sheet_model;
+use crate::statement;
+use std::collections::BTreeMap;
+use std::io::Write;
+
+/// So many sheets for each of TIMES.
+const SHEETS: usize = 2_000;
+const SHOWN: usize = 3;
+/// The program is run so often at most for one that differs.
+const RUNS: usize = 2_000;
+
+fn each(seed: u64, times: u64, mut visit: impl FnMut(Made)) {
+    let mut random = Random::new(seed);
+    for index in 0..SHEETS * times as usize {
+        visit(sheet_build::sheet(&mut random, index));
+    }
+}
+
+/// Each sheet behind a line with its length, and what is due likewise.
+pub fn print(seed: u64, times: u64) -> std::io::Result<bool> {
+    let mut out = std::io::stdout().lock();
+    let mut done = Ok(());
+    each(seed, times, |made| {
+        let due = sheet_model::statement(&made.sheet);
+        let head = format!("sheet {}\n", made.sheet.len());
+        let middle = format!("output {}\n", due.len());
+        let parts = [
+            head.as_bytes(),
+            &made.sheet,
+            middle.as_bytes(),
+            due.as_bytes(),
+        ];
+        if done.is_ok() {
+            done = out.write_all(&parts.concat());
+        }
+    });
+    done.map(|()| true)
+}
+
+/// How often each answer was due.
+#[derive(Default)]
+struct Due {
+    sheets: u64,
+    lines: u64,
+    answers: BTreeMap<String, u64>,
+}
+
+impl Due {
+    fn count(&mut self, due: &str) {
+        self.sheets += 1;
+        self.lines += due.lines().filter(|line| line.starts_with('S')).count() as u64;
+        let words: Vec<&str> = due.split(',').collect();
+        let class = match words[0] {
+            "R" | "X" => format!("{} {}", words[0], words[1]),
+            _ => "granted".into(),
+        };
+        *self.answers.entry(class).or_default() += 1;
+    }
+
+    /// Whether every answer came: granted, R with 1 and 3 to 33, X with 41 to 44.
+    fn print(&self) -> bool {
+        println!(
+            "{} sheets, {} S lines: {:?}",
+            self.sheets, self.lines, self.answers
+        );
+        let refusals = (1..=33).filter(|number| *number != 2);
+        let mut all: Vec<String> = refusals.map(|number| format!("R {number}")).collect();
+        all.extend((41..=44).map(|number| format!("X {number}")));
+        all.push("granted".into());
+        let missing: Vec<&String> = all
+            .iter()
+            .filter(|answer| !self.answers.contains_key(*answer))
+            .collect();
+        if !missing.is_empty() {
+            println!("  never due: {missing:?}");
+        }
+        missing.is_empty()
+    }
+}
+
+/// The model beside the Rust, and beside what is known beforehand.
+pub fn compare_rust(seed: u64, times: u64) -> bool {
+    let mut due = Due::default();
+    let (mut known, mut faults) = (0, Vec::new());
+    each(seed, times, |made| {
+        let model = sheet_model::statement(&made.sheet);
+        due.count(&model);
+        if let Some(before) = &made.due {
+            known += 1;
+            if *before != model {
+                faults.push(shown(&made.sheet, &format!("made to be {before}"), &model));
+            }
+        }
+        let rust = statement::statement(&made.sheet);
+        if !same(&model, &rust) {
+            faults.push(shown(&made.sheet, &rust, &model));
+        }
+    });
+    let all = due.print();
+    for fault in faults.iter().take(SHOWN) {
+        println!("{fault}");
+    }
+    println!(
+        "sheets: {known} known beforehand, {} different",
+        faults.len()
+    );
+    faults.is_empty() && all
+}
+
+/// The Rust refuses without number and place, and 33 is left aside.
+fn same(model: &str, rust: &str) -> bool {
+    let unnumbered = model.starts_with("R,") && rust == "R,?,?\n";
+    model == rust || unnumbered || model.starts_with("R,33,")
+}
+
+fn shown(sheet: &[u8], other: &str, due: &str) -> String {
+    let sheet = String::from_utf8_lossy(sheet);
+    format!("{sheet}\n# due:\n{due}# but:\n{other}")
+}
+
+/// One run of the program for each sheet.
+pub fn check(seed: u64, times: u64, program: Program) -> bool {
+    let mut due = Due::default();
+    let mut different = 0;
+    each(seed, times, |made| {
+        let model = sheet_model::statement(&made.sheet);
+        due.count(&model);
+        if program.run(&made.sheet) != model.as_bytes() {
+            different += 1;
+            if different <= SHOWN {
+                show(program, made.sheet);
+            }
+        }
+    });
+    let all = due.print();
+    println!("sheets: {different} different");
+    different == 0 && all
+}
+
+/// Prints a sheet that differs, with as few lines and then bytes as can be.
+fn show(program: Program, sheet: Vec<u8>) {
+    let mut runs = 0;
+    let mut still = |sheet: &[u8]| {
+        runs += 1;
+        runs <= RUNS && program.run(sheet) != sheet_model::statement(sheet).as_bytes()
+    };
+    let lines = sheet.split_inclusive(|byte| *byte == b'\n').collect();
+    let lines = script_shrink::without(lines, 0, &mut |lines| still(&lines.concat()));
+    let sheet = script_shrink::without(lines.concat(), 0, &mut still);
+    let printed = program.run(&sheet);
+    let due = sheet_model::statement(&sheet);
+    println!(
+        "{}",
+        shown(&sheet, &String::from_utf8_lossy(&printed), &due)
+    );
+}
