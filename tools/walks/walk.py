@@ -1,4 +1,5 @@
 """What the proofs of straight-line code and of loops have in common: names, types as terms, the context, and all of a proof but the walk itself."""
+import pathlib
 import re
 import runpy
 import sys
@@ -69,6 +70,11 @@ RELENDING = [
 # ---- text
 def dashed(name):
     return name.replace("_", "-")
+
+
+def segment(name):
+    """A function's name in a module's path."""
+    return f"«{name}»" if name == "open" else name
 
 
 def subscript(number):
@@ -289,7 +295,7 @@ class Callee:
         self.crate, self.name = path.split("::", 1)
         own = self.crate == crate
         self.alias = dashed(self.name) if own else dashed(f"{self.crate}-{self.name}")
-        self.module = f"Rattle.{crate}.proofs.{self.name}" if own else f"Rattle.{self.crate}.proofs.{self.name}"
+        self.module = f"Rattle.{crate}.proofs.{segment(self.name)}" if own else f"Rattle.{self.crate}.proofs.{segment(self.name)}"
         self.its = f"Its-{self.alias}"
         self.clauses = f"({self.alias}.clauses 𝓤 H A mem calling)"
         self.cited = f"code.calls-{dashed(self.crate)}·{dashed(self.name)}"
@@ -540,7 +546,7 @@ class Walk:
                 lines.append(f"use {proofs}.{type_.name}.Laws as {type_.name}L")
         for callee in self.callees:
             lines += [f"use {callee.module} as {callee.alias}", f"use {callee.module}.Symbol as {callee.alias}-def", f"use {callee.module}.Met as {callee.alias}-thm"]
-        own = f"Rattle.{self.crate}.proofs.{self.function.name}"
+        own = f"Rattle.{self.crate}.proofs.{segment(self.function.name)}"
         lines += [f"use {own} as this", f"use {own}.Key as this-def", f"use {own}.Statement as stated", f"use {own}.Code as code"]
         return lines + ([f"use {own}.Code.Mir as steps"] if "steps." in body else [])
 
@@ -549,14 +555,14 @@ class Walk:
         body = "\n".join(self.text)
         header = [
             f"-- `{self.crate}::{self.function.name}` meets its contract: a walk of its MIR, {about}.",
-            f"-- Written by tools/walks/{generator} from tools/walks/{self.function.name}.cfg.py, and not edited: tools/walks/README.md says how. Assumes nothing.",
+            f"-- Written by tools/walks/{generator} from tools/walks/{self.config['file']}, and not edited: tools/walks/README.md says how. Assumes nothing.",
         ]
         return "\n".join([*header, *imports(body, self.table()), *self.own_imports(body), "", body]) + "\n"
 
 
 def main(generate):
     """Reads the config that the command line names and the MIR from standard input, and prints the proof."""
-    config = runpy.run_path(sys.argv[1])
+    config = runpy.run_path(sys.argv[1], {"file": pathlib.Path(sys.argv[1]).name})
     path = f"{config['crate']}::{config['fn']}"
     found = mir.functions(sys.stdin.read())
     if path not in found:
