@@ -20,9 +20,10 @@ use Rattle.sheet.specs.Decimal.{isDecimal, decimalIn}
 use Rattle.sheet.specs.Blob as blobs
 use Rattle.sheet.specs.Blob.{isHex, hexValue, before, blobOf}
 use Rattle.sheet.specs.Sheet as sheet
-use Rattle.sheet.specs.Sheet.{parted, «LETTER_D», «LETTER_C», «LETTER_Q», «LETTER_K», U32, U64, Shape, shapeOf, LineSays, said, refusedBy, andOthers, numbersOf, ask43, ask42, ask41, ofFields, lineOf, Room, SheetSays, read, refused, entryOf, blobIn, onto, ask44, saidFrom}
+use Rattle.sheet.specs.Sheet.{parted, U32, U64, Shape, shapeOf, LineSays, said, refusedBy, andOthers, numbersOf, ask43, ask42, ask41, ofFields, lineOf, Room, SheetSays, read, refused, entryOf, blobIn, onto, ask44, saidFrom}
 use Rattle.sheet.specs.Proved.{EntryFits, AllFit, Fits}
 use Rattle.sheet.proofs.Hex.{hex-small}
+use Rattle.sheet.proofs.Letters.{of-letter}
 
 abbrev Nothing : Type 0
 Nothing = Unit {0}
@@ -102,34 +103,18 @@ device-fits : (ns : List ℕ) → Each (U32 ∷ []) ns → EntryOf DEVICE ns
 unfolding EntryOf
 device-fits _ (each-cons v each-nil) start len size h = record { kind-known = omega arith; id-fits = omega arith; msgno-fits = omega arith; version-fits = v; inside = h }
 
-contact-fits : (ns : List ℕ) → Each (U64 ∷ U32 ∷ []) ns → EntryOf CONTACT ns
-unfolding EntryOf
-contact-fits _ (each-cons c (each-cons v each-nil)) start len size h = record { kind-known = omega arith; id-fits = c; msgno-fits = omega arith; version-fits = v; inside = h }
-
 queued-fits : (ns : List ℕ) → Each (U64 ∷ U32 ∷ U32 ∷ []) ns → EntryOf QUEUED ns
 unfolding EntryOf
 queued-fits _ (each-cons c (each-cons m (each-cons v each-nil))) start len size h = record { kind-known = omega arith; id-fits = c; msgno-fits = m; version-fits = v; inside = h }
 
-courier-fits : (ns : List ℕ) → Each (U64 ∷ U32 ∷ []) ns → EntryOf COURIER ns
+two-fits : (kind : ℕ) → kind ≤ COURIER → eqb kind DEVICE ≡ false → eqb kind QUEUED ≡ false → (ns : List ℕ) → Each (U64 ∷ U32 ∷ []) ns → EntryOf kind ns
 unfolding EntryOf
-courier-fits _ (each-cons c (each-cons v each-nil)) start len size h = record { kind-known = omega arith; id-fits = c; msgno-fits = omega arith; version-fits = v; inside = h }
+two-fits kind k d q _ (each-cons c (each-cons v each-nil)) start len size h = record { kind-known = k; id-fits = rw d c; msgno-fits = rw q (omega arith); version-fits = v; inside = h }
 
 shape-fits : (letter : List ℕ) → ShapeFits (shapeOf letter)
 shape-fits [] = tt
 shape-fits (b ∷ c ∷ bs) = tt
-shape-fits (b ∷ []) = go (eqb b «LETTER_D») (eqb b «LETTER_C») (eqb b «LETTER_Q») (eqb b «LETTER_K»)
-  where
-    go : (d c q k : Bool) → ShapeFits (
-        cond d (some (record { kind = DEVICE; highest = U32 ∷ [] }))
-        (cond c (some (record { kind = CONTACT; highest = U64 ∷ U32 ∷ [] }))
-        (cond q (some (record { kind = QUEUED; highest = U64 ∷ U32 ∷ U32 ∷ [] }))
-        (cond k (some (record { kind = COURIER; highest = U64 ∷ U32 ∷ [] }))
-        none))))
-    go true c q k = device-fits
-    go false true q k = contact-fits
-    go false false true k = queued-fits
-    go false false false true = courier-fits
-    go false false false false = tt
+shape-fits (b ∷ []) = of-letter ShapeFits tt device-fits (two-fits CONTACT (omega arith) refl refl) queued-fits (two-fits COURIER (omega arith) refl refl) b
 
 abbrev LineFits : LineSays → Type 0
 LineFits (refusedBy q) = Nothing

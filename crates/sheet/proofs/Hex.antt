@@ -1,6 +1,6 @@
 -- Digits in hexadecimal: where they stand among the bytes, and that each says a number below 16.
 -- Assumes nothing.
-use Prim.Native.Nat.{ℕ, _-_, _≤_, _<_}
+use Prim.Native.Nat.{ℕ, _+_, _-_, _≤_, _<_}
 use mathlib.Core.Bool.{Bool, true, false, cond, _&&_, _||_}
 use mathlib.Core.Option.{none, some}
 use mathlib.Core.Path.{_≡_, refl}
@@ -50,6 +50,6 @@ letter-low d e h = go (is-one d e)
 pub hex-small : (d : ℕ) → isHex d ≡ true → hexValue d < 16
 hex-small d e = go (leb d 0x39) refl
   where
-    go : (t : Bool) → leb d 0x39 ≡ t → cond t (d - 0x30) (d - 0x57) < 16
+    go : (t : Bool) → leb d 0x39 ≡ t → cond t (d - 0x30) (d - 0x61 + 10) < 16
     go true f = omega (arith, leb-true d 0x39 f)
     go false f = omega (arith, letter-low d e (leb-false d 0x39 f) .1)

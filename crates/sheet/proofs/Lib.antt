@@ -1,4 +1,5 @@
 mod Hex
+mod Letters
 mod Parts
 pub mod Decimal
 mod Fields

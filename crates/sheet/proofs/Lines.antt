@@ -18,10 +18,11 @@ use Rattle.sheet.specs.declared.State.{State}
 use Rattle.sheet.specs.Decimal.{decimalIn}
 use Rattle.sheet.specs.Blob.{blobOf}
 use Rattle.sheet.specs.Sheet as sheet
-use Rattle.sheet.specs.Sheet.{parted, «LETTER_D», «LETTER_C», «LETTER_Q», «LETTER_K», U32, U64, Shape, shapeOf, LineSays, said, refusedBy, andOthers, numbersOf, ask43, ask42, ask41, ofFields, lineOf, entryOf, sixOf}
+use Rattle.sheet.specs.Sheet.{parted, Shape, shapeOf, LineSays, said, refusedBy, andOthers, numbersOf, ask43, ask42, ask41, ofFields, lineOf, entryOf, sixOf}
 use Rattle.sheet.specs.Machine as machine
 use Rattle.sheet.specs.Machine.{state, atLine, waiting, stopped, highestAt, bytesIn, linesIn, begunAs, six, Held, held, stateIn, stepped, fed}
 use Rattle.sheet.proofs.Hex.{none-some}
+use Rattle.sheet.proofs.Letters.{of-letter}
 use Rattle.sheet.proofs.Parts as parts
 use Rattle.sheet.proofs.Parts.{joined, joined-parts, Some, some-part, some-parts, Free, Plain, plain-cons, AllPlain, plains-cons, plain-fields}
 use Rattle.sheet.proofs.Fields.{fed-append, stays, stays-one, waits, firstAt, tookNumber, field-comma, field-end, blobAt, usedAll, runAll, run-long, fits-used, fits-run, over-used, BlobLeft, blob, blob-comma}
@@ -202,25 +203,16 @@ module _ (bytes lines k u : ℕ) (run places : List ℕ) where
     AllKnown none = Unit {0}
     AllKnown (some s) = Known s
 
-    no-length : {A : Type 0} (m n : ℕ) → m ≡ n → (m ≡ n → ⊥) → A
-    no-length m n e f = absurd (f e)
-
     six-device : (ns : List ℕ) → length ns ≡ 1 → (len : ℕ) → sixOn 0 0 0 DEVICE ns len ≡ sixLine DEVICE ns len
     six-device [] e len = absurd (omega arith)
     six-device (v ∷ []) e len = let l : u + len - u ≡ len = omega arith in rw l
     six-device (v ∷ w ∷ ns) e len = absurd (omega arith)
 
-    six-contact : (ns : List ℕ) → length ns ≡ 2 → (len : ℕ) → sixOn 0 0 0 CONTACT ns len ≡ sixLine CONTACT ns len
-    six-contact [] e len = absurd (omega arith)
-    six-contact (v ∷ []) e len = absurd (omega arith)
-    six-contact (v ∷ w ∷ []) e len = let l : u + len - u ≡ len = omega arith in rw l
-    six-contact (v ∷ w ∷ x ∷ ns) e len = absurd (omega arith)
-
-    six-courier : (ns : List ℕ) → length ns ≡ 2 → (len : ℕ) → sixOn 0 0 0 COURIER ns len ≡ sixLine COURIER ns len
-    six-courier [] e len = absurd (omega arith)
-    six-courier (v ∷ []) e len = absurd (omega arith)
-    six-courier (v ∷ w ∷ []) e len = let l : u + len - u ≡ len = omega arith in rw l
-    six-courier (v ∷ w ∷ x ∷ ns) e len = absurd (omega arith)
+    six-two : (kind : ℕ) → eqb kind DEVICE ≡ false → eqb kind QUEUED ≡ false → (ns : List ℕ) → length ns ≡ 2 → (len : ℕ) → sixOn 0 0 0 kind ns len ≡ sixLine kind ns len
+    six-two kind d q [] e len = absurd (omega arith)
+    six-two kind d q (v ∷ []) e len = absurd (omega arith)
+    six-two kind d q (v ∷ w ∷ []) e len = let l : u + len - u ≡ len = omega arith in rw (d, q, l)
+    six-two kind d q (v ∷ w ∷ x ∷ ns) e len = absurd (omega arith)
 
     six-queued : (ns : List ℕ) → length ns ≡ 3 → (len : ℕ) → sixOn 0 0 0 QUEUED ns len ≡ sixLine QUEUED ns len
     six-queued [] e len = absurd (omega arith)
@@ -230,19 +222,12 @@ module _ (bytes lines k u : ℕ) (run places : List ℕ) where
     six-queued (v ∷ w ∷ x ∷ y ∷ ns) e len = absurd (omega arith)
 
     all-known : (b : ℕ) → AllKnown (shapeOf (b ∷ []))
-    all-known b = go (eqb b «LETTER_D») (eqb b «LETTER_C») (eqb b «LETTER_Q») (eqb b «LETTER_K»)
-      where
-        go : (d c q k : Bool) → AllKnown (
-            cond d (some (record { kind = DEVICE; highest = U32 ∷ [] }))
-            (cond c (some (record { kind = CONTACT; highest = U64 ∷ U32 ∷ [] }))
-            (cond q (some (record { kind = QUEUED; highest = U64 ∷ U32 ∷ U32 ∷ [] }))
-            (cond k (some (record { kind = COURIER; highest = U64 ∷ U32 ∷ [] }))
-            none))))
-        go true c q k = known (left-cons refl left-nil) six-device
-        go false true q k = known (left-cons refl (left-cons refl left-nil)) six-contact
-        go false false true k = known (left-cons refl (left-cons refl (left-cons refl left-nil))) six-queued
-        go false false false true = known (left-cons refl (left-cons refl left-nil)) six-courier
-        go false false false false = tt
+    all-known =
+        of-letter AllKnown tt
+        (known (left-cons refl left-nil) six-device)
+        (known (left-cons refl (left-cons refl left-nil)) (six-two CONTACT refl refl))
+        (known (left-cons refl (left-cons refl (left-cons refl left-nil))) six-queued)
+        (known (left-cons refl (left-cons refl left-nil)) (six-two COURIER refl refl))
 
     -- ---- the line
     same-six : (kind : ℕ) (hs : List ℕ) → ((ns : List ℕ) → length ns ≡ length hs → (len : ℕ) → sixOn 0 0 0 kind ns len ≡ sixLine kind ns len)

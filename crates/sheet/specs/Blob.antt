@@ -13,7 +13,7 @@ isHex d = isDigit d || (leb 0x61 d && leb d 0x66)
 
 -- what such a digit says
 abbrev pub hexValue : ℕ → ℕ
-hexValue d = cond (leb d 0x39) (d - 0x30) (d - 0x57)
+hexValue d = cond (leb d 0x39) (d - 0x30) (d - 0x61 + 10)
 
 -- a byte before those of a blob that is one
 abbrev pub before : ℕ → Option (List ℕ) → Option (List ℕ)

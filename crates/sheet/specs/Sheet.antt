@@ -50,14 +50,26 @@ pub record Shape : Type 0 where
   pub kind : ℕ
   pub highest : List ℕ
 
+abbrev pub deviceLine : Shape
+deviceLine = record { kind = DEVICE; highest = U32 ∷ [] }
+
+abbrev pub contactLine : Shape
+contactLine = record { kind = CONTACT; highest = U64 ∷ U32 ∷ [] }
+
+abbrev pub queuedLine : Shape
+queuedLine = record { kind = QUEUED; highest = U64 ∷ U32 ∷ U32 ∷ [] }
+
+abbrev pub courierLine : Shape
+courierLine = record { kind = COURIER; highest = U64 ∷ U32 ∷ [] }
+
 abbrev pub shapeOf : (letter : List ℕ) → Option Shape
 shapeOf [] = none
 shapeOf (b ∷ c ∷ bs) = none
 shapeOf (b ∷ []) =
-    cond (eqb b «LETTER_D») (some (record { kind = DEVICE; highest = U32 ∷ [] }))
-    (cond (eqb b «LETTER_C») (some (record { kind = CONTACT; highest = U64 ∷ U32 ∷ [] }))
-    (cond (eqb b «LETTER_Q») (some (record { kind = QUEUED; highest = U64 ∷ U32 ∷ U32 ∷ [] }))
-    (cond (eqb b «LETTER_K») (some (record { kind = COURIER; highest = U64 ∷ U32 ∷ [] }))
+    cond (eqb b «LETTER_D») (some deviceLine)
+    (cond (eqb b «LETTER_C») (some contactLine)
+    (cond (eqb b «LETTER_Q») (some queuedLine)
+    (cond (eqb b «LETTER_K») (some courierLine)
     none)))
 
 -- ---- a line
@@ -111,6 +123,7 @@ pub record Room : Type 0 where
 
 pub data SheetSays : Type 0 where
   read : List Entry → (run : List ℕ) → SheetSays
+  -- the question's number, and the line's from 1
   refused : (number line : ℕ) → SheetSays
 
 -- the entry that a line says, whose row starts here in the run. What its kind has no use for is 0
@@ -146,6 +159,7 @@ abbrev pub atEnd : (lines : ℕ) → List ℕ → SheetSays
 atEnd lines [] = read [] []
 atEnd lines (b ∷ bs) = refused LINE (suc lines)
 
+-- what lines say behind `lines` lines with `used` blob bytes
 unfoldable pub saidFrom : Room → (lines used : ℕ) → List (List ℕ) → SheetSays
 saidFrom room lines used [] = read [] []
 saidFrom room lines used (l ∷ []) = atEnd lines l

@@ -1,12 +1,13 @@
 // The sheet, read byte by byte (questions 41 to 44): lines `D,version,blob`, `C,contact,version,blob`, `Q,contact,msgno,version,blob`,
 // `K,slot,version,blob`, each with its LF. A chunk of any length may be handed in at a time; the state is all that is kept between chunks.
-// Blob bytes go to a lent run, and of each line six numbers go to lent places: kind, id, start, length, msgno, version.
+// Blob bytes go to a lent run, and of each line six numbers go to lent places: kind, id, start, length, msgno, version. A run shorter than
+// 61,440 bytes, or places for fewer than 512 lines, lower the limits of 44; no place and no byte past them is touched.
 // 41 is answered as soon as it is sure. 42 and 43 wait for the line's end, since its later bytes can still make it 41.
 use layout::question;
 ghost use mathlib.Core.Path.{_≡_};
 ghost use mathlib.Core.Bool.{true};
 ghost use mathlib.Core.List.{[], _∷_};
-ghost use Prim.Native.Nat.{_+_, _-_, _*_, _/_, _<_, _≤_};
+ghost use Prim.Native.Nat.{_+_, _-_, _<_, _≤_};
 ghost use lib.ListN.{length};
 ghost use Rattle.line.specs.Line.{isDigit};
 ghost use Rattle.put.specs.Put.{put};
@@ -14,17 +15,17 @@ ghost use Rattle.sheet.specs.Blob.{isHex, hexValue};
 ghost use Rattle.sheet.specs.Sheet.{U32, shapeOf, «BLOB_BYTES»};
 ghost use Rattle.sheet.specs.Machine.{atLine, waiting, stopped, begun, begunAs, highestAt, digitStep, numberStep, taken, commaStep, highStep, roomFor, bytesIn, linesIn, lowStep, lowRun, idIn, msgnoIn, six, closed, closedPlaces, endStep, endPlaces, otherStep, held, stepped, fed, answerOf};
 
-const LF: u8 = 0x0A;
+const LF: u8 = b'\n';
 
-const COMMA: u8 = 0x2C;
+const COMMA: u8 = b',';
 
-const LETTER_D: u8 = 0x44;
+const LETTER_D: u8 = b'D';
 
-const LETTER_C: u8 = 0x43;
+const LETTER_C: u8 = b'C';
 
-const LETTER_Q: u8 = 0x51;
+const LETTER_Q: u8 = b'Q';
 
-const LETTER_K: u8 = 0x4B;
+const LETTER_K: u8 = b'K';
 
 // The most blob bytes and lines of a sheet.
 pub const BLOB_BYTES: usize = 61440;
@@ -33,6 +34,9 @@ pub const LINES: usize = 512;
 
 // How many numbers stand in the places for a line.
 pub const PLACE: usize = 6;
+
+// The highest number of 32 bits.
+const HIGHEST_32: u64 = 0xFFFFFFFF;
 
 // Where in a line the reader stands: before its letter and behind it, before a decimal and in it, in the blob between pairs and within one, in a line
 // that 42 or 43 refuses unless 41 does, behind a refusal.
@@ -65,7 +69,7 @@ pub struct State {
     // where the line's blob starts in the run, and where its next byte goes
     pub start: usize,
     pub used: usize,
-    pub kind: u8,
+    pub kind: u32,
     // the decimals to come
     pub left: u8,
     // the first digit of a pair
@@ -129,7 +133,7 @@ fn stopped(lines: usize, question: u8) -> State
 
 // ---- letter, comma, decimal
 
-fn begun(s: State, kind: u8, left: u8) -> State
+fn begun(s: State, kind: u32, left: u8) -> State
     ensures { λ r. ⌜ r ≡ begun kind left s ⌝ }
 {
     let mut next = s;
@@ -143,33 +147,33 @@ fn take_letter(s: State, b: u8) -> State
     ensures { λ r. ⌜ r ≡ begunAs (shapeOf (b ∷ [])) s ⌝ }
 {
     if b == LETTER_D {
-        return begun(s, 0, 1);
+        return begun(s, store::DEVICE, 1);
     }
     if b == LETTER_C {
-        return begun(s, 1, 2);
+        return begun(s, store::CONTACT, 2);
     }
     if b == LETTER_Q {
-        return begun(s, 2, 3);
+        return begun(s, store::QUEUED, 3);
     }
     if b == LETTER_K {
-        return begun(s, 3, 2);
+        return begun(s, store::COURIER, 2);
     }
     stopped(s.lines, question::LINE)
 }
 
-fn highest(kind: u8, left: u8) -> u64
+fn highest(kind: u32, left: u8) -> u64
     ensures { λ r. ⌜ (r ≡ highestAt kind left) × (U32 ≤ r) ⌝ }
 {
     if left == 1 {
-        return 0xFFFFFFFF;
+        return HIGHEST_32;
     }
     if left == 2 {
-        if kind == 2 {
-            return 0xFFFFFFFF;
+        if kind == store::QUEUED {
+            return HIGHEST_32;
         }
-        return 0xFFFFFFFFFFFFFFFF;
+        return u64::MAX;
     }
-    0xFFFFFFFFFFFFFFFF
+    u64::MAX
 }
 
 fn wide(b: u8) -> u64
@@ -178,20 +182,26 @@ fn wide(b: u8) -> u64
     b as u64
 }
 
+fn wide_32(n: u32) -> u64
+    ensures { λ r. ⌜ (r ≡ n) × (r ≤ U32) ⌝ }
+{
+    n as u64
+}
+
 fn is_digit(b: u8) -> bool
     ensures { λ r. ⌜ r ≡ isDigit b ⌝ }
 {
-    if b < 0x30 {
+    if b < b'0' {
         return false;
     }
-    b <= 0x39
+    b <= b'9'
 }
 
 fn take_digit(s: State, b: u8) -> State
     ensures { λ r. ⌜ r ≡ digitStep b s ⌝ }
 {
     if is_digit(b) {
-        let d = wide(b - 0x30);
+        let d = wide(b - b'0');
         let most = highest(s.kind, s.left);
         let n = s.number;
         if (most - d) / 10 < n {
@@ -261,20 +271,20 @@ fn is_hex(b: u8) -> bool
     if is_digit(b) {
         return true;
     }
-    if b < 0x61 {
+    if b < b'a' {
         return false;
     }
-    b <= 0x66
+    b <= b'f'
 }
 
 fn hex_value(b: u8) -> u8
     requires { ⌜ isHex b ≡ true ⌝ }
     ensures { λ r. ⌜ (r ≡ hexValue b) × (r < 16) ⌝ }
 {
-    if b <= 0x39 {
-        return b - 0x30;
+    if b <= b'9' {
+        return b - b'0';
     }
-    b - 0x57
+    b - b'a' + 10
 }
 
 fn take_high(s: State, b: u8) -> State
@@ -334,7 +344,7 @@ fn difference(a: usize, b: usize) -> usize
 fn id_in(s: State) -> u64
     ensures { λ r. ⌜ r ≡ idIn s ⌝ }
 {
-    if s.kind == 2 {
+    if s.kind == store::QUEUED {
         return s.oldest;
     }
     s.older
@@ -343,23 +353,22 @@ fn id_in(s: State) -> u64
 fn msgno_in(s: State) -> u64
     ensures { λ r. ⌜ r ≡ msgnoIn s ⌝ }
 {
-    if s.kind == 2 {
+    if s.kind == store::QUEUED {
         return s.older;
     }
     0
 }
 
-fn put_six(places: &mut [u64], at: usize, s: State) -> usize
+fn put_six(places: &mut [u64], at: usize, s: State)
     requires { ⌜ at + 6 ≤ length (now places) ⌝ }
     ensures { λ r. ⌜ now (places .exit) ≡ put (now (places .entry)) at (six s) ⌝ }
 {
-    places[at] = wide(s.kind);
+    places[at] = wide_32(s.kind);
     places[at + 1] = id_in(s);
     places[at + 2] = s.start as u64;
     places[at + 3] = difference(s.used, s.start) as u64;
     places[at + 4] = msgno_in(s);
     places[at + 5] = s.newest;
-    6
 }
 
 fn close(s: State, lent: usize, places: &mut [u64]) -> State
@@ -373,7 +382,7 @@ fn close(s: State, lent: usize, places: &mut [u64]) -> State
         return stopped(s.lines, question::SHEET_SIZE);
     }
     if lines < most {
-        put_six(places, 6 * lines, s);
+        put_six(places, PLACE * lines, s);
         return at_line(lines + 1, used);
     }
     stopped(s.lines, question::SHEET_SIZE)
