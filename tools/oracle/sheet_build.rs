@@ -17,14 +17,15 @@ fn made(sheet: Vec<u8>, due: Option<String>) -> Made {
     Made { sheet, due }
 }
 
-/// Of a hundred, 28 are of granted stores, 32 of stores with one question broken, 26 with a line broken, 10 damaged, and 4
-/// at the limits.
+/// Of a hundred, 28 are of granted stores, 32 of stores with one question broken, 26 with a line broken, 8 damaged, 2 with
+/// the highest number of its width, and 4 at the limits.
 pub fn sheet(random: &mut Random, index: usize) -> Made {
     match index % 100 {
         0..28 => made(text(&granted(random)), None),
         28..60 => refused(random, (index % 100 - 28) as u32 + 2),
         60..86 => broken(random),
-        86..96 => {
+        86 | 87 => made(widest(random), None),
+        88..96 => {
             let mut sheet = text(&granted(random));
             damage(random, &mut sheet);
             made(sheet, None)
@@ -105,8 +106,8 @@ const NOT_DECIMAL: [&str; 14] = [
     "99999999999999999999999999999999999999999",
     "18446744073709551619",
 ];
-const NOT_BLOB: [&str; 10] = [
-    "0", "AB", "0g", "ab\r", " ab", "ab ", "0x", "é", "a\u{0}", "/:",
+const NOT_BLOB: [&str; 11] = [
+    "0", "AB", "0g", "ab\r", "\r", " ab", "ab ", "0x", "é", "a\u{0}", "/:",
 ];
 
 /// The line with this number for its first no; what is asked later may be broken too.
@@ -117,8 +118,10 @@ fn broken_line(random: &mut Random, line: &Line, number: u32) -> Vec<u8> {
     let last = fields.len() - 1;
     if number == questions::BLOB || random.below(3) == 0 {
         let broken = random.pick(&NOT_BLOB);
-        let at = 2 * random.below(fields[last].len() / 2 + 1);
-        fields[last].insert_str(at, broken);
+        let pairs = fields[last].len() / 2;
+        let any = random.below(pairs + 1);
+        let at = random.pick(&[pairs, any]);
+        fields[last].insert_str(2 * at, broken);
     }
     if number == questions::DECIMAL || (number == questions::LINE && random.below(3) == 0) {
         let at = 1 + random.below(last - 1);
@@ -135,6 +138,18 @@ fn broken_line(random: &mut Random, line: &Line, number: u32) -> Vec<u8> {
         return not_a_line(random, fields);
     }
     (fields.join(",") + "\n").into_bytes()
+}
+
+/// A number that is the highest of its width, which 42 lets pass.
+fn widest(random: &mut Random) -> Vec<u8> {
+    let mut lines = granted(random);
+    let at = random.below(lines.len());
+    match random.below(3) {
+        0 => lines[at].version = u32::MAX,
+        1 => lines[at].msgno = u32::MAX,
+        _ => lines[at].id = u64::MAX,
+    }
+    text(&lines)
 }
 
 /// Another letter, a field more or less, or nothing.
