@@ -27,6 +27,13 @@ class Named:
 
 
 @dataclass(frozen=True)
+class Array:
+    """An array of so many values of a declared type."""
+    element: object
+    count: int
+
+
+@dataclass(frozen=True)
 class Slice:
     """A lent slice. The lifetime is the signature's number of it, or None where MIR leaves it out, as in a local that reborrows."""
     element: object
@@ -105,6 +112,8 @@ def type_of(term, kinds):
         path = unquoted(term[1][1])
         crate, name = path.split("::", 1)
         return Named(crate, name, kinds.get(path, "struct"))
+    if term[0] == "tyArray" and term[1][0] == "tyNamed":
+        return Array(type_of(term[1], kinds), int(term[2][1]))
     if term[0] == "tyStruct" and unquoted(term[1]) == "&[]":
         ref = items(term[2])[0]
         lifetime = int(ref[1][1]) if isinstance(ref[1], list) else None

@@ -67,6 +67,15 @@ RELENDING = [
 ]
 
 
+# ... and those where a table's first elements are lent
+TABLES = [
+    ("mir.Syntax", "erased"),
+    ("base.Fml", "fat"),
+    ("types.Kit", "rewrite"),
+    ("denote.Array", "Array"),
+]
+
+
 # ---- text
 def dashed(name):
     return name.replace("_", "-")
@@ -156,6 +165,8 @@ def row(type_):
     """The type as a row of the kit."""
     if isinstance(type_, mir.Flag):
         return "Boolean"
+    if isinstance(type_, mir.Array):
+        return f"Array {row(type_.element)} {type_.count}"
     return f"UInt w{type_.bits}" if isinstance(type_, mir.Number) else f"{type_.name}T.the-row"
 
 
@@ -163,6 +174,8 @@ def held(type_):
     """The name of how a value of the type lies in a local."""
     if isinstance(type_, mir.Flag):
         return "as-bool"
+    if isinstance(type_, mir.Array):
+        return f"{held(type_.element)}-table"
     return f"as-w{type_.bits}" if isinstance(type_, mir.Number) else f"as-{type_.name}"
 
 
@@ -170,6 +183,8 @@ def denoted(type_):
     """The type of what a value stands for."""
     if isinstance(type_, mir.Slice):
         return f"RefT (List {denoted(type_.element)})"
+    if isinstance(type_, mir.Array):
+        return f"List {denoted(type_.element)}"
     if isinstance(type_, mir.Flag):
         return "Bool"
     return "ℕ" if isinstance(type_, mir.Number) else type_.name
@@ -286,6 +301,29 @@ class Lent(Value):
         lender = self.lender
         return f"{lender.element} (named {lender.lifetime}) {lender.lft} {lender.share} {self.lifetime_made} {lender.name}"
 
+    @property
+    def made(self):
+        """What is bound where it is lent: names, and their types."""
+        return [(self.lifetime_made, "ℕ"), (self.name_made, "GName")]
+
+
+class First(Lent):
+    """The first elements of an array, a local, that are lent as `&` for one call, at a lifetime that is made for the call."""
+
+    def __init__(self, lender, count, local):
+        Value.__init__(self, lender.name, mir.Slice(lender.type.element, False, 0))
+        self.lender, self.count, self.local, self.array = lender, count, "l" + subscript(local), lender.type
+        self.lifetime_made, self.name_made = f"ν-{lender.name}", f"γ-{lender.name}"
+        self.name = f"(first-of {lender.name} {count} {self.local} {self.name_made})"
+        self.lft, self.share = f"({self.lifetime_made} ∷ [])", "fullShare"
+        self.token, self.owned, self.dead, self.kept = (f"{what} first {lender.name}" for what in ("token", "own", "dead", "kept"))
+        self.cell, self.dies = f"_{local}", f"dies {local}"
+        self.long = f"({lender.proof} .1 .0 .1)"
+
+    @property
+    def made(self):
+        return [*super().made, (self.local, "ℕ")]
+
 
 class Callee:
     """A function that is called, of this crate or of another."""
@@ -330,7 +368,9 @@ class Walk:
 
     def table(self):
         """The names that the proof may import."""
-        return IMPORTS + (RELENDING if any(isinstance(type_, mir.Slice) and type_.mutable for type_ in self.function.locals) else [])
+        tables = any(isinstance(type_, mir.Array) for type_ in self.function.locals)
+        relends = tables or any(isinstance(type_, mir.Slice) and type_.mutable for type_ in self.function.locals)
+        return IMPORTS + (RELENDING if relends else []) + (TABLES if tables else [])
 
     def line(self, *lines):
         self.text.extend(piece for line in lines for piece in folded(line))
@@ -347,11 +387,12 @@ class Walk:
         """Every type of a local or a literal that is a number, a bool or declared; but for that of a loop's test, which no value is named of."""
         held = [type_ for number, type_ in enumerate(self.function.locals) if number not in self.tests]
         types = [type_ for type_ in held if isinstance(type_, (mir.Number, mir.Flag, mir.Named))] + self.literals
-        return list(dict.fromkeys(types))
+        tables = [type_ for type_ in held if isinstance(type_, mir.Array)]
+        return list(dict.fromkeys(types + [type_.element for type_ in tables] + tables))
 
     def declared_types(self):
         """Every declared type of a local or of a slice's element."""
-        types = [type_.element if isinstance(type_, mir.Slice) else type_ for type_ in self.function.locals]
+        types = [type_.element if isinstance(type_, (mir.Slice, mir.Array)) else type_ for type_ in self.function.locals]
         return list(dict.fromkeys(type_ for type_ in types if isinstance(type_, mir.Named)))
 
     def local_names(self):
@@ -401,6 +442,8 @@ class Walk:
             return "record { val = vbool; tells = bool-tells; makes = bool-makes 𝓤 H A W; lawful = bool-lawful 𝓤 H A W }"
         if isinstance(type_, mir.Number):
             return f"number W w{type_.bits}"
+        if isinstance(type_, mir.Array):
+            return f"of-array W {held(type_.element)} {type_.count}"
         few = " tt" if type_.kind == "enum" else ""
         return f"of-{type_.kind} W {type_.name}T.the-type {type_.name}L.the-laws {type_.name}L.the-plain{few}"
 
@@ -561,8 +604,9 @@ class Walk:
 
 
 def main(generate):
-    """Reads the config that the command line names and the MIR from standard input, and prints the proof."""
+    """Reads the config that the command line names and the MIR from standard input, and prints the proof. A config for several functions names none: the command line does."""
     config = runpy.run_path(sys.argv[1], {"file": pathlib.Path(sys.argv[1]).name})
+    config.setdefault("fn", sys.argv[-1])
     path = f"{config['crate']}::{config['fn']}"
     found = mir.functions(sys.stdin.read())
     if path not in found:

@@ -7,6 +7,7 @@ The parameters are lent slices (`&` and `&mut`) and plain values; each `&mut` go
     ends        the proof of what the function ensures
     uses        the import lines of what those proofs cite
     names       other names for parameters or results, where the source's name means something else in the proof
+    lends       for an array by value whose first elements are lent, by its name: how many, and the proof that the count in the code is the length of so many
 In proofs a parameter or a result has its own name, and the last call's result is r. `asks` is what the function requires, and
 is-NAME what the callee has ensured of the result NAME.
 """
@@ -28,12 +29,12 @@ class Called:
     @property
     def binds(self):
         """The name of what the callee's contract binds at this call."""
-        made = [name for value in self.lent for name in (value.lifetime_made, value.name_made)]
+        made = [name for value in self.lent for name, _ in value.made]
         return " ".join([f"to-{self.result.name}", *made, *[value.name for value in self.earlier]])
 
     @property
     def lent(self):
-        """What it is lent of `&mut` slices, as `&`."""
+        """What it is lent of `&mut` slices and of tables, as `&`."""
         return [value for value in self.handed if isinstance(value, walk.Lent)]
 
 
@@ -42,6 +43,22 @@ class Relent:
     """A `&mut` slice that is lent on: MIR takes its parts, and puts them together in another local."""
     lent: int
     pointer: int
+    place: int
+
+
+@dataclass
+class Copied:
+    """A table that is copied whole to another local."""
+    source: int
+    place: int
+
+
+@dataclass
+class Fronted:
+    """A table, of which the first elements are lent: MIR takes its address, and puts it with the count in another local."""
+    table: int
+    pointer: int
+    count: int
     place: int
 
 
@@ -86,9 +103,18 @@ class Line(walk.Walk):
         elif kind == "aggregate":
             pointer = int(mir.items(value)[0][1][1])
             lent = self.pointers[pointer]
+            if isinstance(self.function.locals[lent], mir.Array):
+                count = int(mir.items(value)[1][1][1])
+                self.held[statement.place] = walk.First(self.held[lent], self.config["lends"][self.held[lent].name][0], lent)
+                self.steps.append(Fronted(lent, pointer, count, statement.place))
+                return
             again = self.function.locals[statement.place].mutable
             self.held[statement.place] = self.held[lent] if again else walk.Lent(self.held[lent])
             self.steps.append(Relent(lent, pointer, statement.place))
+        elif kind == "rvOpd" and isinstance(self.function.locals[statement.place], mir.Array):
+            source = mir.operand(value)[1]
+            self.held[statement.place] = self.held[source]
+            self.steps.append(Copied(source, statement.place))
         else:
             raise SystemExit(f"a statement of another form: {statement}")
 
@@ -98,7 +124,7 @@ class Line(walk.Walk):
         self.over_params()
         self.line("    -- what each call is handed")
         for call in self.calls:
-            binders = "".join(f"({value.lifetime_made} : ℕ) → ({value.name_made} : GName) → " for value in call.lent)
+            binders = "".join(f"({name} : {type_}) → " for value in call.lent for name, type_ in value.made)
             binders += "".join(f"({value.name} : {walk.denoted(value.type)}) → " for value in call.earlier)
             self.line(f"    abbrev to-{call.result.name} : {binders}{call.callee.its} .Ghost", f"    {call.binds} = {self.ghost(call.handed)}", "")
         self.over_tables()
@@ -108,10 +134,14 @@ class Line(walk.Walk):
         for step in self.steps:
             if isinstance(step, Relent):
                 lines += self.relent(step, context)
+            elif isinstance(step, Copied):
+                lines.append(self.copied(step, context))
+            elif isinstance(step, Fronted):
+                lines += self.fronted(step, context)
             else:
                 lines += self.lending(step, context)
                 lines += self.called(step, context)
-                opened += 1 + 2 * len(step.lent) + self.settle_lasts(step, context, lines, lasts)
+                opened += 1 + sum(self.opened(value) for value in step.lent) + self.settle_lasts(step, context, lines, lasts)
                 lines.append(f"land ! (into !) (init ! {context.at(f'_{step.statement.result}')} refl {step.result.typed}) $")
                 lines += self.taking_back(step, context)
         lines.append(f"returns ! (look ! {context.at('_0')} refl) $")
@@ -137,11 +167,18 @@ class Line(walk.Walk):
         context.replace_front(1, [*tokens, "lasts"] if lent else tokens)
         return lines
 
+    def opened(self, value):
+        """How many parentheses lending it and taking it back open."""
+        return 3 if isinstance(value, walk.First) else 2
+
     def lending(self, call, context):
-        """The steps by which `&mut` slices are lent as `&` for a call."""
+        """The steps by which `&mut` slices and tables are lent as `&` for a call."""
         lines = []
         for value in call.lent:
             context.names.insert(0, value.token)
+            if isinstance(value, walk.First):
+                lines.append(self.lending_table(value, context))
+                continue
             front = context.to_front([value.lender.owned, value.lender.token])
             context.replace_front(2, [value.owned, value.kept])
             lines.append(f"lft-new ! tt (λ {value.lifetime_made}. {front}lends-shared ! tt {value.loan} (λ {value.name_made}.")
@@ -155,10 +192,42 @@ class Line(walk.Walk):
             context.replace_front(1, [])
             steps += context.to_front([value.token]) + "lft-end ! tt $ "
             context.replace_front(1, [value.dead])
-            steps += context.to_front([value.dead, value.kept]) + f"shared-back ! tt {value.loan} $"
-            context.replace_front(2, [value.lender.owned, value.lender.token])
-            lines.append(steps)
+            steps += context.to_front([value.dead, value.kept])
+            lines.append(steps + (self.table_back if isinstance(value, walk.First) else self.slice_back)(value, context))
         return lines
+
+    def slice_back(self, value, context):
+        context.replace_front(2, [value.lender.owned, value.lender.token])
+        return f"shared-back ! tt {value.loan} $"
+
+    # ---- a table
+    def lending_table(self, value, context):
+        front = context.to_front([value.cell])
+        context.replace_front(1, [value.owned, value.kept])
+        element, count, table = walk.held(value.array.element), value.array.count, value.lender
+        lends = f"lends-table ! tt tt {element} (named 0) {count} (lit< tt, lit< tt) {value.lifetime_made} {table.name} {value.count} {value.local} {table.proof}"
+        return f"lft-new ! tt (λ {value.lifetime_made}. {front}{lends} (λ {value.name_made}."
+
+    def table_back(self, value, context):
+        context.replace_front(2, [value.cell])
+        name = value.lender.name
+        back = f"table-back ! tt {value.element} {value.array.count} {value.lifetime_made} {name} {value.count} {value.local} {value.long} (λ v-{name}. "
+        return back + context.to_front([value.cell, value.dies]).rstrip()
+
+    def copied(self, step, context):
+        source, place = context.at(f"_{step.source}"), context.at(f"_{step.place}")
+        return f"assigns ! (of-opd ! (local ! (look ! {source} refl))) (into !) (init ! {place} refl {self.held[step.place].typed}) $"
+
+    def fronted(self, step, context):
+        """The steps by which a table's first elements become a slice: its address, that and the count, and that the count is how many they are."""
+        lent, count = self.held[step.place], self.held[step.count]
+        pointer, place = context.at(f"_{step.pointer}"), context.at(f"_{step.place}")
+        held = f"fat fullShare (sliceTy (tyRef erased imm (pointee ({lent.element} .written)))) {self.locals[step.place]} 0 (sliceVal ({lent.local}, 0) m)"
+        return [
+            f"assigns ! (addr ! (into !)) (into !) (init ! {pointer} refl (tt, tt)) $",
+            f"assigns ! (agg ! (and-then ! ({self.read(context, step.pointer)}) (and-then ! ({self.read(context, step.count)}) (no-more !)))) (into !) (init ! {place} refl (tt, (tt, (record {{ fits = {count.proof} .1 }}, tt)))) $",
+            f"rewrite ! {place} (λ (m : ℕ). ‵ ({held})) ({self.config['lends'][lent.lender.name][1]}) refl $",
+        ]
 
     def settle_lasts(self, call, context, lines, lasts):
         """What a call with a `&mut` says of its last values, taken apart. How many parentheses that opens."""
