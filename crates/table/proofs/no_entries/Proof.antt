@@ -1,0 +1,17 @@
+-- `table::no_entries` meets its contract.
+-- Assumes nothing.
+use mathlib.Core.Path.{ap}
+use lib.ListN.{replicate}
+use borrow.Author.Needs.{needs}
+use Rattle.table.specs.Table.{ENTRIES}
+use Rattle.table.proofs.no_entries.Statement.{statement}
+use Rattle.table.proofs.no_entries.Tie as tie
+
+no-entry-requires : tie.Need-no-entry-requires
+no-entry-requires c κs = search needs
+
+returns : tie.Need-returns
+returns c = ap (replicate ENTRIES) (c .no-entry .ensures)
+
+pub no-entries-spec : {M : Type 1} → statement M
+no-entries-spec = tie.close (tie.spec no-entry-requires returns)
