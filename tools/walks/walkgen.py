@@ -1,13 +1,14 @@
 #!/usr/bin/env python3
 """rt mir CRATE | walkgen.py FN.cfg.py : the proof of a straight-line function over lent slices, which calls others and returns what the last one answers.
 
-The parameters are lent slices (`&` and `&mut`) and plain values; each `&mut` goes to one callee for good, and before that to others as `&`. A config sets
-    crate, fn   the function
+The parameters are lent slices (`&` and `&mut`), plain values and tables of them; each `&mut` goes to one callee for good, and before that to others as `&`,
+and of a table the first elements may be lent to a callee. A config sets
+    crate, fn   the function; no fn in a config for all functions of a crate
     requires    for a call that requires something, by its result's name: the proof
     ends        the proof of what the function ensures
     uses        the import lines of what those proofs cite
     names       other names for parameters or results, where the source's name means something else in the proof
-    lends       for an array by value whose first elements are lent, by its name: how many, and the proof that the count in the code is the length of so many
+    lends       for a table whose first elements are lent, by its name: how many, and the proof that the code's count is the length of so many
 In proofs a parameter or a result has its own name, and the last call's result is r. `asks` is what the function requires, and
 is-NAME what the callee has ensured of the result NAME.
 """
