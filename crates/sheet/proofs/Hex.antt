@@ -1,12 +1,12 @@
 -- Digits in hexadecimal: where they stand among the bytes, and that each says a number below 16.
 -- Assumes nothing.
-use Prim.Native.Nat.{ℕ, _+_, _-_, _≤_, _<_}
+use Prim.Native.Nat.{ℕ, _+_, _-_, _*_, _/_, _%_, _≤_, _<_}
 use mathlib.Core.Bool.{Bool, true, false, cond, _&&_, _||_}
 use mathlib.Core.Option.{none, some}
 use mathlib.Core.Path.{_≡_, refl}
 use native.Mathlib.Omega.{arith}
 use lib.Dec.{leb}
-use borrow.Author.Tests.{leb-true, leb-false}
+use borrow.Author.Tests.{leb-true, leb-false, le-leb, lt-leb}
 use Rattle.sheet.specs.Blob.{isHex, hexValue}
 
 -- ---- what cannot be
@@ -33,14 +33,7 @@ is-one d e = go (leb 0x30 d) (leb d 0x39) (leb 0x61 d) (leb d 0x66) refl refl re
     go false q true false ep eq er es f = no-way f
     go false q false s ep eq er es f = no-way f
 
-pub digit-low : (d : ℕ) → isHex d ≡ true → d ≤ 0x39 → 0x30 ≤ d
-digit-low d e h = go (is-one d e)
-  where
-    go : Hex d → 0x30 ≤ d
-    go (low a b) = a
-    go (letter a b) = omega arith
-
-pub letter-low : (d : ℕ) → isHex d ≡ true → 0x39 < d → (0x61 ≤ d) × (d ≤ 0x66)
+letter-low : (d : ℕ) → isHex d ≡ true → 0x39 < d → (0x61 ≤ d) × (d ≤ 0x66)
 letter-low d e h = go (is-one d e)
   where
     go : Hex d → (0x61 ≤ d) × (d ≤ 0x66)
@@ -53,3 +46,11 @@ hex-small d e = go (leb d 0x39) refl
     go : (t : Bool) → leb d 0x39 ≡ t → cond t (d - 0x30) (d - 0x61 + 10) < 16
     go true f = omega (arith, leb-true d 0x39 f)
     go false f = omega (arith, letter-low d e (leb-false d 0x39 f) .1)
+
+-- from the last four bits, and the bit of 64 that letters have
+pub hex-bits : (d : ℕ) → isHex d ≡ true → d % 16 + d / 64 * 9 ≡ hexValue d
+hex-bits d e = go (is-one d e)
+  where
+    go : Hex d → d % 16 + d / 64 * 9 ≡ hexValue d
+    go (low a b) = rw (le-leb d 0x39 b) (omega arith)
+    go (letter a b) = rw (lt-leb d 0x39 (omega arith)) (omega arith)

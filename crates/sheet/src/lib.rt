@@ -277,14 +277,12 @@ fn is_hex(b: u8) -> bool
     b <= b'f'
 }
 
+// Without a branch, which random digits would mislead: the letters' last four bits are 1 to 6, and a letter has the bit of 64.
 fn hex_value(b: u8) -> u8
     requires { ⌜ isHex b ≡ true ⌝ }
     ensures { λ r. ⌜ (r ≡ hexValue b) × (r < 16) ⌝ }
 {
-    if b <= b'9' {
-        return b - b'0';
-    }
-    b - b'a' + 10
+    b % 16 + b / 64 * 9
 }
 
 fn take_high(s: State, b: u8) -> State
