@@ -102,8 +102,9 @@ module _ (m : Mark) (run : List ℕ) (es : List Entry) (c : Contact) (l : Lists)
     found-so s none e = ap (λ t. t .found) e
     found-so s (some x) e = (ap (λ t. t .found) e, ap (λ t. t .entry .version) e, ap (λ t. partOf run (t .entry)) e)
 
-    pub open-is : (restored passes passed : Bool) (k : ℕ) (s : Sought) → restored ≡ isRestored m → passes ≡ storePasses run es → passed ≡ (restored && passes)
-        → s ≡ soughtIn es k → {x : Opening} → x ≡ openLeaves passed (s .found) k m c (s .entry .version) (partOf run (s .entry)) l → afterOpen h x ≡ step HIGHEST (opens k) h
-    open-is restored passes passed k s is-restored is-passes is-passed is-s is =
+    pub open-is : (restored passes passed : Bool) (n k : ℕ) → k ≡ n → (s : Sought) → restored ≡ isRestored m → passes ≡ storePasses run es → passed ≡ (restored && passes)
+        → s ≡ soughtIn es k → {x : Opening} → x ≡ openLeaves passed (s .found) k m c (s .entry .version) (partOf run (s .entry)) l → afterOpen h x ≡ step HIGHEST (opens n) h
+    open-is restored passes passed n k is-k s is-restored is-passes is-passed is-s is =
         ap (afterOpen h) (is ∙ ap (λ b. openLeaves b (s .found) k m c (s .entry .version) (partOf run (s .entry)) l) (is-passed ∙ (λ i. is-restored i && is-passes i) ∙ on-store m))
         ∙ open-step h k (s .found) (s .entry .version) (partOf run (s .entry)) (found-so s (contactIn es k) is-s)
+        ∙ ap (λ (j : ℕ). step HIGHEST (opens j) h) is-k

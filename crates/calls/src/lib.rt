@@ -1,6 +1,7 @@
 // The calls of document 01 on a store and an open contact. Each asks 34 of all that it is handed, and then what follows it; a no changes nothing.
 // A caller keeps run, entries, mark, opened fields and lent lists, and hands them to the next call as the last granted one left them.
 use contact::Contact;
+use courier::ContactId;
 use ledger::Mark;
 use opened::CoverLeft;
 use opened::OpenLeft;
@@ -50,6 +51,12 @@ fn is_opened(mark: Mark) -> bool
         Mark::Restored => false,
         Mark::Opened(_) => true,
     }
+}
+
+fn number_of(id: ContactId) -> u64
+    ensures { λ r. ⌜ r ≡ id .0 ⌝ }
+{
+    id.0
 }
 
 // 0 where no contact is open.
@@ -193,19 +200,20 @@ pub fn open(
     above: &mut [u32],
     unacked: &mut [u32],
     expired: &mut [u32],
-    id: u64,
+    id: ContactId,
 ) -> OpenLeft
-    ensures { λ r. ⌜ leaves (verdictSays (r .answer)) (handOf (r .mark) (now (run .entry)) (now (entries .entry)) (r .contact) (lists (now (chains .exit)) (now (skipped .exit)) (now (above .exit)) (now (unacked .exit)) (now (expired .exit))) []) ≡ step HIGHEST (call.opens id) (handOf mark (now (run .entry)) (now (entries .entry)) contact (lists (now (chains .entry)) (now (skipped .entry)) (now (above .entry)) (now (unacked .entry)) (now (expired .entry))) []) ⌝ }
+    ensures { λ r. ⌜ leaves (verdictSays (r .answer)) (handOf (r .mark) (now (run .entry)) (now (entries .entry)) (r .contact) (lists (now (chains .exit)) (now (skipped .exit)) (now (above .exit)) (now (unacked .exit)) (now (expired .exit))) []) ≡ step HIGHEST (call.opens (id .0)) (handOf mark (now (run .entry)) (now (entries .entry)) contact (lists (now (chains .entry)) (now (skipped .entry)) (now (above .entry)) (now (unacked .entry)) (now (expired .entry))) []) ⌝ }
 {
+    let wanted = number_of(id);
     let restored = is_restored(mark);
     let passes = passes::store_passes(run, entries);
     let passed = both(restored, passes);
-    let sought = sought::contact_in(entries, id);
+    let sought = sought::contact_in(entries, wanted);
     open_sought(
         run,
         passed,
         sought,
-        id,
+        wanted,
         mark,
         contact,
         chains,

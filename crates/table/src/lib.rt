@@ -2,6 +2,7 @@
 // A count above the table's length counts as that length.
 use calls::RestoreLeft;
 use contact::Contact;
+use courier::ContactId;
 use ledger::Mark;
 use opened::CoverLeft;
 use opened::OpenLeft;
@@ -142,9 +143,9 @@ pub fn open(
     above: &mut [u32],
     unacked: &mut [u32],
     expired: &mut [u32],
-    id: u64,
+    id: ContactId,
 ) -> OpenLeft
-    ensures { λ r. ⌜ leaves (verdictSays (r .answer)) (handOf (r .mark) (now (run .entry)) (list.take n table) (r .contact) (lists (now (chains .exit)) (now (skipped .exit)) (now (above .exit)) (now (unacked .exit)) (now (expired .exit))) []) ≡ step HIGHEST (call.opens id) (handOf mark (now (run .entry)) (list.take n table) contact (lists (now (chains .entry)) (now (skipped .entry)) (now (above .entry)) (now (unacked .entry)) (now (expired .entry))) []) ⌝ }
+    ensures { λ r. ⌜ leaves (verdictSays (r .answer)) (handOf (r .mark) (now (run .entry)) (list.take n table) (r .contact) (lists (now (chains .exit)) (now (skipped .exit)) (now (above .exit)) (now (unacked .exit)) (now (expired .exit))) []) ≡ step HIGHEST (call.opens (id .0)) (handOf mark (now (run .entry)) (list.take n table) contact (lists (now (chains .entry)) (now (skipped .entry)) (now (above .entry)) (now (unacked .entry)) (now (expired .entry))) []) ⌝ }
 {
     let count = held(n);
     calls::open(

@@ -50,9 +50,15 @@ use Rattle.ledger.proofs.Mark.Laws as MarkL
 use Rattle.contact.specs.declared.Contact.{Contact}
 use Rattle.contact.proofs.Contact as ContactT
 use Rattle.contact.proofs.Contact.Laws as ContactL
+use Rattle.courier.specs.declared.ContactId.{ContactId}
+use Rattle.courier.proofs.ContactId as ContactIdT
+use Rattle.courier.proofs.ContactId.Laws as ContactIdL
 use Rattle.sought.specs.declared.Sought.{Sought}
 use Rattle.sought.proofs.Sought as SoughtT
 use Rattle.sought.proofs.Sought.Laws as SoughtL
+use Rattle.calls.proofs.number_of as number-of
+use Rattle.calls.proofs.number_of.Symbol as number-of-def
+use Rattle.calls.proofs.number_of.Met as number-of-thm
 use Rattle.calls.proofs.is_restored as is-restored
 use Rattle.calls.proofs.is_restored.Symbol as is-restored-def
 use Rattle.calls.proofs.is_restored.Met as is-restored-thm
@@ -108,6 +114,9 @@ module _ {M : Type 1} (𝓤 : URA M) (H : Heap 𝓤) (A : Atoms 𝓤) (W : Given
   abbrev as-Contact : Held W ContactT.the-row
   as-Contact = of-struct W ContactT.the-type ContactL.the-laws ContactL.the-plain
 
+  abbrev as-ContactId : Held W ContactIdT.the-row
+  as-ContactId = of-struct W ContactIdT.the-type ContactIdL.the-laws ContactIdL.the-plain
+
   abbrev as-w64 : Held W (UInt w64)
   as-w64 = number W w64
 
@@ -118,6 +127,9 @@ module _ {M : Type 1} (𝓤 : URA M) (H : Heap 𝓤) (A : Atoms 𝓤) (W : Given
   as-Sought = of-struct W SoughtT.the-type SoughtL.the-laws SoughtL.the-plain
 
   -- the contracts that the proof cites, and its own
+  abbrev Its-number-of : Contract 𝓤
+  Its-number-of = tripleOf 𝓤 H A number-of.signature (number-of.spec 𝓤 H A mem calling)
+
   abbrev Its-is-restored : Contract 𝓤
   Its-is-restored = tripleOf 𝓤 H A is-restored.signature (is-restored.spec 𝓤 H A mem calling)
 
@@ -134,6 +146,7 @@ module _ {M : Type 1} (𝓤 : URA M) (H : Heap 𝓤) (A : Atoms 𝓤) (W : Given
   Its-open-sought = tripleOf 𝓤 H A open-sought.signature (open-sought.spec 𝓤 H A mem calling)
 
   pub record Known (C : Calls 𝓤 H) : Type 1 where
+    pub number-of : Triple 𝓤 (C number-of-def.name) Its-number-of
     pub is-restored : Triple 𝓤 (C is-restored-def.name) Its-is-restored
     pub passes-store-passes : Triple 𝓤 (C passes-store-passes-def.name) Its-passes-store-passes
     pub both : Triple 𝓤 (C both-def.name) Its-both
@@ -147,7 +160,7 @@ module _ {M : Type 1} (𝓤 : URA M) (H : Heap 𝓤) (A : Atoms 𝓤) (W : Given
   This = walkOf 𝓤 H A this.ended stayed clauses
 
   module _ (κ₀ κ₁ κ₂ κ₃ κ₄ κ₅ κ₆ : Lft) (q₀ q₁ q₂ q₃ q₄ q₅ q₆ : Share) (run : RefT (List ℕ)) (entries : RefT (List Entry)) (mark : Mark) (contact : Contact) (chains : RefT (List ℕ))
-      (skipped : RefT (List ℕ)) (above : RefT (List ℕ)) (unacked : RefT (List ℕ)) (expired : RefT (List ℕ)) (id : ℕ)
+      (skipped : RefT (List ℕ)) (above : RefT (List ℕ)) (unacked : RefT (List ℕ)) (expired : RefT (List ℕ)) (id : ContactId)
       (in-run : Is (ShrSlice (named 0) κ₀ (UInt w8)) run (slice-vals run))
       (in-entries : Is (ShrSlice (named 1) κ₁ EntryT.the-row) entries (slice-vals entries))
       (in-mark : Lies as-Mark mark)
@@ -157,7 +170,7 @@ module _ {M : Type 1} (𝓤 : URA M) (H : Heap 𝓤) (A : Atoms 𝓤) (W : Given
       (in-above : Is (MutSlice (named 4) κ₄ (UInt w32)) above (slice-vals above))
       (in-unacked : Is (MutSlice (named 5) κ₅ (UInt w32)) unacked (slice-vals unacked))
       (in-expired : Is (MutSlice (named 6) κ₆ (UInt w32)) expired (slice-vals expired))
-      (in-id : Lies as-w64 id) where
+      (in-id : Lies as-ContactId id) where
     abbrev bound : This .Ghost
     bound = (
       (
@@ -173,7 +186,7 @@ module _ {M : Type 1} (𝓤 : URA M) (H : Heap 𝓤) (A : Atoms 𝓤) (W : Given
               vals as-Mark mark,
               (
                 vals as-Contact contact,
-                (slice-vals chains, (slice-vals skipped, (slice-vals above, (slice-vals unacked, (slice-vals expired, (vals as-w64 id, tt)))))),
+                (slice-vals chains, (slice-vals skipped, (slice-vals above, (slice-vals unacked, (slice-vals expired, (vals as-ContactId id, tt)))))),
               ),
             ),
           ),
@@ -183,25 +196,28 @@ module _ {M : Type 1} (𝓤 : URA M) (H : Heap 𝓤) (A : Atoms 𝓤) (W : Given
     )
 
     -- what each call is handed
-    abbrev to-restored : Its-is-restored .Ghost
-    to-restored = ((tt, tt, tt, (mark, tt), (vals as-Mark mark, tt)), tt)
+    abbrev to-wanted : Its-number-of .Ghost
+    to-wanted = ((tt, tt, tt, (id, tt), (vals as-ContactId id, tt)), tt)
 
-    abbrev to-passes : (restored : Bool) → Its-passes-store-passes .Ghost
-    to-passes restored = (((κ₀, (κ₁, tt)), (q₀, (q₁, tt)), tt, (run, (entries, tt)), (slice-vals run, (slice-vals entries, tt))), tt)
+    abbrev to-restored : (wanted : ℕ) → Its-is-restored .Ghost
+    to-restored wanted = ((tt, tt, tt, (mark, tt), (vals as-Mark mark, tt)), tt)
 
-    abbrev to-passed : (restored : Bool) → (passes : Bool) → Its-both .Ghost
-    to-passed restored passes = ((tt, tt, tt, (restored, (passes, tt)), (vals as-bool restored, (vals as-bool passes, tt))), tt)
+    abbrev to-passes : (wanted : ℕ) → (restored : Bool) → Its-passes-store-passes .Ghost
+    to-passes wanted restored = (((κ₀, (κ₁, tt)), (q₀, (q₁, tt)), tt, (run, (entries, tt)), (slice-vals run, (slice-vals entries, tt))), tt)
 
-    abbrev to-sought : (restored : Bool) → (passes : Bool) → (passed : Bool) → Its-sought-contact-in .Ghost
-    to-sought restored passes passed = (((κ₁, tt), (q₁, tt), tt, (entries, (id, tt)), (slice-vals entries, (vals as-w64 id, tt))), tt)
+    abbrev to-passed : (wanted : ℕ) → (restored : Bool) → (passes : Bool) → Its-both .Ghost
+    to-passed wanted restored passes = ((tt, tt, tt, (restored, (passes, tt)), (vals as-bool restored, (vals as-bool passes, tt))), tt)
 
-    abbrev to-r : (restored : Bool) → (passes : Bool) → (passed : Bool) → (sought : Sought) → Its-open-sought .Ghost
-    to-r restored passes passed sought = (
+    abbrev to-sought : (wanted : ℕ) → (restored : Bool) → (passes : Bool) → (passed : Bool) → Its-sought-contact-in .Ghost
+    to-sought wanted restored passes passed = (((κ₁, tt), (q₁, tt), tt, (entries, (wanted, tt)), (slice-vals entries, (vals as-w64 wanted, tt))), tt)
+
+    abbrev to-r : (wanted : ℕ) → (restored : Bool) → (passes : Bool) → (passed : Bool) → (sought : Sought) → Its-open-sought .Ghost
+    to-r wanted restored passes passed sought = (
       (
         (κ₀, (κ₂, (κ₃, (κ₄, (κ₅, (κ₆, tt)))))),
         (q₀, (q₂, (q₃, (q₄, (q₅, (q₆, tt)))))),
         tt,
-        (run, (passed, (sought, (id, (mark, (contact, (chains, (skipped, (above, (unacked, (expired, tt))))))))))),
+        (run, (passed, (sought, (wanted, (mark, (contact, (chains, (skipped, (above, (unacked, (expired, tt))))))))))),
         (
           slice-vals run,
           (
@@ -209,7 +225,7 @@ module _ {M : Type 1} (𝓤 : URA M) (H : Heap 𝓤) (A : Atoms 𝓤) (W : Given
             (
               vals as-Sought sought,
               (
-                vals as-w64 id,
+                vals as-w64 wanted,
                 (vals as-Mark mark, (vals as-Contact contact, (slice-vals chains, (slice-vals skipped, (slice-vals above, (slice-vals unacked, (slice-vals expired, tt))))))),
               ),
             ),
@@ -238,62 +254,68 @@ module _ {M : Type 1} (𝓤 : URA M) (H : Heap 𝓤) (A : Atoms 𝓤) (W : Given
           (λ l₄. alloc1 ! (λ l₅. alloc1 ! (λ l₆. alloc1 ! (λ l₇. alloc1 ! (λ l₈. alloc1 !
           (λ l₉. alloc1 ! (λ l₁₀. alloc1 ! (λ l₁₁. alloc1 ! (λ l₁₂. alloc1 !
           (λ l₁₃. alloc1 ! (λ l₁₄. alloc1 ! (λ l₁₅. alloc1 ! (λ l₁₆. alloc1 !
-          (λ l₁₇. alloc1 ! (λ l₁₈. alloc1 ! (λ l₁₉. alloc1 ! (λ l₂₀. alloc1 ! (λ l₂₁. alloc1 ! (λ l₂₂. alloc1 ! (λ l₂₃. alloc1 ! (λ l₂₄. alloc0 ! $ params1 ! $
-          pass1 ! (init ! 46 refl (shr-slice-lawful 𝓤 H A W (named 0) κ₀ (UInt w8) .typed run (slice-vals run) in-run .0)) $
-          pass1 ! (init ! 44 refl (shr-slice-lawful 𝓤 H A W (named 1) κ₁ EntryT.the-row .typed entries (slice-vals entries) in-entries .0)) $
-          pass1 ! (init ! 42 refl (as-Mark .lawful .typed mark _ in-mark .0)) $
-          pass1 ! (init ! 40 refl (as-Contact .lawful .typed contact _ in-contact .0)) $
-          pass1 ! (init ! 38 refl (mut-slice-lawful 𝓤 H A W (named 2) κ₂ (UInt w8) .typed chains (slice-vals chains) in-chains .0)) $
-          pass1 ! (init ! 36 refl (mut-slice-lawful 𝓤 H A W (named 3) κ₃ (UInt w8) .typed skipped (slice-vals skipped) in-skipped .0)) $
-          pass1 ! (init ! 34 refl (mut-slice-lawful 𝓤 H A W (named 4) κ₄ (UInt w32) .typed above (slice-vals above) in-above .0)) $
-          pass1 ! (init ! 32 refl (mut-slice-lawful 𝓤 H A W (named 5) κ₅ (UInt w32) .typed unacked (slice-vals unacked) in-unacked .0)) $
-          pass1 ! (init ! 30 refl (mut-slice-lawful 𝓤 H A W (named 6) κ₆ (UInt w32) .typed expired (slice-vals expired) in-expired .0)) $
-          pass1 ! (init ! 28 refl (as-w64 .lawful .typed id _ in-id .0)) $
-          pass0 ! $ move ! (50 ∷ 51 ∷ 52 ∷ 53 ∷ 54 ∷ 55 ∷ 56 ∷ 57 ∷ 58 ∷ 59 ∷ 60 ∷ 61 ∷ 62 ∷ 63 ∷ []) $
+          (λ l₁₇. alloc1 ! (λ l₁₈. alloc1 ! (λ l₁₉. alloc1 ! (λ l₂₀. alloc1 ! (λ l₂₁. alloc1 ! (λ l₂₂. alloc1 ! (λ l₂₃. alloc1 ! (λ l₂₄. alloc1 ! (λ l₂₅. alloc0 ! $ params1 ! $
+          pass1 ! (init ! 48 refl (shr-slice-lawful 𝓤 H A W (named 0) κ₀ (UInt w8) .typed run (slice-vals run) in-run .0)) $
+          pass1 ! (init ! 46 refl (shr-slice-lawful 𝓤 H A W (named 1) κ₁ EntryT.the-row .typed entries (slice-vals entries) in-entries .0)) $
+          pass1 ! (init ! 44 refl (as-Mark .lawful .typed mark _ in-mark .0)) $
+          pass1 ! (init ! 42 refl (as-Contact .lawful .typed contact _ in-contact .0)) $
+          pass1 ! (init ! 40 refl (mut-slice-lawful 𝓤 H A W (named 2) κ₂ (UInt w8) .typed chains (slice-vals chains) in-chains .0)) $
+          pass1 ! (init ! 38 refl (mut-slice-lawful 𝓤 H A W (named 3) κ₃ (UInt w8) .typed skipped (slice-vals skipped) in-skipped .0)) $
+          pass1 ! (init ! 36 refl (mut-slice-lawful 𝓤 H A W (named 4) κ₄ (UInt w32) .typed above (slice-vals above) in-above .0)) $
+          pass1 ! (init ! 34 refl (mut-slice-lawful 𝓤 H A W (named 5) κ₅ (UInt w32) .typed unacked (slice-vals unacked) in-unacked .0)) $
+          pass1 ! (init ! 32 refl (mut-slice-lawful 𝓤 H A W (named 6) κ₆ (UInt w32) .typed expired (slice-vals expired) in-expired .0)) $
+          pass1 ! (init ! 30 refl (as-ContactId .lawful .typed id _ in-id .0)) $
+          pass0 ! $ move ! (52 ∷ 53 ∷ 54 ∷ 55 ∷ 56 ∷ 57 ∷ 58 ∷ 59 ∷ 60 ∷ 61 ∷ 62 ∷ 63 ∷ 64 ∷ 65 ∷ []) $
+          -- wanted is calls::number_of(id)
+          nothing ! $ plus ! as-ContactId id in-id $
+          calls-held ! fm number-of.ended (number-of.clauses 𝓤 H A mem calling) (known .number-of) to-wanted (id⊢ 𝓤 _) as-w64 (λ r ws. id⊢ 𝓤 _)
+          (and-then ! (local ! (look ! 45 refl)) (no-more !)) (λ wanted is-wanted in-wanted.
+          land ! (into !) (init ! 42 refl (as-w64 .lawful .typed wanted _ in-wanted .0)) $
           -- restored is calls::is_restored(mark)
           nothing ! $ plus ! as-Mark mark in-mark $
-          calls-held ! fm is-restored.ended (is-restored.clauses 𝓤 H A mem calling) (known .is-restored) to-restored (id⊢ 𝓤 _) as-bool (λ r ws. id⊢ 𝓤 _)
-          (and-then ! (local ! (look ! 57 refl)) (no-more !)) (λ restored is-restored in-restored.
+          calls-held ! fm is-restored.ended (is-restored.clauses 𝓤 H A mem calling) (known .is-restored) (to-restored wanted) (id⊢ 𝓤 _) as-bool (λ r ws. id⊢ 𝓤 _)
+          (and-then ! (local ! (look ! 59 refl)) (no-more !)) (λ restored is-restored in-restored.
           land ! (into !) (init ! 40 refl (as-bool .lawful .typed restored _ in-restored .0)) $
           -- passes is passes::store_passes(run, entries)
           nothing ! $ lends ! 8 (named 1) κ₁ EntryT.the-row entries refl $ lends ! 7 (named 0) κ₀ (UInt w8) run refl $ move ! (1 ∷ 2 ∷ 0 ∷ []) $
-          calls-held ! fm passes-store-passes.ended (passes-store-passes.clauses 𝓤 H A mem calling) (known .passes-store-passes) (to-passes restored) (id⊢ 𝓤 _) as-bool (λ r ws. id⊢ 𝓤 _)
-          (and-then ! (local ! (look ! 59 refl)) (and-then ! (local ! (look ! 57 refl)) (no-more !))) (λ passes is-passes in-passes.
+          calls-held ! fm passes-store-passes.ended (passes-store-passes.clauses 𝓤 H A mem calling) (known .passes-store-passes) (to-passes wanted restored) (id⊢ 𝓤 _) as-bool
+          (λ r ws. id⊢ 𝓤 _)
+          (and-then ! (local ! (look ! 61 refl)) (and-then ! (local ! (look ! 59 refl)) (no-more !))) (λ passes is-passes in-passes.
           land ! (into !) (init ! 38 refl (as-bool .lawful .typed passes _ in-passes .0)) $
           -- passed is calls::both(restored, passes)
           nothing ! $ plus ! as-bool passes in-passes $ plus ! as-bool restored in-restored $
-          calls-held ! fm both.ended (both.clauses 𝓤 H A mem calling) (known .both) (to-passed restored passes) (id⊢ 𝓤 _) as-bool (λ r ws. id⊢ 𝓤 _)
+          calls-held ! fm both.ended (both.clauses 𝓤 H A mem calling) (known .both) (to-passed wanted restored passes) (id⊢ 𝓤 _) as-bool (λ r ws. id⊢ 𝓤 _)
           (and-then ! (local ! (look ! 41 refl)) (and-then ! (local ! (look ! 39 refl)) (no-more !))) (λ passed is-passed in-passed.
           land ! (into !) (init ! 36 refl (as-bool .lawful .typed passed _ in-passed .0)) $
-          -- sought is sought::contact_in(entries, id)
-          nothing ! $ plus ! as-w64 id in-id $ lends ! 8 (named 1) κ₁ EntryT.the-row entries refl $ move ! (2 ∷ 0 ∷ []) $
-          calls-held ! fm sought-contact-in.ended (sought-contact-in.clauses 𝓤 H A mem calling) (known .sought-contact-in) (to-sought restored passes passed) (id⊢ 𝓤 _) as-Sought
+          -- sought is sought::contact_in(entries, wanted)
+          nothing ! $ plus ! as-w64 wanted in-wanted $ lends ! 8 (named 1) κ₁ EntryT.the-row entries refl $ move ! (2 ∷ 0 ∷ []) $
+          calls-held ! fm sought-contact-in.ended (sought-contact-in.clauses 𝓤 H A mem calling) (known .sought-contact-in) (to-sought wanted restored passes passed) (id⊢ 𝓤 _) as-Sought
           (λ r ws. id⊢ 𝓤 _)
-          (and-then ! (local ! (look ! 58 refl)) (and-then ! (local ! (look ! 42 refl)) (no-more !))) (λ sought is-sought in-sought.
+          (and-then ! (local ! (look ! 60 refl)) (and-then ! (local ! (look ! 42 refl)) (no-more !))) (λ sought is-sought in-sought.
           land ! (into !) (init ! 34 refl (as-Sought .lawful .typed sought _ in-sought .0)) $
-          assigns ! (addr ! (from ! (fld ! refl (hop ! (look-in ! 52 (sub ! 0 refl (whole !))) (stop !))))) (into !) (init ! 32 refl (tt, tt)) $
-          assigns ! (agg ! (and-then ! (local ! (look ! 32 refl)) (and-then ! (load ! (from ! (fld ! refl (stop !))) (look-in ! 52 (sub ! 1 refl (whole !)))) (no-more !)))) (into !)
+          assigns ! (addr ! (from ! (fld ! refl (hop ! (look-in ! 54 (sub ! 0 refl (whole !))) (stop !))))) (into !) (init ! 32 refl (tt, tt)) $
+          assigns ! (agg ! (and-then ! (local ! (look ! 32 refl)) (and-then ! (load ! (from ! (fld ! refl (stop !))) (look-in ! 54 (sub ! 1 refl (whole !)))) (no-more !)))) (into !)
           (init ! 30 refl (tt, (tt, (record { fits = in-chains .0 .1 .0 }, tt)))) $
-          assigns ! (addr ! (from ! (fld ! refl (hop ! (look-in ! 50 (sub ! 0 refl (whole !))) (stop !))))) (into !) (init ! 28 refl (tt, tt)) $
-          assigns ! (agg ! (and-then ! (local ! (look ! 28 refl)) (and-then ! (load ! (from ! (fld ! refl (stop !))) (look-in ! 50 (sub ! 1 refl (whole !)))) (no-more !)))) (into !)
+          assigns ! (addr ! (from ! (fld ! refl (hop ! (look-in ! 52 (sub ! 0 refl (whole !))) (stop !))))) (into !) (init ! 28 refl (tt, tt)) $
+          assigns ! (agg ! (and-then ! (local ! (look ! 28 refl)) (and-then ! (load ! (from ! (fld ! refl (stop !))) (look-in ! 52 (sub ! 1 refl (whole !)))) (no-more !)))) (into !)
           (init ! 26 refl (tt, (tt, (record { fits = in-skipped .0 .1 .0 }, tt)))) $
-          assigns ! (addr ! (from ! (fld ! refl (hop ! (look-in ! 48 (sub ! 0 refl (whole !))) (stop !))))) (into !) (init ! 24 refl (tt, tt)) $
-          assigns ! (agg ! (and-then ! (local ! (look ! 24 refl)) (and-then ! (load ! (from ! (fld ! refl (stop !))) (look-in ! 48 (sub ! 1 refl (whole !)))) (no-more !)))) (into !)
+          assigns ! (addr ! (from ! (fld ! refl (hop ! (look-in ! 50 (sub ! 0 refl (whole !))) (stop !))))) (into !) (init ! 24 refl (tt, tt)) $
+          assigns ! (agg ! (and-then ! (local ! (look ! 24 refl)) (and-then ! (load ! (from ! (fld ! refl (stop !))) (look-in ! 50 (sub ! 1 refl (whole !)))) (no-more !)))) (into !)
           (init ! 22 refl (tt, (tt, (record { fits = in-above .0 .1 .0 }, tt)))) $
-          assigns ! (addr ! (from ! (fld ! refl (hop ! (look-in ! 46 (sub ! 0 refl (whole !))) (stop !))))) (into !) (init ! 20 refl (tt, tt)) $
-          assigns ! (agg ! (and-then ! (local ! (look ! 20 refl)) (and-then ! (load ! (from ! (fld ! refl (stop !))) (look-in ! 46 (sub ! 1 refl (whole !)))) (no-more !)))) (into !)
+          assigns ! (addr ! (from ! (fld ! refl (hop ! (look-in ! 48 (sub ! 0 refl (whole !))) (stop !))))) (into !) (init ! 20 refl (tt, tt)) $
+          assigns ! (agg ! (and-then ! (local ! (look ! 20 refl)) (and-then ! (load ! (from ! (fld ! refl (stop !))) (look-in ! 48 (sub ! 1 refl (whole !)))) (no-more !)))) (into !)
           (init ! 18 refl (tt, (tt, (record { fits = in-unacked .0 .1 .0 }, tt)))) $
-          assigns ! (addr ! (from ! (fld ! refl (hop ! (look-in ! 44 (sub ! 0 refl (whole !))) (stop !))))) (into !) (init ! 16 refl (tt, tt)) $
-          assigns ! (agg ! (and-then ! (local ! (look ! 16 refl)) (and-then ! (load ! (from ! (fld ! refl (stop !))) (look-in ! 44 (sub ! 1 refl (whole !)))) (no-more !)))) (into !)
+          assigns ! (addr ! (from ! (fld ! refl (hop ! (look-in ! 46 (sub ! 0 refl (whole !))) (stop !))))) (into !) (init ! 16 refl (tt, tt)) $
+          assigns ! (agg ! (and-then ! (local ! (look ! 16 refl)) (and-then ! (load ! (from ! (fld ! refl (stop !))) (look-in ! 46 (sub ! 1 refl (whole !)))) (no-more !)))) (into !)
           (init ! 14 refl (tt, (tt, (record { fits = in-expired .0 .1 .0 }, tt)))) $
-          -- r is calls::open_sought(run, passed, sought, id, mark, contact, chains, skipped, above, unacked, expired)
+          -- r is calls::open_sought(run, passed, sought, wanted, mark, contact, chains, skipped, above, unacked, expired)
           nothing ! $ move ! (14 ∷ 0 ∷ []) $ fjoin ! $ move ! (13 ∷ 0 ∷ []) $ fjoin ! $ move ! (12 ∷ 0 ∷ []) $ fjoin ! $ move ! (11 ∷ 0 ∷ []) $ fjoin ! $ move ! (10 ∷ 0 ∷ []) $ fjoin ! $
-          plus ! as-Contact contact in-contact $ plus ! as-Mark mark in-mark $ plus ! as-w64 id in-id $ plus ! as-Sought sought in-sought $ plus ! as-bool passed in-passed $
+          plus ! as-Contact contact in-contact $ plus ! as-Mark mark in-mark $ plus ! as-w64 wanted in-wanted $ plus ! as-Sought sought in-sought $ plus ! as-bool passed in-passed $
           lends ! 7 (named 0) κ₀ (UInt w8) run refl $ move ! (2 ∷ 3 ∷ 4 ∷ 5 ∷ 6 ∷ 7 ∷ 0 ∷ []) $
-          calls-lent ! fm open-sought.ended (open-sought.clauses 𝓤 H A mem calling) (known .open-sought) (to-r restored passes passed sought) (id⊢ 𝓤 _) as-OpenLeft (λ r ws. id⊢ 𝓤 _)
-          (and-then ! (local ! (look ! 50 refl)) (and-then ! (local ! (look ! 26 refl))
+          calls-lent ! fm open-sought.ended (open-sought.clauses 𝓤 H A mem calling) (known .open-sought) (to-r wanted restored passes passed sought) (id⊢ 𝓤 _) as-OpenLeft (λ r ws. id⊢ 𝓤 _)
+          (and-then ! (local ! (look ! 52 refl)) (and-then ! (local ! (look ! 26 refl))
           (and-then ! (local ! (look ! 24 refl)) (and-then ! (local ! (look ! 32 refl))
-          (and-then ! (local ! (look ! 46 refl)) (and-then ! (local ! (look ! 44 refl))
+          (and-then ! (local ! (look ! 48 refl)) (and-then ! (local ! (look ! 46 refl))
           (and-then ! (local ! (look ! 20 refl)) (and-then ! (local ! (look ! 16 refl))
           (and-then ! (local ! (look ! 12 refl)) (and-then ! (local ! (look ! 8 refl)) (and-then ! (local ! (look ! 4 refl)) (no-more !)))))))))))) (λ r ws-r is-r in-r.
           move ! (6 ∷ []) $ fsplit ! $ drop ! $ fsplit ! $ drop ! $ fsplit ! $ drop ! $ fsplit ! $ drop ! $ fsplit ! $ drop ! $ fsplit ! $ drop ! $ fsplit ! $ fsplit ! $ move ! (1 ∷ []) $
@@ -301,12 +323,12 @@ module _ {M : Type 1} (𝓤 : URA M) (H : Heap 𝓤) (A : Atoms 𝓤) (W : Given
           feqL ! (λ fits-skipped. move ! (1 ∷ []) $ fsplit ! $ fsplit ! $ move ! (1 ∷ []) $
           feqL ! (λ fits-above. move ! (1 ∷ []) $ fsplit ! $ fsplit ! $ move ! (1 ∷ []) $
           feqL ! (λ fits-unacked. move ! (1 ∷ []) $ fsplit ! $ fsplit ! $ move ! (1 ∷ []) $ feqL ! (λ fits-expired. move ! (1 ∷ []) $ drop ! $
-          land ! (into !) (init ! 62 refl (as-OpenLeft .lawful .typed r _ in-r .0)) $
-          returns ! (look ! 62 refl) $
-          gone ! 62 refl refl $ gone ! 60 refl refl $ gone ! 58 refl refl $ gone ! 56 refl refl $ gone ! 54 refl refl $ gone ! 52 refl refl $ gone ! 50 refl refl $ gone ! 48 refl refl $
-          gone ! 46 refl refl $ gone ! 44 refl refl $ gone ! 42 refl refl $ gone ! 40 refl refl $ gone ! 38 refl refl $ gone ! 36 refl refl $ gone ! 34 refl refl $ gone ! 32 refl refl $
-          gone ! 30 refl refl $ gone ! 28 refl refl $ gone ! 26 refl refl $ gone ! 24 refl refl $ gone ! 22 refl refl $ gone ! 20 refl refl $ gone ! 18 refl refl $ gone ! 16 refl refl $
-          gone ! 14 refl refl $ free0 ! $
+          land ! (into !) (init ! 64 refl (as-OpenLeft .lawful .typed r _ in-r .0)) $
+          returns ! (look ! 64 refl) $
+          gone ! 64 refl refl $ gone ! 62 refl refl $ gone ! 60 refl refl $ gone ! 58 refl refl $ gone ! 56 refl refl $ gone ! 54 refl refl $ gone ! 52 refl refl $ gone ! 50 refl refl $
+          gone ! 48 refl refl $ gone ! 46 refl refl $ gone ! 44 refl refl $ gone ! 42 refl refl $ gone ! 40 refl refl $ gone ! 38 refl refl $ gone ! 36 refl refl $ gone ! 34 refl refl $
+          gone ! 32 refl refl $ gone ! 30 refl refl $ gone ! 28 refl refl $ gone ! 26 refl refl $ gone ! 24 refl refl $ gone ! 22 refl refl $ gone ! 20 refl refl $ gone ! 18 refl refl $
+          gone ! 16 refl refl $ gone ! 14 refl refl $ free0 ! $
           suffices ! _ (ends-at 𝓤 H A this.ended stayed clauses W bound (as-OpenLeft .val r) r (
             tt,
             (
@@ -327,16 +349,16 @@ module _ {M : Type 1} (𝓤 : URA M) (H : Heap 𝓤) (A : Atoms 𝓤) (W : Given
             ),
           )
           (tt, (tt, (tt, (tt, (fits-chains, (fits-skipped, (fits-above, (fits-unacked, (fits-expired, (tt, tt))))))))))) $
-          says ! (open-is mark (now run) (now entries) contact (lists (now chains) (now skipped) (now above) (now unacked) (now expired)) [] restored passes passed id sought is-restored
-          is-passes is-passed is-sought is-r) $
+          says ! (open-is mark (now run) (now entries) contact (lists (now chains) (now skipped) (now above) (now unacked) (now expired)) [] restored passes passed (id .0) wanted is-wanted
+          sought is-restored is-passes is-passed is-sought is-r) $
           keep ! (5 ∷ 11 ∷ 6 ∷ 7 ∷ 8 ∷ 9 ∷ 10 ∷ 4 ∷ 3 ∷ 2 ∷ 1 ∷ 0 ∷ []) $ retok ! 7 (κ₀, (κ₁, (κ₂, (κ₃, (κ₄, (κ₅, (κ₆, tt))))))) (q₀, (q₁, (q₂, (q₃, (q₄, (q₅, (q₆, tt))))))) $ frame ! $
           nothing ! $ none ! $ move ! (5 ∷ 0 ∷ []) $ fjoin ! $ move ! (4 ∷ 0 ∷ []) $ fjoin ! $ move ! (3 ∷ 0 ∷ []) $ fjoin ! $ move ! (2 ∷ 0 ∷ []) $ fjoin ! $ move ! (1 ∷ 0 ∷ []) $
-          fjoin ! $ none ! $ none ! $ none ! $ none ! $ frame ! $ owned ! OpenLeftT.the-row (Is OpenLeftT.the-row) (as-OpenLeft .makes) r _ in-r $ done !)))))))))))))))))))))))))))))))))))
+          fjoin ! $ none ! $ none ! $ none ! $ none ! $ frame ! $ owned ! OpenLeftT.the-row (Is OpenLeftT.the-row) (as-OpenLeft .makes) r _ in-r $ done !)))))))))))))))))))))))))))))))))))))
 
   module _ (𝓣 : Tables 𝓤 H) (known : Known (𝓣 .C)) where
     walks : Walks 𝓤 H A this.ended stayed (WpFn 𝓤 H (𝓣 .C) (𝓣 .Λ) code.function) clauses
     walks = walked 𝓤 H A this.ended stayed clauses (WpFn 𝓤 H (𝓣 .C) (𝓣 .Λ) code.function)
-        (λ κs. (slice-vals, (slice-vals, (vals as-Mark, (vals as-Contact, (slice-vals, (slice-vals, (slice-vals, (slice-vals, (slice-vals, (vals as-w64, tt)))))))))))
+        (λ κs. (slice-vals, (slice-vals, (vals as-Mark, (vals as-Contact, (slice-vals, (slice-vals, (slice-vals, (slice-vals, (slice-vals, (vals as-ContactId, tt)))))))))))
         (λ κs. (
           shr-slice-tells (named 0) (κs .0) (UInt w8),
           (
@@ -351,7 +373,7 @@ module _ {M : Type 1} (𝓤 : URA M) (H : Heap 𝓤) (A : Atoms 𝓤) (W : Given
                     mut-slice-tells (named 3) (κs .1 .1 .1 .0) (UInt w8),
                     (
                       mut-slice-tells (named 4) (κs .1 .1 .1 .1 .0) (UInt w32),
-                      (mut-slice-tells (named 5) (κs .1 .1 .1 .1 .1 .0) (UInt w32), (mut-slice-tells (named 6) (κs .1 .1 .1 .1 .1 .1 .0) (UInt w32), (as-w64 .tells, tt))),
+                      (mut-slice-tells (named 5) (κs .1 .1 .1 .1 .1 .0) (UInt w32), (mut-slice-tells (named 6) (κs .1 .1 .1 .1 .1 .1 .0) (UInt w32), (as-ContactId .tells, tt))),
                     ),
                   ),
                 ),
@@ -382,7 +404,7 @@ module _ {M : Type 1} (𝓤 : URA M) (H : Heap 𝓤) (A : Atoms 𝓤) (W : Given
                   goes-gave-slice 𝓤 H A W 7 4 tt (plain (λ _. UInt w32)),
                   (
                     goes-gave-slice 𝓤 H A W 7 5 tt (plain (λ _. UInt w32)),
-                    (goes-gave-slice 𝓤 H A W 7 6 tt (plain (λ _. UInt w32)), (goes-dropped 𝓤 H A W 7 (plain (λ _. UInt w64)) yes (λ κs x f. refl), tt)),
+                    (goes-gave-slice 𝓤 H A W 7 6 tt (plain (λ _. UInt w32)), (goes-dropped 𝓤 H A W 7 (plain (λ _. ContactIdT.the-row)) yes (λ κs x f. refl), tt)),
                   ),
                 ),
               ),
@@ -400,6 +422,8 @@ open-spec 𝓤 H 𝓜 𝓖 𝓡 =
     entered 𝓤 H (tripleOf 𝓤 H (𝓖 .A) this.signature (this.spec 𝓤 H (𝓖 .A) (𝓜 .mem) (𝓡 .run)))
     (tables 𝓤 H 𝓜 𝓡 code.env .C) (tables 𝓤 H 𝓜 𝓡 code.env .Λ) this-def.name code.function (code.unfolded 𝓤 H 𝓜 𝓡)
     (meets 𝓤 H (𝓖 .A) W (𝓜 .mem) (𝓡 .run) (tablesOf 𝓤 H 𝓜 (tables 𝓤 H 𝓜 𝓡 code.env)) (record {
+      number-of = cited 𝓤 H (Its-number-of 𝓤 H (𝓖 .A) W (𝓜 .mem) (𝓡 .run)) 𝓜 𝓡 code.env
+          number-of-def.name number-of-def.routine code.calls-calls·number-of (number-of-thm.met 𝓤 H 𝓜 𝓖 𝓡);
       is-restored = cited 𝓤 H (Its-is-restored 𝓤 H (𝓖 .A) W (𝓜 .mem) (𝓡 .run)) 𝓜 𝓡 code.env
           is-restored-def.name is-restored-def.routine code.calls-calls·is-restored (is-restored-thm.met 𝓤 H 𝓜 𝓖 𝓡);
       passes-store-passes = cited 𝓤 H (Its-passes-store-passes 𝓤 H (𝓖 .A) W (𝓜 .mem) (𝓡 .run)) 𝓜 𝓡 code.env

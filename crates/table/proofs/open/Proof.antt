@@ -58,6 +58,9 @@ use Rattle.ledger.proofs.Mark.Laws as MarkL
 use Rattle.contact.specs.declared.Contact.{Contact}
 use Rattle.contact.proofs.Contact as ContactT
 use Rattle.contact.proofs.Contact.Laws as ContactL
+use Rattle.courier.specs.declared.ContactId.{ContactId}
+use Rattle.courier.proofs.ContactId as ContactIdT
+use Rattle.courier.proofs.ContactId.Laws as ContactIdL
 use Rattle.table.proofs.held as held
 use Rattle.table.proofs.held.Symbol as held-def
 use Rattle.table.proofs.held.Met as held-thm
@@ -110,6 +113,9 @@ module _ {M : Type 1} (𝓤 : URA M) (H : Heap 𝓤) (A : Atoms 𝓤) (W : Given
   abbrev as-Contact : Held W ContactT.the-row
   as-Contact = of-struct W ContactT.the-type ContactL.the-laws ContactL.the-plain
 
+  abbrev as-ContactId : Held W ContactIdT.the-row
+  as-ContactId = of-struct W ContactIdT.the-type ContactIdL.the-laws ContactIdL.the-plain
+
   abbrev as-Entry : Held W EntryT.the-row
   as-Entry = of-struct W EntryT.the-type EntryL.the-laws EntryL.the-plain
 
@@ -134,7 +140,7 @@ module _ {M : Type 1} (𝓤 : URA M) (H : Heap 𝓤) (A : Atoms 𝓤) (W : Given
   This = walkOf 𝓤 H A this.ended stayed clauses
 
   module _ (κ₀ κ₁ κ₂ κ₃ κ₄ κ₅ : Lft) (q₀ q₁ q₂ q₃ q₄ q₅ : Share) (run : RefT (List ℕ)) (table : List Entry) (n : ℕ) (mark : Mark) (contact : Contact) (chains : RefT (List ℕ))
-      (skipped : RefT (List ℕ)) (above : RefT (List ℕ)) (unacked : RefT (List ℕ)) (expired : RefT (List ℕ)) (id : ℕ)
+      (skipped : RefT (List ℕ)) (above : RefT (List ℕ)) (unacked : RefT (List ℕ)) (expired : RefT (List ℕ)) (id : ContactId)
       (in-run : Is (ShrSlice (named 0) κ₀ (UInt w8)) run (slice-vals run))
       (in-table : Lies as-Entry-table table)
       (in-n : Lies as-w64 n)
@@ -145,7 +151,7 @@ module _ {M : Type 1} (𝓤 : URA M) (H : Heap 𝓤) (A : Atoms 𝓤) (W : Given
       (in-above : Is (MutSlice (named 3) κ₃ (UInt w32)) above (slice-vals above))
       (in-unacked : Is (MutSlice (named 4) κ₄ (UInt w32)) unacked (slice-vals unacked))
       (in-expired : Is (MutSlice (named 5) κ₅ (UInt w32)) expired (slice-vals expired))
-      (in-id : Lies as-w64 id) where
+      (in-id : Lies as-ContactId id) where
     abbrev bound : This .Ghost
     bound = (
       (
@@ -161,7 +167,7 @@ module _ {M : Type 1} (𝓤 : URA M) (H : Heap 𝓤) (A : Atoms 𝓤) (W : Given
               vals as-w64 n,
               (
                 vals as-Mark mark,
-                (vals as-Contact contact, (slice-vals chains, (slice-vals skipped, (slice-vals above, (slice-vals unacked, (slice-vals expired, (vals as-w64 id, tt))))))),
+                (vals as-Contact contact, (slice-vals chains, (slice-vals skipped, (slice-vals above, (slice-vals unacked, (slice-vals expired, (vals as-ContactId id, tt))))))),
               ),
             ),
           ),
@@ -187,7 +193,7 @@ module _ {M : Type 1} (𝓤 : URA M) (H : Heap 𝓤) (A : Atoms 𝓤) (W : Given
             slice-vals (first-of table n l₁₂ γ-table),
             (
               vals as-Mark mark,
-              (vals as-Contact contact, (slice-vals chains, (slice-vals skipped, (slice-vals above, (slice-vals unacked, (slice-vals expired, (vals as-w64 id, tt))))))),
+              (vals as-Contact contact, (slice-vals chains, (slice-vals skipped, (slice-vals above, (slice-vals unacked, (slice-vals expired, (vals as-ContactId id, tt))))))),
             ),
           ),
         ),
@@ -225,7 +231,7 @@ module _ {M : Type 1} (𝓤 : URA M) (H : Heap 𝓤) (A : Atoms 𝓤) (W : Given
           pass1 ! (init ! 34 refl (mut-slice-lawful 𝓤 H A W (named 3) κ₃ (UInt w32) .typed above (slice-vals above) in-above .0)) $
           pass1 ! (init ! 32 refl (mut-slice-lawful 𝓤 H A W (named 4) κ₄ (UInt w32) .typed unacked (slice-vals unacked) in-unacked .0)) $
           pass1 ! (init ! 30 refl (mut-slice-lawful 𝓤 H A W (named 5) κ₅ (UInt w32) .typed expired (slice-vals expired) in-expired .0)) $
-          pass1 ! (init ! 28 refl (as-w64 .lawful .typed id _ in-id .0)) $
+          pass1 ! (init ! 28 refl (as-ContactId .lawful .typed id _ in-id .0)) $
           pass0 ! $ move ! (52 ∷ 53 ∷ 54 ∷ 55 ∷ 56 ∷ 57 ∷ 58 ∷ 59 ∷ 60 ∷ 61 ∷ 62 ∷ 63 ∷ []) $
           assigns ! (of-opd ! (local ! (look ! 58 refl))) (into !) (init ! 38 refl (as-Entry-table .lawful .typed table _ in-table .0)) $
           -- count is table::held(n)
@@ -255,7 +261,7 @@ module _ {M : Type 1} (𝓤 : URA M) (H : Heap 𝓤) (A : Atoms 𝓤) (W : Given
           (init ! 12 refl (tt, (tt, (record { fits = in-expired .0 .1 .0 }, tt)))) $
           lft-new ! tt (λ ν-table. move ! (39 ∷ []) $ lends-table ! tt tt as-Entry (named 0) 512 (lit< tt, lit< tt) ν-table table n l₁₂ in-table (λ γ-table.
           -- r is calls::open(run, table, mark, contact, chains, skipped, above, unacked, expired, id)
-          nothing ! $ plus ! as-w64 id in-id $ move ! (15 ∷ 0 ∷ []) $ fjoin ! $ move ! (14 ∷ 0 ∷ []) $ fjoin ! $ move ! (13 ∷ 0 ∷ []) $ fjoin ! $ move ! (12 ∷ 0 ∷ []) $ fjoin ! $
+          nothing ! $ plus ! as-ContactId id in-id $ move ! (15 ∷ 0 ∷ []) $ fjoin ! $ move ! (14 ∷ 0 ∷ []) $ fjoin ! $ move ! (13 ∷ 0 ∷ []) $ fjoin ! $ move ! (12 ∷ 0 ∷ []) $ fjoin ! $
           move ! (11 ∷ 0 ∷ []) $ fjoin ! $ plus ! as-Contact contact in-contact $ plus ! as-Mark mark in-mark $
           lends ! 0 (named 0) (ν-table ∷ []) EntryT.the-row (first-of table n l₁₂ γ-table) refl $ lends ! 9 (named 0) κ₀ (UInt w8) run refl $ move ! (4 ∷ 3 ∷ 5 ∷ 6 ∷ 7 ∷ 8 ∷ 9 ∷ 0 ∷ []) $
           calls-lent ! fm calls-open.ended (calls-open.clauses 𝓤 H A mem calling) (known .calls-open) (to-r ν-table γ-table l₁₂ count) (id⊢ 𝓤 _) as-OpenLeft (λ r ws. id⊢ 𝓤 _)
@@ -307,7 +313,19 @@ module _ {M : Type 1} (𝓤 : URA M) (H : Heap 𝓤) (A : Atoms 𝓤) (W : Given
   module _ (𝓣 : Tables 𝓤 H) (known : Known (𝓣 .C)) where
     walks : Walks 𝓤 H A this.ended stayed (WpFn 𝓤 H (𝓣 .C) (𝓣 .Λ) code.function) clauses
     walks = walked 𝓤 H A this.ended stayed clauses (WpFn 𝓤 H (𝓣 .C) (𝓣 .Λ) code.function)
-        (λ κs. (slice-vals, (vals as-Entry-table, (vals as-w64, (vals as-Mark, (vals as-Contact, (slice-vals, (slice-vals, (slice-vals, (slice-vals, (slice-vals, (vals as-w64, tt))))))))))))
+        (λ κs. (
+          slice-vals,
+          (
+            vals as-Entry-table,
+            (
+              vals as-w64,
+              (
+                vals as-Mark,
+                (vals as-Contact, (slice-vals, (slice-vals, (slice-vals, (slice-vals, (slice-vals, (vals as-ContactId, tt))))))),
+              ),
+            ),
+          ),
+        ))
         (λ κs. (
           shr-slice-tells (named 0) (κs .0) (UInt w8),
           (
@@ -324,7 +342,7 @@ module _ {M : Type 1} (𝓤 : URA M) (H : Heap 𝓤) (A : Atoms 𝓤) (W : Given
                       mut-slice-tells (named 2) (κs .1 .1 .0) (UInt w8),
                       (
                         mut-slice-tells (named 3) (κs .1 .1 .1 .0) (UInt w32),
-                        (mut-slice-tells (named 4) (κs .1 .1 .1 .1 .0) (UInt w32), (mut-slice-tells (named 5) (κs .1 .1 .1 .1 .1 .0) (UInt w32), (as-w64 .tells, tt))),
+                        (mut-slice-tells (named 4) (κs .1 .1 .1 .1 .0) (UInt w32), (mut-slice-tells (named 5) (κs .1 .1 .1 .1 .1 .0) (UInt w32), (as-ContactId .tells, tt))),
                       ),
                     ),
                   ),
@@ -358,7 +376,7 @@ module _ {M : Type 1} (𝓤 : URA M) (H : Heap 𝓤) (A : Atoms 𝓤) (W : Given
                     goes-gave-slice 𝓤 H A W 6 3 tt (plain (λ _. UInt w32)),
                     (
                       goes-gave-slice 𝓤 H A W 6 4 tt (plain (λ _. UInt w32)),
-                      (goes-gave-slice 𝓤 H A W 6 5 tt (plain (λ _. UInt w32)), (goes-dropped 𝓤 H A W 6 (plain (λ _. UInt w64)) yes (λ κs x f. refl), tt)),
+                      (goes-gave-slice 𝓤 H A W 6 5 tt (plain (λ _. UInt w32)), (goes-dropped 𝓤 H A W 6 (plain (λ _. ContactIdT.the-row)) yes (λ κs x f. refl), tt)),
                     ),
                   ),
                 ),
