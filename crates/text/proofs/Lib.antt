@@ -1,0 +1,7 @@
+pub mod Lines
+mod Fields
+mod Rows
+pub mod Text
+mod Samples
+pub mod Places
+pub mod Report

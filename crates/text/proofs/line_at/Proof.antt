@@ -1,0 +1,40 @@
+-- `text::line_at` meets its contract: queued rows are counted for contacts only.
+-- Assumes nothing.
+use mathlib.Core.Path.{refl}
+use borrow.Author.Needs.{needs}
+use Rattle.line.specs.Line.{queuedOf}
+use Rattle.text.specs.Lines.{entriesOf}
+use Rattle.text.proofs.Rows.{other-entry, entry-is}
+use Rattle.text.proofs.line_at.Statement.{statement}
+use Rattle.text.proofs.line_at.Tie as tie
+
+entry-in-requires : tie.Need-entry-in-requires
+entry-in-requires c κs = search needs
+
+queued-in-requires : tie.Need-queued-in-requires
+queued-in-requires c κs = search needs
+
+entry-line-requires : tie.Need-entry-line-requires
+entry-line-requires c κs = search needs
+
+returns : tie.Need-returns
+returns c =
+    let q = c .before in
+    let e = q .before .before .before in
+    let a = e .before .before .before .args in
+    entry-is (a .run .now) (entriesOf (a .places .now) (a .n)) (e .entry-in .ensures) (q .queued-in .ensures) (c .entry-line .ensures)
+
+no-line-requires : tie.Need-no-line-requires
+no-line-requires c κs = search needs
+
+returns-2 : tie.Need-returns-2
+returns-2 c =
+    let t = c .before in
+    let e = t .before .before in
+    let a = e .before .before .before .args in
+    let es = entriesOf (a .places .now) (a .n) in
+    entry-is (a .run .now) es (e .entry-in .ensures) refl
+    (other-entry (a .run .now) (e .entry-in .result) (queuedOf (e .entry-in .result .id) es) (t .if1 .left) (c .no-line .ensures))
+
+pub line-at-spec : {M : Type 1} → statement M
+line-at-spec = tie.close (tie.spec entry-in-requires queued-in-requires entry-line-requires returns no-line-requires returns-2)

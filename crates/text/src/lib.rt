@@ -1,0 +1,378 @@
+// The text of a store: the S line of each contact, and the T line. Entries stand as six numbers each, as the sheet leaves them: kind, id, start, length,
+// msgno, version. A text is measured first and then written, so that nothing is written where the output is too short.
+use contact::ContactCheck;
+use layout::question;
+use rows::Written;
+use store::Entry;
+ghost use mathlib.Core.Path.{_≡_};
+ghost use mathlib.Core.List.{_∷_, [], _++_};
+ghost use mathlib.Core.Bool.{cond};
+ghost use Prim.Native.Nat.{_+_, _-_, _*_, _^_, _≤_, _<_};
+ghost use lib.ListN.{length, drop};
+ghost use Rattle.layout.specs.Form.{bigEndian};
+ghost use Rattle.layout.specs.Layout.{readRow, group};
+ghost use Rattle.layout.specs.Write.{stored};
+ghost use Rattle.rows.specs.Answers.{leaves};
+ghost use Rattle.rows.specs.Rows as layouts;
+ghost use Rattle.rows.specs.Rows.{range};
+ghost use Rattle.lists.specs.Lists.{items, Stands};
+ghost use Rattle.put.specs.Put.{Wrote};
+ghost use Rattle.received.specs.Sets.{size};
+ghost use Rattle.store.specs.Store.{isOf};
+ghost use Rattle.store.specs.Kinds.{QUEUED};
+ghost use Rattle.line.specs.Line.{COMMA, decimal, queuedOf};
+ghost use Rattle.text.specs.Text.{howMany, lastLine};
+ghost use Rattle.text.specs.Lines.{narrow, entryFrom, entriesOf, rowText, rowCount, entryText, entryCount, linesFrom, countFrom, fieldsOf, textIn, Lined, Measures};
+
+const LF: u8 = 0x0A;
+
+const COMMA: u8 = 0x2C;
+
+const LETTER_S: u8 = 0x53;
+
+const LETTER_T: u8 = 0x54;
+
+// The numbers of an S line, and of a T line.
+const CONTACT_FIELDS: usize = 7;
+
+const LAST_FIELDS: usize = 4;
+
+// The numbers of an entry's line, if it has one.
+pub struct Line {
+    pub fields: [u64; 7],
+    pub held: bool,
+}
+
+// The length of the lines of all contacts, and how many these are.
+pub struct Measured {
+    pub len: usize,
+    pub contacts: u64,
+}
+
+// ---- entries
+
+fn narrow(n: u64) -> u32
+    ensures { λ r. ⌜ r ≡ narrow n ⌝ }
+{
+    (n % 4294967296) as u32
+}
+
+// The i-th entry.
+fn entry_in(places: &[u64], i: usize) -> Entry
+    requires { ⌜ 6 * i + 6 ≤ length (now places) ⌝ }
+    ensures { λ r. ⌜ r ≡ entryFrom (now (places .entry)) i ⌝ }
+{
+    let at = 6 * i;
+    let kind = narrow(places[at]);
+    let id = places[at + 1];
+    let start = places[at + 2] as usize;
+    let len = places[at + 3] as usize;
+    let msgno = narrow(places[at + 4]);
+    let version = narrow(places[at + 5]);
+    Entry {
+        id,
+        start,
+        len,
+        msgno,
+        version,
+        kind,
+    }
+}
+
+// One more, if this one counts.
+fn one_more(found: u64, counts: bool) -> u64
+    requires { ⌜ found < 2 ^ 32 ⌝ }
+    ensures { λ r. ⌜ r ≡ found + cond counts 1 0 ⌝ }
+{
+    if counts {
+        return found + 1;
+    }
+    found
+}
+
+// How many of the first n entries are of this kind.
+fn how_many(places: &[u64], n: usize, kind: u32) -> u64
+    requires { ⌜ (n ≤ 512) × (6 * n ≤ length (now places)) ⌝ }
+    ensures { λ r. ⌜ r ≡ howMany kind (entriesOf (now (places .entry)) n) ⌝ }
+{
+    let mut i = 0;
+    let mut found: u64 = 0;
+    while i < n {
+        let e = entry_in(places, i);
+        i += 1;
+        let same = e.kind == kind;
+        found = one_more(found, same);
+    }
+    found
+}
+
+fn is_queued(e: Entry, id: u64) -> bool
+    ensures { λ r. ⌜ r ≡ isOf QUEUED id e ⌝ }
+{
+    if e.kind != store::QUEUED {
+        return false;
+    }
+    e.id == id
+}
+
+// How many of the first n entries are queued rows of this contact.
+fn queued_in(places: &[u64], n: usize, id: u64) -> u64
+    requires { ⌜ (n ≤ 512) × (6 * n ≤ length (now places)) ⌝ }
+    ensures { λ r. ⌜ r ≡ queuedOf id (entriesOf (now (places .entry)) n) ⌝ }
+{
+    let mut i = 0;
+    let mut found: u64 = 0;
+    while i < n {
+        let e = entry_in(places, i);
+        i += 1;
+        let same = is_queued(e, id);
+        found = one_more(found, same);
+    }
+    found
+}
+
+// ---- a line's numbers
+
+fn wide_byte(x: u8) -> u64
+    ensures { λ r. ⌜ (r ≡ x) × (r < 256) ⌝ }
+{
+    x as u64
+}
+
+fn wide(x: u32) -> u64
+    ensures { λ r. ⌜ (r ≡ x) × (r < 2 ^ 32) ⌝ }
+{
+    x as u64
+}
+
+// The number in four bytes, the most significant first.
+fn be32(bytes: &[u8], at: usize) -> u64
+    requires { ⌜ at + 4 ≤ length (now bytes) ⌝ }
+    ensures { λ r. ⌜ (r ≡ bigEndian 4 (drop at (now (bytes .entry)))) × (r < 2 ^ 32) ⌝ }
+{
+    let high = wide_byte(bytes[at]) * 256 + wide_byte(bytes[at + 1]);
+    let low = wide_byte(bytes[at + 2]) * 256 + wide_byte(bytes[at + 3]);
+    high * 65536 + low
+}
+
+// How many numbers a range holds.
+fn width(from: u64, to: u64) -> u64
+    requires { ⌜ to < 2 ^ 32 ⌝ }
+    ensures { λ r. ⌜ (r ≡ to + 1 - from) × (r ≤ 2 ^ 32) ⌝ }
+{
+    if to < from {
+        return 0;
+    }
+    to - from + 1
+}
+
+// How many numbers the ranges of a row's list hold.
+fn numbers_in_row(row: &[u8], first: usize, count: usize) -> u64
+    requires { ⌜ Stands (group range) (now row) first count × (length (now row) ≤ 61440) ⌝ }
+    ensures { λ r. ⌜ r ≡ size (items (group range) count (drop first (now (row .entry)))) ⌝ }
+{
+    let mut sum: u64 = 0;
+    let mut p = first;
+    let mut i: usize = 0;
+    while i < count {
+        let a = be32(row, p);
+        let b = be32(row, p + 4);
+        sum += width(a, b);
+        p += 8;
+        i += 1;
+    }
+    sum
+}
+
+fn no_line() -> Line
+    ensures { λ r. ⌜ Lined [] 0 r ⌝ }
+{
+    Line {
+        fields: [0; 7],
+        held: false,
+    }
+}
+
+// The line of a contact's row.
+fn row_line(row: &[u8], version: u32, id: u64, queued: u64) -> Line
+    requires { ⌜ length (now row) ≤ 61440 ⌝ }
+    ensures { λ r. ⌜ Lined (rowText id queued (readRow (layouts.contact version) (now (row .entry)))) (rowCount (readRow (layouts.contact version) (now (row .entry)))) r ⌝ }
+{
+    let check = contact::check_contact(version, row);
+    let ContactCheck::Fields(at) = check else {
+        return no_line();
+    };
+    let sent = wide(at.keys.sent_msgno);
+    let numbers = at.numbers;
+    let acked = wide(numbers.peer_acked);
+    let contiguous = wide(numbers.contiguous);
+    let above = numbers.above;
+    let beyond = numbers_in_row(row, above.first, above.count);
+    let gone = numbers.expired;
+    let expired = numbers_in_row(row, gone.first, gone.count);
+    let fields = [id, sent, acked, contiguous, beyond, queued, expired];
+    Line { fields, held: true }
+}
+
+// The line of an entry.
+fn entry_line(run: &[u8], e: Entry, queued: u64) -> Line
+    requires { ⌜ length (now run) ≤ 61440 ⌝ }
+    ensures { λ r. ⌜ Lined (entryText (now (run .entry)) queued e) (entryCount (now (run .entry)) e) r ⌝ }
+{
+    if e.kind == store::CONTACT {
+        let row = store::part_of(run, e);
+        return row_line(row, e.version, e.id, queued);
+    }
+    no_line()
+}
+
+// ---- lines measured and written
+
+// The length of `count` numbers, a comma before each, and LF.
+fn fields_len(fields: [u64; 7], count: usize) -> usize
+    requires { ⌜ count ≤ 7 ⌝ }
+    ensures { λ r. ⌜ (r ≡ length (fieldsOf fields count)) × (r ≤ 148) ⌝ }
+{
+    let mut i = 0;
+    let mut n: usize = 1;
+    while i < count {
+        n += 1 + line::decimal_len(fields[i]);
+        i += 1;
+    }
+    n
+}
+
+fn line_len(line: Line) -> usize
+    ensures { λ r. ⌜ (r ≡ length (textIn line)) × (r ≤ 149) ⌝ }
+{
+    if line.held {
+        let fields = line.fields;
+        return 1 + fields_len(fields, CONTACT_FIELDS);
+    }
+    0
+}
+
+// A comma and a number.
+fn put_field(out: &mut [u8], at: usize, n: u64) -> usize
+    requires { ⌜ at + (1 + length (decimal n)) ≤ length (now out) ⌝ }
+    ensures { λ r. ⌜ (r ≡ at + (1 + length (decimal n))) × Wrote (now (out .entry)) at (COMMA ∷ decimal n) (now (out .exit)) r ⌝ }
+{
+    let number_at = put::put_byte(out, at, COMMA);
+    line::put_decimal(out, number_at, n)
+}
+
+// `count` numbers, a comma before each, and LF.
+fn put_fields(out: &mut [u8], at: usize, fields: [u64; 7], count: usize) -> usize
+    requires { ⌜ (count ≤ 7) × (at + length (fieldsOf fields count) ≤ length (now out)) ⌝ }
+    ensures { λ r. ⌜ (r ≡ at + length (fieldsOf fields count)) × Wrote (now (out .entry)) at (fieldsOf fields count) (now (out .exit)) r ⌝ }
+{
+    let mut i = 0;
+    let mut here = at;
+    while i < count {
+        here = put_field(out, here, fields[i]);
+        i += 1;
+    }
+    put::put_byte(out, here, LF)
+}
+
+// A letter, and numbers behind it.
+fn put_line(out: &mut [u8], at: usize, letter: u8, fields: [u64; 7], count: usize) -> usize
+    requires { ⌜ (count ≤ 7) × (at + (1 + length (fieldsOf fields count)) ≤ length (now out)) ⌝ }
+    ensures { λ r. ⌜ (r ≡ at + (1 + length (fieldsOf fields count))) × Wrote (now (out .entry)) at (letter ∷ fieldsOf fields count) (now (out .exit)) r ⌝ }
+{
+    let fields_at = put::put_byte(out, at, letter);
+    put_fields(out, fields_at, fields, count)
+}
+
+fn put_entry(out: &mut [u8], at: usize, line: Line) -> usize
+    requires { ⌜ at + length (textIn line) ≤ length (now out) ⌝ }
+    ensures { λ r. ⌜ (r ≡ at + length (textIn line)) × Wrote (now (out .entry)) at (textIn line) (now (out .exit)) r ⌝ }
+{
+    if line.held {
+        let fields = line.fields;
+        return put_line(out, at, LETTER_S, fields, CONTACT_FIELDS);
+    }
+    at
+}
+
+// The line of the i-th entry, of n.
+fn line_at(run: &[u8], places: &[u64], n: usize, i: usize) -> Line
+    requires { ⌜ (length (now run) ≤ 61440) × (i < n) × (n ≤ 512) × (6 * n ≤ length (now places)) ⌝ }
+    ensures { λ r. ⌜ Lined (entryText (now (run .entry)) (queuedOf (entryFrom (now (places .entry)) i .id) (entriesOf (now (places .entry)) n)) (entryFrom (now (places .entry)) i)) (entryCount (now (run .entry)) (entryFrom (now (places .entry)) i)) r ⌝ }
+{
+    let e = entry_in(places, i);
+    if e.kind == store::CONTACT {
+        let queued = queued_in(places, n, e.id);
+        return entry_line(run, e, queued);
+    }
+    no_line()
+}
+
+// The lines of all entries.
+fn measure(run: &[u8], places: &[u64], n: usize) -> Measured
+    requires { ⌜ (length (now run) ≤ 61440) × (n ≤ 512) × (6 * n ≤ length (now places)) ⌝ }
+    ensures { λ r. ⌜ Measures (now (run .entry)) (entriesOf (now (places .entry)) n) r ⌝ }
+{
+    let mut i = 0;
+    let mut len: usize = 0;
+    let mut contacts: u64 = 0;
+    while i < n {
+        let line = line_at(run, places, n, i);
+        len += line_len(line);
+        contacts = one_more(contacts, line.held);
+        i += 1;
+    }
+    Measured { len, contacts }
+}
+
+// Writes the lines of all entries from the front of the output on.
+fn put_lines(run: &[u8], places: &[u64], n: usize, out: &mut [u8]) -> usize
+    requires { ⌜ (length (now run) ≤ 61440) × (n ≤ 512) × (6 * n ≤ length (now places)) × (length (linesFrom (now run) (entriesOf (now places) n) (entriesOf (now places) n)) ≤ length (now out)) ⌝ }
+    ensures { λ r. ⌜ Wrote (now (out .entry)) 0 (linesFrom (now (run .entry)) (entriesOf (now (places .entry)) n) (entriesOf (now (places .entry)) n)) (now (out .exit)) r ⌝ }
+{
+    let mut i = 0;
+    let mut here = 0;
+    while i < n {
+        let line = line_at(run, places, n, i);
+        i += 1;
+        here = put_entry(out, here, line);
+    }
+    here
+}
+
+// The text of a granted store.
+pub fn write_granted(
+    run: &[u8],
+    places: &[u64],
+    n: usize,
+    next_slot: u64,
+    out: &mut [u8],
+) -> Written
+    requires { ⌜ (length (now run) ≤ 61440) × (n ≤ 512) × (6 * n ≤ length (now places)) ⌝ }
+    ensures { λ r. ⌜ leaves r (now (out .exit)) ≡ stored (linesFrom (now (run .entry)) (entriesOf (now (places .entry)) n) (entriesOf (now (places .entry)) n) ++ lastLine (countFrom (now (run .entry)) (entriesOf (now (places .entry)) n)) (entriesOf (now (places .entry)) n) «next_slot») (now (out .entry)) ⌝ }
+{
+    let measured = measure(run, places, n);
+    let queued = how_many(places, n, store::QUEUED);
+    let held = how_many(places, n, store::COURIER);
+    let fields = [measured.contacts, queued, held, next_slot, 0, 0, 0];
+    let len = measured.len + 1 + fields_len(fields, LAST_FIELDS);
+    if out.len() < len {
+        return Written::Refused(question::OUTPUT);
+    }
+    let at = put_lines(run, places, n, out);
+    put_line(out, at, LETTER_T, fields, LAST_FIELDS);
+    Written::Length(len)
+}
+
+// A letter and two numbers: of a refusal.
+pub fn write_refused(letter: u8, number: u64, place: u64, out: &mut [u8]) -> Written
+    ensures { λ r. ⌜ leaves r (now (out .exit)) ≡ stored (letter ∷ fieldsOf (number ∷ place ∷ []) 2) (now (out .entry)) ⌝ }
+{
+    let fields = [number, place, 0, 0, 0, 0, 0];
+    let len = 1 + fields_len(fields, 2);
+    if out.len() < len {
+        return Written::Refused(question::OUTPUT);
+    }
+    put_line(out, 0, letter, fields, 2);
+    Written::Length(len)
+}
