@@ -1,0 +1,4 @@
+mod Words
+mod Numbers
+mod Pairs
+mod Samples

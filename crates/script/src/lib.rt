@@ -1,0 +1,412 @@
+// A line of a script of calls: words with a space between them, a command's name and behind it its numbers, and for some commands other words.
+// A line that is no command is `UNKNOWN`. Hexadecimal is read by `cases::bytes` and written here.
+use layout::question;
+use rows::Written;
+ghost use mathlib.Core.Path.{_≡_};
+ghost use mathlib.Core.Bool.{cond, _&&_};
+ghost use mathlib.Core.Option.{none, some};
+ghost use Prim.Native.Nat.{suc, _+_, _-_, _*_, _%_, _≤_, _<_};
+ghost use lib.ListN.{length, getD, drop};
+ghost use lib.Dec.{eqb, leb};
+ghost use Rattle.layout.specs.Write.{stored};
+ghost use Rattle.rows.specs.Answers.{leaves};
+ghost use Rattle.put.specs.Put.{Wrote};
+ghost use Rattle.line.specs.Line.{isDigit, numberFrom};
+ghost use Rattle.sheet.specs.Decimal.{decimalIn};
+ghost use Rattle.sheet.specs.Sheet.{parted};
+ghost use Rattle.sheet.proofs.Decimal.{goesOn};
+ghost use Rattle.cases.specs.Text.{SPACE, before, behind};
+ghost use Rattle.script.specs.Script.{same, codeOf, narrowOf, wideOf, othersOf, highestAt, isDecimalAt, decimalsFrom, wordAt, commandOf, numberAt};
+ghost use Rattle.script.specs.Says.{decimalSays};
+ghost use Rattle.script.specs.Hex.{hexDigit, pairsOf, hexOf};
+
+// The highest numbers of 32 and of 64 bits.
+const U32: u64 = 0xFFFFFFFF;
+
+const U64: u64 = 0xFFFFFFFFFFFFFFFF;
+
+// What a text says.
+pub enum Said {
+    Number(u64),
+    Nothing,
+}
+
+// ---- the commands
+
+pub const UNKNOWN: u8 = 0;
+
+pub const SCRIPT: u8 = 1;
+
+pub const RESTORE: u8 = 2;
+
+pub const RAWRESTORE: u8 = 3;
+
+pub const LEND: u8 = 4;
+
+pub const OPEN: u8 = 5;
+
+pub const COVER: u8 = 6;
+
+pub const CONTAINS: u8 = 7;
+
+pub const COVERS: u8 = 8;
+
+pub const TAKE: u8 = 9;
+
+pub const STATEMENT: u8 = 10;
+
+pub const WRITE: u8 = 11;
+
+pub const VEIL: u8 = 12;
+
+pub const READ: u8 = 13;
+
+pub const STATE: u8 = 14;
+
+// What stands behind a name, one column for each command: decimals of 32 bits, decimals of 64 bits, other words.
+const COMMANDS: usize = 15;
+
+const NARROWS: [u8; 15] = [0, 0, 0, 0, 0, 0, 2, 1, 2, 0, 0, 0, 2, 2, 0];
+
+const WIDES: [u8; 15] = [0, 1, 1, 1, 6, 1, 0, 0, 0, 0, 0, 0, 1, 0, 0];
+
+const OTHERS: [u8; 15] = [0, 0, 0, 1, 0, 0, 0, 0, 0, 0, 0, 0, 1, 2, 0];
+
+fn wide(b: u8) -> usize
+    ensures { λ r. ⌜ (r ≡ b) × (r ≤ 255) ⌝ }
+{
+    b as usize
+}
+
+fn narrow_of(code: u8) -> usize
+    ensures { λ r. ⌜ (r ≡ narrowOf code) × (r ≤ 255) ⌝ }
+{
+    let i = wide(code);
+    if i < COMMANDS {
+        return wide(NARROWS[i]);
+    }
+    0
+}
+
+fn wide_of(code: u8) -> usize
+    ensures { λ r. ⌜ (r ≡ wideOf code) × (r ≤ 255) ⌝ }
+{
+    let i = wide(code);
+    if i < COMMANDS {
+        return wide(WIDES[i]);
+    }
+    0
+}
+
+fn others_of(code: u8) -> usize
+    ensures { λ r. ⌜ (r ≡ othersOf code) × (r ≤ 255) ⌝ }
+{
+    let i = wide(code);
+    if i < COMMANDS {
+        return wide(OTHERS[i]);
+    }
+    0
+}
+
+fn is(word: &[u8], name: &[u8]) -> bool
+    ensures { λ r. ⌜ r ≡ same (now (word .entry)) (now (name .entry)) ⌝ }
+{
+    if word.len() != name.len() {
+        return false;
+    }
+    let mut i = 0;
+    while i < word.len() {
+        if word[i] != name[i] {
+            return false;
+        }
+        i += 1;
+    }
+    true
+}
+
+// The command with this name.
+fn code_of(word: &[u8]) -> u8
+    ensures { λ r. ⌜ r ≡ codeOf (now (word .entry)) ⌝ }
+{
+    if is(word, b"script") {
+        return SCRIPT;
+    }
+    if is(word, b"restore") {
+        return RESTORE;
+    }
+    if is(word, b"rawrestore") {
+        return RAWRESTORE;
+    }
+    if is(word, b"lend") {
+        return LEND;
+    }
+    if is(word, b"open") {
+        return OPEN;
+    }
+    if is(word, b"cover") {
+        return COVER;
+    }
+    if is(word, b"contains") {
+        return CONTAINS;
+    }
+    if is(word, b"covers") {
+        return COVERS;
+    }
+    if is(word, b"take") {
+        return TAKE;
+    }
+    if is(word, b"statement") {
+        return STATEMENT;
+    }
+    if is(word, b"write") {
+        return WRITE;
+    }
+    if is(word, b"veil") {
+        return VEIL;
+    }
+    if is(word, b"read") {
+        return READ;
+    }
+    if is(word, b"state") {
+        return STATE;
+    }
+    UNKNOWN
+}
+
+// ---- words
+
+fn is_space(b: u8) -> usize
+    ensures { λ r. ⌜ (r ≡ cond (eqb b SPACE) 1 0) × (r ≤ 1) ⌝ }
+{
+    if b == b' ' {
+        return 1;
+    }
+    0
+}
+
+// How many spaces a line has: one less than words.
+fn spaces(line: &[u8]) -> usize
+    ensures { λ r. ⌜ suc r ≡ length (parted SPACE (now (line .entry))) ⌝ }
+{
+    let mut n: usize = 0;
+    let mut i = 0;
+    while i < line.len() {
+        n += is_space(line[i]);
+        i += 1;
+    }
+    n
+}
+
+// Where the next word starts, the line's end where there is none.
+fn next_word(line: &[u8], at: usize) -> usize
+    requires { ⌜ at ≤ length (now line) ⌝ }
+    ensures { λ r. ⌜ (r ≤ length (now (line .entry))) × (drop r (now (line .entry)) ≡ behind SPACE (drop at (now (line .entry)))) ⌝ }
+{
+    let rest = &line[at..];
+    let n = cases::until(rest, b' ');
+    if n < rest.len() {
+        return at + n + 1;
+    }
+    line.len()
+}
+
+fn start_of(line: &[u8], i: usize) -> usize
+    ensures { λ r. ⌜ (r ≤ length (now (line .entry))) × (wordAt i (now (line .entry)) ≡ before SPACE (drop r (now (line .entry)))) ⌝ }
+{
+    let mut at = 0;
+    let mut left = i;
+    while 0 < left {
+        at = next_word(line, at);
+        left -= 1;
+    }
+    at
+}
+
+// The i-th word, counted from the name; empty where there are fewer.
+pub fn word(line: &[u8], i: usize) -> &[u8]
+    ensures { λ r. ⌜ now r ≡ wordAt i (now (line .entry)) ⌝ }
+{
+    let at = start_of(line, i);
+    cases::field(&line[at..])
+}
+
+// ---- decimals
+
+fn is_digit(b: u8) -> bool
+    ensures { λ r. ⌜ r ≡ isDigit b ⌝ }
+{
+    if b < 0x30 {
+        return false;
+    }
+    b <= 0x39
+}
+
+// A number with a digit behind it.
+fn with_digit(n: u64, b: u8, highest: u64) -> Said
+    ensures { λ r. ⌜ decimalSays r ≡ cond (isDigit b && leb (n * 10 + (b - 0x30)) highest) (some (n * 10 + (b - 0x30))) none ⌝ }
+{
+    if is_digit(b) {
+        let d = wide(b - 0x30) as u64;
+        if highest < d {
+            return Said::Nothing;
+        }
+        if (highest - d) / 10 < n {
+            return Said::Nothing;
+        }
+        return Said::Number(n * 10 + d);
+    }
+    Said::Nothing
+}
+
+// Nothing stands behind a first 0.
+fn digits(text: &[u8], first: u64, highest: u64) -> Said
+    ensures { λ r. ⌜ decimalSays r ≡ cond (goesOn highest first (drop 1 (now (text .entry)))) (some (numberFrom first (drop 1 (now (text .entry))))) none ⌝ }
+{
+    let mut n = first;
+    let mut i = 1;
+    while i < text.len() {
+        if n == 0 {
+            return Said::Nothing;
+        }
+        let Said::Number(m) = with_digit(n, text[i], highest) else {
+            return Said::Nothing;
+        };
+        n = m;
+        i += 1;
+    }
+    Said::Number(n)
+}
+
+// The number that a text says, if it is a decimal and at most `highest`.
+pub fn decimal(text: &[u8], highest: u64) -> Said
+    ensures { λ r. ⌜ decimalSays r ≡ decimalIn highest (now (text .entry)) ⌝ }
+{
+    if text.len() == 0 {
+        return Said::Nothing;
+    }
+    let Said::Number(first) = with_digit(0, text[0], highest) else {
+        return Said::Nothing;
+    };
+    digits(text, first, highest)
+}
+
+// The number that the i-th word says, 0 where it is none.
+pub fn number(line: &[u8], i: usize) -> u64
+    ensures { λ r. ⌜ r ≡ numberAt i (now (line .entry)) ⌝ }
+{
+    let Said::Number(n) = decimal(word(line, i), U64) else {
+        return 0;
+    };
+    n
+}
+
+// ---- a line
+
+fn highest(narrow: usize, i: usize) -> u64
+    ensures { λ r. ⌜ r ≡ highestAt narrow i ⌝ }
+{
+    if i <= narrow {
+        return U32;
+    }
+    U64
+}
+
+fn is_decimal_at(line: &[u8], narrow: usize, i: usize) -> bool
+    ensures { λ r. ⌜ r ≡ isDecimalAt narrow i (parted SPACE (now (line .entry))) ⌝ }
+{
+    let Said::Number(_) = decimal(word(line, i), highest(narrow, i)) else {
+        return false;
+    };
+    true
+}
+
+fn both(a: bool, b: bool) -> bool
+    ensures { λ r. ⌜ r ≡ (a && b) ⌝ }
+{
+    if a { b } else { false }
+}
+
+fn are_decimals(line: &[u8], narrow: usize, count: usize) -> bool
+    requires { ⌜ count ≤ 510 ⌝ }
+    ensures { λ r. ⌜ r ≡ decimalsFrom narrow 1 count (parted SPACE (now (line .entry))) ⌝ }
+{
+    let mut right = true;
+    let mut i = 1;
+    let mut left = count;
+    while 0 < left {
+        right = both(right, is_decimal_at(line, narrow, i));
+        i += 1;
+        left -= 1;
+    }
+    right
+}
+
+// The command that a line is.
+pub fn command(line: &[u8]) -> u8
+    ensures { λ r. ⌜ r ≡ commandOf (now (line .entry)) ⌝ }
+{
+    let code = code_of(word(line, 0));
+    let narrow = narrow_of(code);
+    let count = narrow + wide_of(code);
+    if spaces(line) == count + others_of(code) {
+        if are_decimals(line, narrow, count) {
+            return code;
+        }
+        return UNKNOWN;
+    }
+    UNKNOWN
+}
+
+// ---- hexadecimal
+
+fn hex_digit(d: u8) -> u8
+    requires { ⌜ d < 16 ⌝ }
+    ensures { λ r. ⌜ r ≡ hexDigit d ⌝ }
+{
+    if d < 10 {
+        return d + 0x30;
+    }
+    d + 0x57
+}
+
+// The i-th digit of the bytes' text.
+fn digit_at(bytes: &[u8], i: usize) -> u8
+    requires { ⌜ i < 2 * length (now bytes) ⌝ }
+    ensures { λ r. ⌜ r ≡ getD (pairsOf (now (bytes .entry))) i 0 ⌝ }
+{
+    let b = bytes[i / 2];
+    if i % 2 == 0 {
+        return hex_digit(b / 16);
+    }
+    hex_digit(b % 16)
+}
+
+fn put_pairs(bytes: &[u8], out: &mut [u8]) -> usize
+    requires { ⌜ 2 * length (now bytes) ≤ length (now out) ⌝ }
+    ensures { λ r. ⌜ Wrote (now (out .entry)) 0 (pairsOf (now (bytes .entry))) (now (out .exit)) r ⌝ }
+{
+    let n = 2 * bytes.len();
+    let mut i = 0;
+    while i < n {
+        out[i] = digit_at(bytes, i);
+        i += 1;
+    }
+    i
+}
+
+// Writes the bytes' text to the front of the output, if there is room.
+pub fn hex(bytes: &[u8], out: &mut [u8]) -> Written
+    ensures { λ r. ⌜ leaves r (now (out .exit)) ≡ stored (hexOf (now (bytes .entry))) (now (out .entry)) ⌝ }
+{
+    if bytes.len() == 0 {
+        if out.len() == 0 {
+            return Written::Refused(question::OUTPUT);
+        }
+        out[0] = b'-';
+        return Written::Length(1);
+    }
+    if out.len() / 2 < bytes.len() {
+        return Written::Refused(question::OUTPUT);
+    }
+    Written::Length(put_pairs(bytes, out))
+}
