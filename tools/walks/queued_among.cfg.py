@@ -1,5 +1,5 @@
 crate = "sought"
 fn = "queued_among"
 requires = {"r": "is-n"}
-ends = "λ up. is-r up ∙ among-is id (take count (now unacked)) (now entries)"
+ends = "is-r ∙ among-is id (take count (now unacked)) (now entries)"
 uses = ["use lib.ListN.{take}", "use Rattle.sought.proofs.Laws.{among-is}"]

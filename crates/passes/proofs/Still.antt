@@ -41,8 +41,9 @@ use Rattle.ledger.specs.Aside.{sightOf, isLength, passesInParts}
 use Rattle.ledger.proofs.Numbers.{first-none}
 use Rattle.ledger.proofs.Aside.{passes-in-parts}
 use Rattle.sought.specs.declared.Sought.{Sought}
-use Rattle.sought.specs.Sought.{soughtIn, queuedAmong, Rises}
-use Rattle.sought.proofs.Laws.{found-is}
+use Rattle.sought.specs.Sought.{soughtIn, queuedAmong, queuedFound}
+use Rattle.sought.proofs.Halves.{Rises}
+use Rattle.sought.proofs.Laws.{found-is, among-rising}
 use Rattle.passes.specs.Passes.{isGranted, Writable}
 use Rattle.passes.proofs.Among.{sight, asked-apart}
 
@@ -83,7 +84,7 @@ module _ (run : List ℕ) (es : List Entry) (id : ℕ) (c : Contact) (l : Lists)
 
   pub still-is : (writable : Bool) (sought : Sought) (aside : Aside) (end : Across) (count : ℕ) (among r : Bool)
       → Writable c l writable → sought ≡ soughtIn es id → aside ≡ left.Contact id (c .«sent_msgno») → Questioned run es aside end → count ≡ c .unacked
-      → (Rises (take count (l .unacked)) → among ≡ queuedAmong id (take count (l .unacked)) es)
+      → among ≡ queuedFound id (take count (l .unacked)) es
       → r ≡ (writable && (sought .found && (going (askedOf end) && not among)))
       → r ≡ (counted c l && replacedPasses run es id (image c l))
   still-is writable sought aside end count among r is-writable is-sought is-aside is-end is-count is-among is-r =
@@ -97,8 +98,8 @@ module _ (run : List ℕ) (es : List Entry) (id : ℕ) (c : Contact) (l : Lists)
 
       among-is : isLength (askedContact c l) ≡ true → among ≡ queuedAmong id (take (c .unacked) (l .unacked)) es
       among-is t =
-          subst (λ (n : ℕ). Rises (take n (l .unacked)) → among ≡ queuedAmong id (take n (l .unacked)) es) is-count is-among
-          (rises c l (is-writable .contact) (is-writable .lists) t)
+          is-among ∙ ap (λ (n : ℕ). queuedFound id (take n (l .unacked)) es) is-count
+          ∙ among-rising id (take (c .unacked) (l .unacked)) (rises c l (is-writable .contact) (is-writable .lists) t) es
 
       in-parts : isLength (askedContact c l) && (before es (length es) CONTACT id && (going (askedOf end) && not among)) ≡ passesInParts id hand
       in-parts =

@@ -3,7 +3,7 @@
 use Prim.Native.Nat.{ℕ, zero, suc, _+_, _-_, _^_, _≤_, _<_}
 use native.Mathlib.Omega.{arith}
 use mathlib.Core.List.{List, [], _∷_, foldl}
-use mathlib.Core.Bool.{Bool, true, false, cond, _||_}
+use mathlib.Core.Bool.{Bool, true, false, cond, _&&_, _||_}
 use mathlib.Core.Option.{none, some}
 use mathlib.Core.Path.{_≡_, refl, _∙_, ap}
 use lib.ListN.{length}
@@ -13,7 +13,8 @@ use Rattle.store.specs.Kinds.{CONTACT, QUEUED}
 use Rattle.store.specs.Store.{entryAt, isOf, anyBelow, before}
 use Rattle.ledger.specs.Step.{contactIn}
 use Rattle.line.specs.Line.{queuedOf}
-use Rattle.sought.specs.Sought.{soughtOf, soughtIn, isAmong, queuedAmong, soughtNext, queuedNext, amongNext}
+use Rattle.sought.specs.Sought.{soughtOf, soughtIn, queuedAmong, isQueuedFound, queuedFound, soughtNext, queuedNext, amongNext}
+use Rattle.sought.proofs.Halves.{Rises, found-rising}
 
 -- ---- a contact's first entry: what is found stays
 found-stays : (k : ℕ) (e : Entry) (es : List Entry) → foldl (soughtNext k) (soughtOf (some e)) es ≡ soughtOf (some e)
@@ -73,15 +74,20 @@ one-more k i n next e l is = go (isOf QUEUED k e) is
     go true p = omega arith
     go false p = omega arith
 
--- ---- a queued row among numbers
+-- ---- a queued row whose number is found
 among-stays : (k : ℕ) (numbers : List ℕ) (es : List Entry) → foldl (amongNext k numbers) true es ≡ true
 among-stays k numbers [] = refl
 among-stays k numbers (e ∷ es) = among-stays k numbers es
 
-pub among-is : (k : ℕ) (numbers : List ℕ) (es : List Entry) → foldl (amongNext k numbers) false es ≡ queuedAmong k numbers es
+pub among-is : (k : ℕ) (numbers : List ℕ) (es : List Entry) → foldl (amongNext k numbers) false es ≡ queuedFound k numbers es
 among-is k numbers [] = refl
-among-is k numbers (e ∷ es) = go (isAmong k numbers e) (among-is k numbers es)
+among-is k numbers (e ∷ es) = go (isQueuedFound k numbers e) (among-is k numbers es)
   where
-    go : (b : Bool) → foldl (amongNext k numbers) false es ≡ queuedAmong k numbers es → foldl (amongNext k numbers) b es ≡ (b || queuedAmong k numbers es)
+    go : (b : Bool) → foldl (amongNext k numbers) false es ≡ queuedFound k numbers es → foldl (amongNext k numbers) b es ≡ (b || queuedFound k numbers es)
     go true later = among-stays k numbers es
     go false later = later
+
+-- where the numbers rise, it is a queued row with one of them
+pub among-rising : (k : ℕ) (numbers : List ℕ) → Rises numbers → (es : List Entry) → queuedFound k numbers es ≡ queuedAmong k numbers es
+among-rising k numbers up [] = refl
+among-rising k numbers up (e ∷ es) = λ i. (isOf QUEUED k e && found-rising numbers up (e .msgno) i) || among-rising k numbers up es i

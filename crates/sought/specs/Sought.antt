@@ -1,11 +1,12 @@
 -- What is looked for among entries: a contact's entry, and its queued ones.
 -- Assumes nothing.
-use Prim.Native.Nat.{ℕ, _+_}
+use Prim.Native.Nat.{ℕ, zero, suc, _+_, _-_, _/_}
 use mathlib.Core.List.{List}
 use mathlib.Core.Bool.{Bool, true, false, cond, _&&_, _||_}
 use mathlib.Core.Option.{Option, none, some}
-use lib.Dec.{T, eqb}
-use Rattle.rows.specs.Checks.{any, rising}
+use lib.ListN.{length, getD}
+use lib.Dec.{eqb, ltb}
+use Rattle.rows.specs.Checks.{any}
 use Rattle.store.specs.declared.Entry.{Entry}
 use Rattle.store.specs.Kinds.{CONTACT, QUEUED}
 use Rattle.store.specs.Store.{noEntry, isOf}
@@ -28,10 +29,26 @@ isAmong k numbers e = isOf QUEUED k e && any (eqb (e .msgno)) numbers
 abbrev pub queuedAmong : (contact : ℕ) → (numbers : List ℕ) → List Entry → Bool
 queuedAmong k numbers = any (isAmong k numbers)
 
--- numbers that rise strictly from 1, as question 22 asks
-pub record Rises (numbers : List ℕ) : Type 0 where
-  pub highest : ℕ
-  pub rises : T (rising 1 highest numbers)
+-- what a search by halves finds of the numbers from low on and below high: it looks at the middle one, then in one half. Each look takes one of the fuel
+unfoldable pub foundIn : (fuel : ℕ) → (numbers : List ℕ) → (msgno low high : ℕ) → Bool
+foundIn zero numbers m low high = false
+foundIn (suc fuel) numbers m low high =
+    let mid = low + (high - low) / 2 in
+    cond (ltb low high)
+    (cond (eqb (getD numbers mid 0) m) true
+    (cond (ltb (getD numbers mid 0) m) (foundIn fuel numbers m (mid + 1) high) (foundIn fuel numbers m low mid)))
+    false
+
+-- ... of all of them
+abbrev pub isFound : (numbers : List ℕ) → (msgno : ℕ) → Bool
+isFound numbers m = foundIn (length numbers) numbers m 0 (length numbers)
+
+-- whether a queued entry of this contact has a msgno that the search finds. Where the numbers rise this is `queuedAmong`: proofs/Laws.antt
+abbrev pub isQueuedFound : (contact : ℕ) → (numbers : List ℕ) → Entry → Bool
+isQueuedFound k numbers e = isOf QUEUED k e && isFound numbers (e .msgno)
+
+abbrev pub queuedFound : (contact : ℕ) → (numbers : List ℕ) → List Entry → Bool
+queuedFound k numbers = any (isQueuedFound k numbers)
 
 -- ---- on the way, with one entry more
 abbrev pub soughtNext : (contact : ℕ) → Sought → Entry → Sought
@@ -41,4 +58,4 @@ abbrev pub queuedNext : (contact : ℕ) → ℕ → Entry → ℕ
 queuedNext k n e = cond (isOf QUEUED k e) (n + 1) n
 
 abbrev pub amongNext : (contact : ℕ) → (numbers : List ℕ) → Bool → Entry → Bool
-amongNext k numbers b e = b || isAmong k numbers e
+amongNext k numbers b e = b || isQueuedFound k numbers e

@@ -6,12 +6,10 @@ ghost use mathlib.Core.Bool.{false};
 ghost use mathlib.Core.Option.{none};
 ghost use Prim.Native.Nat.{_-_, _^_, _<_};
 ghost use lib.ListN.{length, take};
-ghost use lib.Dec.{eqb};
-ghost use Rattle.rows.specs.Checks.{any};
 ghost use Rattle.store.specs.Kinds.{QUEUED};
 ghost use Rattle.store.specs.Store.{entryAt, isOf};
 ghost use Rattle.line.specs.Line.{queuedOf};
-ghost use Rattle.sought.specs.Sought.{soughtOf, soughtIn, queuedAmong, Rises, soughtNext, queuedNext, amongNext};
+ghost use Rattle.sought.specs.Sought.{soughtOf, soughtIn, isFound, queuedFound, soughtNext, queuedNext, amongNext};
 
 // A contact's entry; all zeros where there is none.
 pub struct Sought {
@@ -148,7 +146,7 @@ fn held(numbers: &[u32], count: usize) -> usize
 
 // By halves: right where the numbers rise.
 fn is_among(numbers: &[u32], count: usize, msgno: u32) -> bool
-    ensures { λ r. ⌜ (Rises (take count (now (numbers .entry))) → r ≡ any (eqb msgno) (take count (now (numbers .entry)))) ⌝ }
+    ensures { λ r. ⌜ r ≡ isFound (take count (now (numbers .entry))) msgno ⌝ }
 {
     let mut low: usize = 0;
     let mut high = held(numbers, count);
@@ -168,7 +166,7 @@ fn is_among(numbers: &[u32], count: usize, msgno: u32) -> bool
 }
 
 fn among_next(e: Entry, id: u64, unacked: &[u32], count: usize, found: bool) -> bool
-    ensures { λ r. ⌜ (Rises (take count (now (unacked .entry))) → r ≡ amongNext id (take count (now (unacked .entry))) found e) ⌝ }
+    ensures { λ r. ⌜ r ≡ amongNext id (take count (now (unacked .entry))) found e ⌝ }
 {
     if found {
         return true;
@@ -188,7 +186,7 @@ fn among_at(
     found: bool,
 ) -> bool
     requires { ⌜ i < length (now entries) ⌝ }
-    ensures { λ r. ⌜ (Rises (take count (now (unacked .entry))) → r ≡ amongNext id (take count (now (unacked .entry))) found (entryAt (now (entries .entry)) i)) ⌝ }
+    ensures { λ r. ⌜ r ≡ amongNext id (take count (now (unacked .entry))) found (entryAt (now (entries .entry)) i) ⌝ }
 {
     let e = entries::entry_at(entries, i);
     among_next(e, id, unacked, count, found)
@@ -196,7 +194,7 @@ fn among_at(
 
 fn among_from(entries: &[Entry], id: u64, unacked: &[u32], count: usize, n: usize) -> bool
     requires { ⌜ n ≡ length (now entries) ⌝ }
-    ensures { λ r. ⌜ (Rises (take count (now (unacked .entry))) → r ≡ foldl (amongNext id (take count (now (unacked .entry)))) false (now (entries .entry))) ⌝ }
+    ensures { λ r. ⌜ r ≡ foldl (amongNext id (take count (now (unacked .entry)))) false (now (entries .entry)) ⌝ }
 {
     let mut i = 0;
     let mut found = false;
@@ -207,9 +205,9 @@ fn among_from(entries: &[Entry], id: u64, unacked: &[u32], count: usize, n: usiz
     found
 }
 
-// Whether a queued row of this contact has one of the first `count` unacked numbers, where these rise. A count above the list's length counts as the length.
+// Whether a queued row of this contact has one of the first `count` unacked numbers, by halves. A count above the list's length counts as the length.
 pub fn queued_among(entries: &[Entry], id: u64, unacked: &[u32], count: usize) -> bool
-    ensures { λ r. ⌜ (Rises (take count (now (unacked .entry))) → r ≡ queuedAmong id (take count (now (unacked .entry))) (now (entries .entry))) ⌝ }
+    ensures { λ r. ⌜ r ≡ queuedFound id (take count (now (unacked .entry))) (now (entries .entry)) ⌝ }
 {
     let n = entries::entry_count(entries);
     among_from(entries, id, unacked, count, n)

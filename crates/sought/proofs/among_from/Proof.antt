@@ -43,7 +43,7 @@ use denote.Triple.Walked.{says, needs, Stays, walkOf, Walks, ends-at, walked, wa
 use Rattle.walks.proofs.Walk.{untok, retok, gone, rest-of, drops, drops-go}
 use Rattle.walks.proofs.Held.{Held, number, vals, Lies, holds, empty, plus, lends, none, calls-held, into, local}
 use lib.ListN.{take}
-use Rattle.sought.specs.Sought.{Rises, amongNext}
+use Rattle.sought.specs.Sought.{amongNext}
 use Rattle.sought.proofs.Folds.{Folding, begins, goes-on, ends, inside, behind}
 use Rattle.store.specs.declared.Entry.{Entry}
 use Rattle.store.proofs.Entry as EntryT
@@ -105,10 +105,10 @@ module _ {M : Type 1} (𝓤 : URA M) (H : Heap 𝓤) (A : Atoms 𝓤) (W : Given
       found : Bool
       in-i : Lies as-w64 i
       in-found : Lies as-bool found
-      so : Rises (take count (now unacked)) → Folding (amongNext id (take count (now unacked))) (now entries) false i found
+      so : Folding (amongNext id (take count (now unacked))) (now entries) false i found
 
     abbrev first-turn : Turn
-    first-turn = record { i = 0; found = false; in-i = (refl, lit< tt); in-found = refl; so = λ up. begins (amongNext id (take count (now unacked))) (now entries) false }
+    first-turn = record { i = 0; found = false; in-i = (refl, lit< tt); in-found = refl; so = begins (amongNext id (take count (now unacked))) (now entries) false }
 
     abbrev far : Turn → ℕ
     far t = n - (t .i)
@@ -177,8 +177,8 @@ module _ {M : Type 1} (𝓤 : URA M) (H : Heap 𝓤) (A : Atoms 𝓤) (W : Given
               found = next;
               in-i = (refl, fits (ltb→lt (t .i) n less));
               in-found = in-next;
-              so = λ up. goes-on
-                  (amongNext id (take count (now unacked))) (now entries) false (t .i) (t .found) next (inside (t .i) n (now entries) (ltb→lt (t .i) n less) asks) ((t .so) up) (told up);
+              so = goes-on
+                  (amongNext id (take count (now unacked))) (now entries) false (t .i) (t .found) next (inside (t .i) n (now entries) (ltb→lt (t .i) n less) asks) (t .so) told;
             })
             (add-one-dec n (t .i) (ltb→lt (t .i) n less))))
             (λ over. jumps ! $ exec ! C Λ En steps.t-4 (atRet En (This .post bound)) $
@@ -186,7 +186,7 @@ module _ {M : Type 1} (𝓤 : URA M) (H : Heap 𝓤) (A : Atoms 𝓤) (W : Given
             gone ! 20 refl refl $ gone ! 18 refl refl $ gone ! 16 refl refl $ gone ! 14 refl refl $ gone ! 12 refl refl $ gone ! 10 refl refl $ gone ! 8 refl refl $ gone ! 6 refl refl $
             gone ! 4 refl refl $ free0 ! $
             suffices ! _ (ends-at 𝓤 H A this.ended stayed clauses W bound (as-bool .val (t .found)) (t .found) (tt, (tt, (tt, (tt, (tt, tt))))) (tt, (tt, (tt, (tt, (tt, tt)))))) $
-            says ! (λ up. ends (amongNext id (take count (now unacked))) (now entries) false (t .i) (t .found) (behind (t .i) n (now entries) (nltb→le (t .i) n over) asks) ((t .so) up)) $
+            says ! (ends (amongNext id (take count (now unacked))) (now entries) false (t .i) (t .found) (behind (t .i) n (now entries) (nltb→le (t .i) n over) asks) (t .so)) $
             keep ! (0 ∷ 1 ∷ []) $ retok ! 2 (κ₀, (κ₁, tt)) (q₀, (q₁, tt)) $ frame ! $ nothing ! $ none ! $ none ! $ none ! $ none ! $ none ! $ frame ! $
             owned ! Boolean (Is Boolean) (as-bool .makes) (t .found) _ (t .in-found) $ done !)
           where

@@ -1,19 +1,19 @@
--- `sought::is_among` meets its contract. The invariant: where the numbers rise, the number stands from low on and below high, or not at all.
+-- `sought::is_among` meets its contract. The invariant: what the search finds from low on and below high is what it finds of all.
 -- Assumes nothing.
 use Prim.Native.Nat.{ℕ, _+_, _-_, _/_, _≤_, _<_, min}
 use mathlib.Core.List.{List}
-use mathlib.Core.Path.{_≡_, sym, _∙_}
+use mathlib.Core.Path.{_≡_, sym, subst, _∙_}
 use native.Mathlib.Omega.{arith}
 use lib.ListN.{length, take, getD, length-take}
 use lib.Seq.{getD-take}
 use borrow.Author.Needs.{needs}
-use Rattle.across.proofs.Halves.{Halved, whole, nowhere, upper, lower, among}
-use Rattle.sought.specs.Sought.{Rises}
+use Rattle.sought.specs.Sought.{isFound}
+use Rattle.sought.proofs.Halves.{Searching, begins, ends, found, goes-above, goes-below}
 use Rattle.sought.proofs.is_among.Statement.{statement}
 use Rattle.sought.proofs.is_among.Tie as tie
 
 abbrev Inv-loop : tie.InvT-loop
-Inv-loop numbers count msgno low₀ high₀ low high = (high ≤ length (take count numbers)) × (Rises (take count numbers) → Halved msgno (take count numbers) low high)
+Inv-loop numbers count msgno low₀ high₀ low high = (high ≤ length (take count numbers)) × Searching (take count numbers) msgno low high (isFound (take count numbers) msgno)
 
 abbrev μ-loop : tie.MeasureT-loop
 μ-loop numbers count msgno low₀ high₀ low high = high - low
@@ -49,7 +49,7 @@ loop-holds : tie.Need-loop-holds Inv-loop μ-loop
 loop-holds c =
     let s = c .before .before in
     let long : length (numbers s) ≡ c .held .result = sym (c .held .ensures) in
-    (omega arith, λ up. whole (s .args .msgno) (numbers s) (c .held .result) long)
+    (omega arith, subst (λ (high : ℕ). Searching (numbers s) (s .args .msgno) 0 high (isFound (numbers s) (s .args .msgno))) long (begins (numbers s) (s .args .msgno)))
 
 sub-mid : tie.Need-sub-mid Inv-loop μ-loop
 sub-mid c = search needs
@@ -67,7 +67,8 @@ returns : tie.Need-returns Inv-loop μ-loop
 returns c =
     let t = c .before .before in
     let s = start t in
-    λ up. among (s .args .msgno) (numbers s) (middle t) (inside t) (sym (c .if1 .taken) ∙ read t)
+    let l = t .before .loop in
+    found (numbers s) (s .args .msgno) (l .low) (l .high) (l .inv .1) (t .loop-test .taken) (sym (read t) ∙ c .if1 .taken)
 
 add-low : tie.Need-add-low Inv-loop μ-loop
 add-low c = omega (arith, here (c .before .before .before))
@@ -78,7 +79,9 @@ loop-less c = search needs
 loop-again : tie.Need-loop-again Inv-loop μ-loop
 loop-again c =
     let t = c .before .before .before in
-    (t .before .loop .inv .0, λ up. upper (t .before .loop .inv .1 up) 1 (up .highest) (up .rises) (middle t) (inside t) (omega (arith, read t)))
+    let s = start t in
+    let l = t .before .loop in
+    (l .inv .0, goes-above (numbers s) (s .args .msgno) (l .low) (l .high) (l .inv .1) (t .loop-test .taken) (omega (arith, read t)))
 
 loop-less-2 : tie.Need-loop-less-2 Inv-loop μ-loop
 loop-less-2 c = search needs
@@ -86,10 +89,15 @@ loop-less-2 c = search needs
 loop-again-2 : tie.Need-loop-again-2 Inv-loop μ-loop
 loop-again-2 c =
     let t = c .before .before .before in
-    (omega (arith, inside t), λ up. lower (t .before .loop .inv .1 up) 1 (up .highest) (up .rises) (middle t) (inside t) (omega (arith, read t)))
+    let s = start t in
+    let l = t .before .loop in
+    (omega (arith, inside t), goes-below (numbers s) (s .args .msgno) (l .low) (l .high) (l .inv .1) (t .loop-test .taken) (omega (arith, read t)))
 
 returns-2 : tie.Need-returns-2 Inv-loop μ-loop
-returns-2 c = λ up. nowhere (c .before .loop .inv .1 up) (c .loop-test .left)
+returns-2 c =
+    let s = c .before .before .before .before in
+    let l = c .before .loop in
+    ends (numbers s) (s .args .msgno) (l .low) (l .high) (l .inv .1) (c .loop-test .left)
 
 pub is-among-spec : {M : Type 1} → statement M
 is-among-spec =
