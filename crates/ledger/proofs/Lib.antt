@@ -25,4 +25,5 @@ pub mod Aside
 pub mod Contracts
 pub mod Replay
 pub mod Samples
+pub mod TwoSamples
 pub mod Proved

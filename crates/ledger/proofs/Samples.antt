@@ -32,24 +32,25 @@ use Rattle.ledger.specs.Call.{Call, restore, opens, cover, contains, cov
 use Rattle.line.specs.Line as lines
 use Rattle.ledger.specs.Step as steps
 use Rattle.ledger.specs.Step.{relisted, aboveAs, step}
-use Rattle.ledger.specs.Ledger.{nothing, ledger}
+use Rattle.ledger.specs.Ledger.{nothing, restored, ledger}
 use Rattle.ledger.specs.Ledger as ledgers
 use Rattle.ledger.specs.Legal.{Legal}
 use Rattle.ledger.specs.Replay.{replay, answers, left, ledgerAnswers, AllTyped}
 use Rattle.ledger.proofs.Bytes.{bytes-tested}
 use Rattle.ledger.proofs.Replay.{replay-legal, replay-answers}
 
-abbrev N : ℕ
+abbrev pub N : ℕ
 N = 4294967295
 
-abbrev entry : (kind id msgno start len : ℕ) → Entry
+abbrev pub entry : (kind id msgno start len : ℕ) → Entry
 entry kind id msgno start len = record { id = id; start = start; len = len; msgno = msgno; version = 3; kind = kind }
 
-abbrev device : List ℕ
-device = replicate 43 0 ++ (2 ∷ 0 ∷ 1 ∷ 1 ∷ 0 ∷ 60 ∷ [])
+abbrev pub deviceOf : (next : ℕ) → List ℕ
+deviceOf next = replicate 43 0 ++ (next ∷ 0 ∷ 1 ∷ 1 ∷ 0 ∷ 60 ∷ [])
 
-abbrev fieldsOf : (sent contiguous : ℕ) → (above : List value.Range) → value.Contact
-fieldsOf sent contiguous above = record {
+-- the contact, with this last byte of its chain key, which is veiled
+abbrev pub keyed : (last sent contiguous : ℕ) → (above : List value.Range) → value.Contact
+keyed last sent contiguous above = record {
   role = A;
   verification = Verified;
   «pair_id» = replicate 16 1;
@@ -60,7 +61,7 @@ fieldsOf sent contiguous above = record {
   «door_b_to_a» = replicate 32 6;
   «route_key» = replicate 32 7;
   «resume_index» = 9;
-  «chain_key» = replicate 32 8;
+  «chain_key» = replicate 31 8 ++ (last ∷ []);
   «sent_msgno» = sent;
   pending = none;
   send = none;
@@ -75,31 +76,37 @@ fieldsOf sent contiguous above = record {
   expired = record { from = 1; to = 1 } ∷ [];
 }
 
+abbrev pub fieldsOf : (sent contiguous : ℕ) → (above : List value.Range) → value.Contact
+fieldsOf = keyed 8
+
 abbrev queued : List ℕ
 queued = replicate 9 0 ++ (5 ∷ 0 ∷ replicate 48 6)
 
 abbrev tombstone : List ℕ
 tombstone = 1 ∷ replicate 36 9
 
-abbrev runOf : value.Contact → List ℕ
-runOf v = device ++ tombstone ++ queued ++ print (contact 3) v
+abbrev pub runOf : value.Contact → List ℕ
+runOf v = deviceOf 2 ++ tombstone ++ queued ++ print (contact 3) v
 
 -- the contact's row has so many bytes
 abbrev entriesOf : ℕ → List Entry
 entriesOf long = entry DEVICE 0 0 0 49 ∷ entry CONTACT 1 0 145 long ∷ entry QUEUED 1 2 86 59 ∷ entry COURIER 7 0 49 37 ∷ []
 
 -- contiguous 2, above 4..4; and a contact without ranges above
-abbrev run : (sent : ℕ) → List ℕ
-run sent = runOf (fieldsOf sent 2 (record { from = 4; to = 4 } ∷ []))
+abbrev pub four : List value.Range
+four = record { from = 4; to = 4 } ∷ []
 
-abbrev entries : List Entry
+abbrev run : (sent : ℕ) → List ℕ
+run sent = runOf (fieldsOf sent 2 four)
+
+abbrev pub entries : List Entry
 entries = entriesOf 311
 
 abbrev bare : (contiguous : ℕ) → List Call → List Call
 bare contiguous cs = restore (runOf (fieldsOf 3 contiguous [])) (entriesOf 303) ∷ opens 1 ∷ cs
 
 -- nothing restored; so many numbers for `above`, and so many bytes of output
-abbrev fresh : (above : List ℕ) → (out : ℕ) → Hand
+abbrev pub fresh : (above : List ℕ) → (out : ℕ) → Hand
 fresh above out = record { mark = Fresh; run = []; entries = []; contact = zeroContact; lists = lists [] [] above (0 ∷ []) (0 ∷ 0 ∷ []); out = replicate out 0 }
 
 -- `above` lent without a place
@@ -110,23 +117,42 @@ shorter h = relisted (h .contact) (aboveAs [] (h .lists)) h
 abbrev then : (sent : ℕ) → List Call → List Call
 then sent cs = restore (run sent) entries ∷ opens 1 ∷ cs
 
+-- ... and then all others of the eight
+abbrev pub six : List Call
+six = cover 3 3 ∷ contains 4 ∷ covers 1 4 ∷ take ∷ statement ∷ write ∷ []
+
 abbrev allEight : List Call
-allEight = then 3 (cover 3 3 ∷ contains 4 ∷ covers 1 4 ∷ take ∷ statement ∷ write ∷ [])
+allEight = then 3 six
 
 -- `S,1,sent,1,contiguous,beyond,1,1` and LF, of three digits
-abbrev line : (sent contiguous beyond : ℕ) → List ℕ
+abbrev pub line : (sent contiguous beyond : ℕ) → List ℕ
 line sent contiguous beyond = 0x53 ∷ 0x2C ∷ 0x31 ∷ 0x2C ∷ sent ∷ 0x2C ∷ 0x31 ∷ 0x2C ∷ contiguous ∷ 0x2C ∷ beyond ∷ 0x2C ∷ 0x31 ∷ 0x2C ∷ 0x31 ∷ 0x0A ∷ []
 
+-- the row that they leave: sent 4, contiguous 4, nothing above
+abbrev pub rowBytes : (last : ℕ) → List ℕ
+rowBytes last =
+    0 ∷ 3 ∷ 1 ∷ replicate 16 1 ++ replicate 48 2 ++ replicate 16 3
+    -- the card
+    ++ (0 ∷ 38 ∷ 1 ∷ 0 ∷ 0 ∷ 0 ∷ 7 ∷ replicate 32 4 ++ (0 ∷ []))
+    -- doors and keys
+    ++ replicate 32 5 ++ replicate 32 6 ++ replicate 32 7 ++ (replicate 7 0 ++ (9 ∷ replicate 31 8 ++ (last ∷ [])))
+    -- sent_msgno, two flags and two counts that are 0, peer_acked, peer_read, read_marked, contiguous
+    ++ (0 ∷ 0 ∷ 0 ∷ 4 ∷ replicate 6 0 ++ (0 ∷ 0 ∷ 0 ∷ 1 ∷ replicate 8 0 ++ (0 ∷ 0 ∷ 0 ∷ 4 ∷ [])))
+    -- no range above, unacked 3, expired 1..1
+    ++ (0 ∷ 0 ∷ 0 ∷ 1 ∷ 0 ∷ 0 ∷ 0 ∷ 3 ∷ 0 ∷ 1 ∷ 0 ∷ 0 ∷ 0 ∷ 1 ∷ 0 ∷ 0 ∷ 0 ∷ 1 ∷ [])
+
 -- lengths as those of `fresh`
-abbrev lent : (above out : ℕ) → Lent
+abbrev pub lent : (above out : ℕ) → Lent
 lent above out = record { chains = 0; skipped = 0; above = above; unacked = 1; expired = 2; out = out }
 
-abbrev pairs2 : List ℕ
+abbrev pub pairs2 : List ℕ
 pairs2 = 0 ∷ 0 ∷ 0 ∷ 0 ∷ []
 
 samples :
     -- all eight calls are granted. The line is `S,1,4,1,4,0,1,1`
     (answers N allEight (fresh pairs2 320) ≡ granted ∷ granted ∷ truth true ∷ truth true ∷ truth true ∷ number 4 ∷ said 16 (line 0x34 0x34 0x30) ∷ wrote 303 ∷ [])
+    -- the row's bytes, and what stands behind them stays
+    × (left N allEight (fresh pairs2 320) .out ≡ rowBytes 8 ++ replicate 17 0)
     -- document 01's line, of the contact as it was opened, in an output just long enough for it: `S,1,3,1,2,1,1,1`
     × (answers N (then 3 (statement ∷ [])) (fresh pairs2 16) ≡ granted ∷ granted ∷ said 16 (line 0x33 0x32 0x31) ∷ [])
     -- its (p) cases of cover, contains and covers, each from the contact as it was opened: open drops what was not written
@@ -158,18 +184,24 @@ samples :
 unfolding steps.step layout.parse layout.print form.bigEndian form.bytesOf form.readMany form.printMany form.lebRead utf.completes
     puts.put places.printPlaces places.placesOf places.readPlaces lents.placesBytes ranges.insert ranges.inserted ranges.changeOf
     received.pairs received.stored row.counted row.image row.chainedImage lines.digitsOf lines.lineOf
-samples = (refl, refl, refl, refl, refl, refl, refl, refl, refl, refl, refl, refl, refl, refl)
+samples = (refl, refl, refl, refl, refl, refl, refl, refl, refl, refl, refl, refl, refl, refl, refl)
 
 -- ---- the ledger on its own, where numbers go up to 16
 ledger-samples :
     (ledgerAnswers 16 allEight (lent 4 320) nothing ≡ granted ∷ granted ∷ truth true ∷ truth true ∷ truth true ∷ number 4 ∷ said 16 (line 0x34 0x34 0x30) ∷ wrote 303 ∷ [])
     × (ledgerAnswers 16 (then 3 (cover 3 3 ∷ opens 1 ∷ cover 5 5 ∷ opens 1 ∷ cover 6 9 ∷ opens 1 ∷ contains 0 ∷ covers 3 4 ∷ [])) (lent 4 0) nothing
     ≡ granted ∷ granted ∷ truth true ∷ granted ∷ truth false ∷ granted ∷ truth false ∷ granted ∷ truth false ∷ truth false ∷ [])
+    -- 34 and 35; 34 with a list lent too short, though the contact is open; 36
+    × (ledgerAnswers 16 (cover 0 0 ∷ opens 1 ∷ restore (run 3) entries ∷ cover 0 0 ∷ take ∷ opens 2 ∷ []) (lent 4 0) nothing
+    ≡ refused STORE ∷ refused STORE ∷ granted ∷ refused STORE ∷ refused STORE ∷ refused «CONTACT_STORED» ∷ [])
+    × (ledger 16 (contains 4) (lent 0 0) (ledger 16 (opens 1) (lent 4 0) (restored (run 3) entries) .state) .answer ≡ refused STORE)
+    × (ledgerAnswers 16 (restore (run 3) entries ∷ opens 1 ∷ contains 4 ∷ []) (lent 1 0) nothing ≡ granted ∷ refused LISTS ∷ refused STORE ∷ [])
+    -- 37, 38, 40; 39
     × (ledgerAnswers 16 (then 3 (cover 0 0 ∷ covers 2 1 ∷ cover 6 9 ∷ cover 5 5 ∷ write ∷ statement ∷ [])) (lent 2 15) nothing
     ≡ granted ∷ granted ∷ refused RANGE ∷ refused RANGE ∷ refused «RANGES_FIT» ∷ truth false ∷ refused OUTPUT ∷ refused OUTPUT ∷ [])
     × (ledgerAnswers 16 (then 15 (take ∷ take ∷ [])) (lent 4 0) nothing ≡ granted ∷ granted ∷ number 16 ∷ refused «MSGNO_LEFT» ∷ [])
 unfolding ledgers.ledger sets.recordOf layout.parse layout.print form.bigEndian form.bytesOf form.readMany form.printMany form.lebRead utf.completes lines.digitsOf lines.lineOf
-ledger-samples = (refl, refl, refl, refl)
+ledger-samples = (refl, refl, refl, refl, refl, refl, refl)
 
 -- ---- the list in which all eight are granted is legal, so the laws speak of it
 run-bytes : Bytes (run 3)
