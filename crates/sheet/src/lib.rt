@@ -297,7 +297,7 @@ fn take_high(s: State, b: u8) -> State
     waiting(s.lines, s.left, question::BLOB)
 }
 
-fn room_for(most: usize, lent: usize) -> usize
+pub fn room_for(most: usize, lent: usize) -> usize
     ensures { λ r. ⌜ (r ≡ roomFor most lent) × (r ≤ most) × (r ≤ lent) ⌝ }
 {
     if lent < most {

@@ -77,7 +77,7 @@ all-same (suc lines) size places f =
     ap (λ (e : Entry). e ∷ entriesFrom lines (drop 6 places)) (same size places (f .0))
     ∙ ap (λ (l : List Entry). entryIn places ∷ l) (all-same lines size (drop 6 places) (f .1))
 
-firsts : (lines : ℕ) (places : List ℕ) → take lines (tableOf lines places) ≡ entriesFrom lines places
+pub firsts : (lines : ℕ) (places : List ℕ) → take lines (tableOf lines places) ≡ entriesFrom lines places
 firsts lines places = ap (λ (m : ℕ). take m (tableOf lines places)) (sym (long lines places)) ∙ take-append-seam (entriesFrom lines places) (replicate (ENTRIES - lines) noEntry)
 
 -- ---- the loop: before it, one turn, and behind it

@@ -4,4 +4,3 @@ mod Rows
 pub mod Text
 mod Samples
 pub mod Places
-pub mod Report

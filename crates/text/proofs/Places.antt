@@ -1,10 +1,10 @@
--- The entries that stand in places, as a sheet leaves them, are those that the text is written from: no number of theirs is cut.
+-- The entries that stand in places, as a sheet leaves them, are those that the text is written from: no number of theirs is wider than its field.
 -- Assumes nothing.
 use Prim.Native.Nat.{ℕ, zero, suc, _+_, _*_, _≤_}
 use mathlib.Core.List.{List, [], _∷_}
 use mathlib.Core.Path.{_≡_, sym, ap, ap₂, _∙_}
 use native.Mathlib.Omega.{arith}
-use native.Mathlib.Nat.{add-zero}
+use native.Mathlib.Nat.{add-zero, min-eq-left}
 use lib.ListN.{getD, drop}
 use lib.Seq.{drop-drop, getD-drop}
 use Rattle.store.specs.declared.Entry.{Entry}
@@ -15,7 +15,7 @@ use Rattle.text.specs.Lines as lines
 use Rattle.text.specs.Lines.{narrow, entryFrom, entriesFrom}
 
 uncut : (n : ℕ) → n ≤ U32 → narrow n ≡ n
-uncut n h = omega arith
+uncut n h = min-eq-left h
 
 abbrev narrowed : Entry → Entry
 narrowed e = record { id = e .id; start = e .start; len = e .len; msgno = narrow (e .msgno); version = narrow (e .version); kind = narrow (e .kind) }

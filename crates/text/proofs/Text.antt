@@ -23,21 +23,21 @@ use Rattle.text.specs.Lines as lines
 use Rattle.text.specs.Lines.{rowText, rowCount, entryText, entryCount, linesFrom, countFrom}
 
 -- ---- only a contact's row is found
-abbrev isContact : Kind → Bool
+abbrev pub isContact : Kind → Bool
 isContact device = false
 isContact contact = true
 isContact queued = false
 isContact courier = false
 isContact unknown = false
 
-not-found : (k : Kind) (id : ℕ) (a : Answer (ValueOf k)) (rest : List ContactRow) → isContact k ≡ false → contactsAs k id a rest ≡ rest
+pub not-found : (k : Kind) (id : ℕ) (a : Answer (ValueOf k)) (rest : List ContactRow) → isContact k ≡ false → contactsAs k id a rest ≡ rest
 not-found device id a rest h = refl
 not-found contact id a rest h = absurd (let z : _≡_ {A = ℕ} 0 1 = ap (λ (t : Bool). cond t 0 1) h in omega arith)
 not-found queued id a rest h = refl
 not-found courier id a rest h = refl
 not-found unknown id a rest h = refl
 
-other-kind : (k : ℕ) → (k ≡ CONTACT → ⊥) → isContact (kindOf k) ≡ false
+pub other-kind : (k : ℕ) → (k ≡ CONTACT → ⊥) → isContact (kindOf k) ≡ false
 other-kind k h = rw (ne-eqb k CONTACT h) (go (eqb k 0) (eqb k 2) (eqb k 3))
   where
     go : (a b c : Bool) → isContact (cond a device (cond b queued (cond c courier unknown))) ≡ false
@@ -46,7 +46,7 @@ other-kind k h = rw (ne-eqb k CONTACT h) (go (eqb k 0) (eqb k 2) (eqb k 3))
     go false false true = refl
     go false false false = refl
 
-as-contact : (k version id : ℕ) (row : List ℕ) (rest : List ContactRow) → k ≡ CONTACT
+pub as-contact : (k version id : ℕ) (row : List ℕ) (rest : List ContactRow) → k ≡ CONTACT
     → contactsAs (kindOf k) id (readRow (layoutOf (kindOf k) version) row) rest ≡ contactsAs contact id (readRow (rows.contact version) row) rest
 as-contact k version id row rest e =
     subst (λ (k : ℕ). contactsAs (kindOf k) id (readRow (layoutOf (kindOf k) version) row) rest ≡ contactsAs contact id (readRow (rows.contact version) row) rest) (sym e) refl

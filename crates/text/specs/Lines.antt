@@ -1,7 +1,7 @@
 -- The lines of a granted store as they are written: entry by entry, from entries that stand as six numbers each. That they make up the text is proved
 -- (proofs/Lines.antt), so this need not be believed.
 -- Assumes nothing.
-use Prim.Native.Nat.{ℕ, zero, suc, _+_, _*_, _%_, _≤_}
+use Prim.Native.Nat.{ℕ, zero, suc, _+_, _*_, _≤_, min}
 use mathlib.Core.List.{List, [], _∷_, _++_}
 use mathlib.Core.Bool.{cond}
 use mathlib.Core.Path.{_≡_}
@@ -15,12 +15,13 @@ use Rattle.store.specs.declared.Entry.{Entry}
 use Rattle.store.specs.Kinds.{CONTACT}
 use Rattle.store.specs.Store.{partOf}
 use Rattle.line.specs.Line.{fieldsText, lineOf, queuedOf, «LETTER_S»}
+use Rattle.sheet.specs.Sheet.{U32}
 use Rattle.text.specs.declared.Line.{Line}
 use Rattle.text.specs.declared.Measured.{Measured}
 
--- ---- entries from places: the i-th six numbers. What is wider than an entry's field is cut
+-- ---- entries from places: the i-th six numbers. A number that is wider than its field counts as the field's highest
 abbrev pub narrow : ℕ → ℕ
-narrow n = n % 4294967296
+narrow n = min n U32
 
 abbrev pub entryFrom : (places : List ℕ) → (i : ℕ) → Entry
 entryFrom places i = record {
@@ -66,6 +67,10 @@ linesFrom run all (e ∷ es) = entryText run (queuedOf (e .id) all) e ++ linesFr
 unfoldable pub countFrom : (run : List ℕ) → List Entry → ℕ
 countFrom run [] = 0
 countFrom run (e ∷ es) = entryCount run e + countFrom run es
+
+-- the most bytes that a text has: those of 512 lines for contacts, and of a last one
+abbrev pub «TEXT_BYTES» : ℕ
+«TEXT_BYTES» = 76949
 
 -- ---- lines as their numbers
 -- the first `count` of seven numbers, a comma before each, and LF

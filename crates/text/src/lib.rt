@@ -22,7 +22,7 @@ ghost use Rattle.store.specs.Store.{isOf};
 ghost use Rattle.store.specs.Kinds.{QUEUED};
 ghost use Rattle.line.specs.Line.{COMMA, decimal, queuedOf};
 ghost use Rattle.text.specs.Text.{howMany, lastLine};
-ghost use Rattle.text.specs.Lines.{narrow, entryFrom, entriesOf, rowText, rowCount, entryText, entryCount, linesFrom, countFrom, fieldsOf, textIn, Lined, Measures};
+ghost use Rattle.text.specs.Lines.{narrow, entryFrom, entriesOf, rowText, rowCount, entryText, entryCount, linesFrom, countFrom, fieldsOf, textIn, Lined, Measures, «TEXT_BYTES»};
 
 const LF: u8 = 0x0A;
 
@@ -31,6 +31,12 @@ const COMMA: u8 = 0x2C;
 const LETTER_S: u8 = 0x53;
 
 const LETTER_T: u8 = 0x54;
+
+// The highest number of 32 bits.
+const HIGHEST_32: u64 = 0xFFFFFFFF;
+
+// The most bytes that a text has.
+pub const TEXT_BYTES: usize = 76949;
 
 // The numbers of an S line, and of a T line.
 const CONTACT_FIELDS: usize = 7;
@@ -54,7 +60,10 @@ pub struct Measured {
 fn narrow(n: u64) -> u32
     ensures { λ r. ⌜ r ≡ narrow n ⌝ }
 {
-    (n % 4294967296) as u32
+    if n <= HIGHEST_32 {
+        return n as u32;
+    }
+    HIGHEST_32 as u32
 }
 
 // The i-th entry.
@@ -350,6 +359,7 @@ pub fn write_granted(
 ) -> Written
     requires { ⌜ (length (now run) ≤ 61440) × (n ≤ 512) × (6 * n ≤ length (now places)) ⌝ }
     ensures { λ r. ⌜ leaves r (now (out .exit)) ≡ stored (linesFrom (now (run .entry)) (entriesOf (now (places .entry)) n) (entriesOf (now (places .entry)) n) ++ lastLine (countFrom (now (run .entry)) (entriesOf (now (places .entry)) n)) (entriesOf (now (places .entry)) n) «next_slot») (now (out .entry)) ⌝ }
+    ensures { λ r. ⌜ length (linesFrom (now (run .entry)) (entriesOf (now (places .entry)) n) (entriesOf (now (places .entry)) n) ++ lastLine (countFrom (now (run .entry)) (entriesOf (now (places .entry)) n)) (entriesOf (now (places .entry)) n) «next_slot») ≤ «TEXT_BYTES» ⌝ }
 {
     let measured = measure(run, places, n);
     let queued = how_many(places, n, store::QUEUED);
@@ -367,6 +377,7 @@ pub fn write_granted(
 // A letter and two numbers: of a refusal.
 pub fn write_refused(letter: u8, number: u64, place: u64, out: &mut [u8]) -> Written
     ensures { λ r. ⌜ leaves r (now (out .exit)) ≡ stored (letter ∷ fieldsOf (number ∷ place ∷ []) 2) (now (out .entry)) ⌝ }
+    ensures { λ r. ⌜ length (letter ∷ fieldsOf (number ∷ place ∷ []) 2) ≤ «TEXT_BYTES» ⌝ }
 {
     let fields = [number, place, 0, 0, 0, 0, 0];
     let len = 1 + fields_len(fields, 2);

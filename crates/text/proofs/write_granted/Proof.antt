@@ -12,7 +12,7 @@ use Rattle.put.proofs.Put.{_then_, put-front}
 use Rattle.store.specs.declared.Entry.{Entry}
 use Rattle.line.specs.Line.{fieldsText}
 use Rattle.text.specs.Text.{lastLine, «LETTER_T»}
-use Rattle.text.specs.Lines.{entriesOf, linesFrom, countFrom}
+use Rattle.text.specs.Lines.{entriesOf, linesFrom, countFrom, «TEXT_BYTES»}
 use Rattle.text.proofs.Lines.{retext}
 use Rattle.text.proofs.write_granted.Statement.{statement}
 use Rattle.text.proofs.write_granted.Tie as tie
@@ -42,6 +42,9 @@ same-last c i =
 long : (c : tie.After-fields-len) → measured c .measure .result .len + 1 + c .fields-len .result ≡ length (lines c ++ last c)
 long c = omega (arith, measured c .measure .ensures .long, c .fields-len .ensures .0, ap length (same-last c), length-append (lines c) (last c))
 
+short : (c : tie.After-fields-len) → length (lines c ++ last c) ≤ «TEXT_BYTES»
+short c = omega (arith, long c, measured c .measure .ensures .short, c .fields-len .ensures .1)
+
 measure-requires : tie.Need-measure-requires
 measure-requires c κs = search needs
 
@@ -61,7 +64,7 @@ add-len-2 : tie.Need-add-len-2
 add-len-2 c = search needs
 
 returns : tie.Need-returns
-returns c = let n = c .before in sym (stored-short (lines n ++ last n) (start n .args .out .now) (omega (arith, long n)))
+returns c = let n = c .before in (sym (stored-short (lines n ++ last n) (start n .args .out .now) (omega (arith, long n))), short n)
 
 put-lines-requires : tie.Need-put-lines-requires
 put-lines-requires c κs = search needs
@@ -80,7 +83,7 @@ returns-2 c =
     let out = start n .args .out .now in
     let room : length (lines n ++ last n) ≤ length out = omega (arith, long n) in
     let w = p .put-lines .ensures then retext (same-last n) (t .put-line .ensures .1) in
-    ap₂ (λ (k : ℕ) (l : List ℕ). record { answer = wrote k; out = l }) (long n) (w .now-is ∙ put-front out (lines n ++ last n) room) ∙ sym (stored-row (lines n ++ last n) out room)
+    (ap₂ (λ (k : ℕ) (l : List ℕ). record { answer = wrote k; out = l }) (long n) (w .now-is ∙ put-front out (lines n ++ last n) room) ∙ sym (stored-row (lines n ++ last n) out room), short n)
 
 pub write-granted-spec : {M : Type 1} → statement M
 write-granted-spec =

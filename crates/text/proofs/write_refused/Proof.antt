@@ -10,6 +10,7 @@ use Rattle.layout.specs.Write.{wrote}
 use Rattle.layout.proofs.Write.{stored-short, stored-row}
 use Rattle.put.proofs.Put.{put-front}
 use Rattle.line.specs.Line.{fieldsText}
+use Rattle.text.specs.Lines.{«TEXT_BYTES»}
 use Rattle.text.proofs.write_refused.Statement.{statement}
 use Rattle.text.proofs.write_refused.Tie as tie
 
@@ -19,6 +20,9 @@ text c = let a = c .before .before .args in a .letter ∷ fieldsText (a .number 
 long : (c : tie.After-fields-len) → 1 + c .fields-len .result ≡ length (text c)
 long c = omega (arith, c .fields-len .ensures .0)
 
+short : (c : tie.After-fields-len) → length (text c) ≤ «TEXT_BYTES»
+short c = omega (arith, long c, c .fields-len .ensures .1)
+
 fields-len-requires : tie.Need-fields-len-requires
 fields-len-requires c κs = search needs
 
@@ -26,7 +30,7 @@ add-len : tie.Need-add-len
 add-len c = search needs
 
 returns : tie.Need-returns
-returns c = let n = c .before in sym (stored-short (text n) (n .before .before .args .out .now) (omega (arith, long n)))
+returns c = let n = c .before in (sym (stored-short (text n) (n .before .before .args .out .now) (omega (arith, long n))), short n)
 
 put-line-requires : tie.Need-put-line-requires
 put-line-requires c κs = search needs
@@ -41,7 +45,7 @@ returns-2 c =
     let out = n .before .before .args .out .now in
     let room : length (text n) ≤ length out = omega (arith, long n) in
     let now-is = p .put-line .ensures .1 .now-is ∙ put-front out (text n) room in
-    ap₂ (λ (k : ℕ) (l : List ℕ). record { answer = wrote k; out = l }) (long n) now-is ∙ sym (stored-row (text n) out room)
+    (ap₂ (λ (k : ℕ) (l : List ℕ). record { answer = wrote k; out = l }) (long n) now-is ∙ sym (stored-row (text n) out room), short n)
 
 pub write-refused-spec : {M : Type 1} → statement M
 write-refused-spec =

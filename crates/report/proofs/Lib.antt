@@ -1,0 +1,6 @@
+mod Entries
+mod Texts
+mod Rows
+mod Lines
+mod Report
+pub mod Proved

@@ -1,0 +1,51 @@
+-- What the machine leaves of a sheet says the sheet's text, where the lent lists have the full room.
+-- Assumes nothing.
+use Prim.Native.Nat.{ℕ, _*_, _/_, _≤_, min}
+use mathlib.Core.List.{List}
+use mathlib.Core.Path.{_≡_, refl, ap, ap₂, _∙_}
+use native.Mathlib.Nat.{min-eq-left}
+use lib.ListN.{length, take, drop}
+use lib.Seq.{take-at}
+use Rattle.store.specs.declared.Entry.{Entry}
+use Rattle.sheet.specs.declared.Answer.{Answer}
+use Rattle.sheet.specs.Sheet.{SheetSays, read, refused, sheetIn, «BLOB_BYTES», LINES}
+use Rattle.sheet.specs.Machine.{Held, held, fed, atLine, roomFor, bytesIn, linesIn, roomOf, stateIn, runIn, placesIn, answerOf}
+use Rattle.sheet.specs.Proved.{Leaves, Kept, inChunks, whole}
+use Rattle.sheet.proofs.Proved.{said-laws, machine-laws}
+use Rattle.text.specs.Text as text
+use Rattle.text.specs.Text.{saidText, textOf, sheetText}
+use Rattle.text.specs.Lines.{entriesOf}
+use Rattle.text.proofs.Places.{entries-read}
+use Rattle.report.specs.Report as report
+use Rattle.report.specs.Report.{reportOf}
+
+-- what the machine says
+abbrev reported : Held → List ℕ
+reported h = reportOf (answerOf (stateIn h)) (runIn h) (placesIn h)
+
+module _ (sheet run places : List ℕ) where
+  abbrev begun : Held
+  begun = held (atLine 0 0) run places
+
+  says : (s : SheetSays) (h : Held) → sheetIn (roomOf run places) sheet ≡ s → Kept begun h → Leaves run places s h → reported h ≡ saidText s
+  unfolding report.readText
+  says (read es blob) h e k w =
+      let fits = said-laws .fits (roomOf run places) sheet es blob e in
+      let bytes : min (length blob) (bytesIn (runIn h)) ≡ length blob = ap (λ (n : ℕ). min (length blob) (roomFor «BLOB_BYTES» n)) (k .run-long) ∙ min-eq-left (fits .few-bytes) in
+      let lines : min (length es) (linesIn (placesIn h)) ≡ length es = ap (λ (n : ℕ). min (length es) (roomFor LINES (n / 6))) (k .places-long) ∙ min-eq-left (fits .few-lines) in
+      let front : take (length blob) (runIn h) ≡ blob = ap (take (length blob)) (w .run-is) ∙ take-at blob (drop (length blob) run) (length blob) refl in
+      let same : entriesOf (placesIn h) (length es) ≡ es = entries-read (length blob) (placesIn h) 0 (length es) es (fits .entries-fit) (w .entries-are) in
+      ap (λ (a : Answer). reportOf a (runIn h) (placesIn h)) (w .answered)
+      ∙ ap₂ (λ (b n : ℕ). textOf (take b (runIn h)) (entriesOf (placesIn h) n)) bytes lines
+      ∙ ap₂ (λ (r : List ℕ) (es : List Entry). textOf r es) front same
+  says (refused q line) h e k w = ap (λ (a : Answer). reportOf a (runIn h) (placesIn h)) w
+
+  fed-text : «BLOB_BYTES» ≤ length run → 6 * LINES ≤ length places → reported (fed sheet begun) ≡ sheetText sheet
+  unfolding text.sheetText
+  fed-text long many =
+      says (sheetIn (roomOf run places) sheet) (fed sheet begun) refl (machine-laws .kept sheet begun) (machine-laws .reads sheet run places)
+      ∙ ap saidText (machine-laws .full-room sheet run places long many)
+
+pub chunks-text : (chunks : List (List ℕ)) (run places : List ℕ) → «BLOB_BYTES» ≤ length run → 6 * LINES ≤ length places
+    → reported (inChunks chunks (held (atLine 0 0) run places)) ≡ sheetText (whole chunks)
+chunks-text chunks run places long many = ap reported (machine-laws .chunked chunks (held (atLine 0 0) run places)) ∙ fed-text (whole chunks) run places long many

@@ -1,0 +1,20 @@
+-- The text of a sheet that was fed to the machine, from what the machine leaves. That it is the sheet's text is proved (Proved.antt), so this need not be
+-- believed.
+-- Assumes nothing.
+use Prim.Native.Nat.{ℕ, min}
+use mathlib.Core.List.{List, [], _∷_}
+use lib.ListN.{take}
+use Rattle.line.specs.Line.{fieldsText}
+use Rattle.sheet.specs.declared.Answer.{Answer}
+use Rattle.sheet.specs.declared.Answer.the-variants.{Read, Refused}
+use Rattle.sheet.specs.Machine.{bytesIn, linesIn}
+use Rattle.text.specs.Text.{textOf, «LETTER_X»}
+use Rattle.text.specs.Lines.{entriesOf}
+
+-- no more lines and blob bytes count than the lists have room for: the machine leaves no more
+unfoldable pub readText : (lines used : ℕ) → (run places : List ℕ) → List ℕ
+readText lines used run places = textOf (take (min used (bytesIn run)) run) (entriesOf places (min lines (linesIn places)))
+
+abbrev pub reportOf : Answer → (run places : List ℕ) → List ℕ
+reportOf (Read lines used) run places = readText lines used run places
+reportOf (Refused number line) run places = «LETTER_X» ∷ fieldsText (number ∷ line ∷ [])

@@ -1,0 +1,86 @@
+// The text of a sheet, from what its reader leaves: the state behind the last byte, the run with the blob bytes and the places of the lines.
+// The store that was read is restored, and its text written; a refusal has a line of its own. A state that no reader left may say more lines or blob bytes than
+// the lent lists have room for: as many count as there is room for.
+use ledger::Mark;
+use restore::Restored;
+use rows::Written;
+use sheet::Answer;
+use sheet::BLOB_BYTES;
+use sheet::LINES;
+use sheet::PLACE;
+use sheet::State;
+ghost use mathlib.Core.Path.{_≡_};
+ghost use Prim.Native.Nat.{_*_, _≤_, min};
+ghost use lib.ListN.{length};
+ghost use Rattle.layout.specs.Write.{stored};
+ghost use Rattle.rows.specs.Answers.{leaves};
+ghost use Rattle.sheet.specs.Machine.{answerOf};
+ghost use Rattle.text.specs.Text.{textOf};
+ghost use Rattle.text.specs.Lines.{entriesOf, «TEXT_BYTES»};
+ghost use Rattle.report.specs.Report.{readText, reportOf};
+
+const LETTER_R: u8 = 0x52;
+
+const LETTER_X: u8 = 0x58;
+
+fn wide(b: u8) -> u64
+    ensures { λ r. ⌜ r ≡ b ⌝ }
+{
+    b as u64
+}
+
+fn least(a: usize, b: usize) -> usize
+    ensures { λ r. ⌜ (r ≡ min a b) × (r ≤ b) ⌝ }
+{
+    if a <= b {
+        return a;
+    }
+    b
+}
+
+// The text of a store of n entries.
+fn report_store(run: &[u8], places: &[u64], n: usize, out: &mut [u8]) -> Written
+    requires { ⌜ (length (now run) ≤ 61440) × (n ≤ 512) × (6 * n ≤ length (now places)) ⌝ }
+    ensures { λ r. ⌜ leaves r (now (out .exit)) ≡ stored (textOf (now (run .entry)) (entriesOf (now (places .entry)) n)) (now (out .entry)) ⌝ }
+    ensures { λ r. ⌜ length (textOf (now (run .entry)) (entriesOf (now (places .entry)) n)) ≤ «TEXT_BYTES» ⌝ }
+{
+    let table = table::table_of(places, n);
+    let left = table::restore(run, table, n, Mark::Fresh);
+    let answer = left.answer;
+    match answer {
+        Restored::Granted(_, next_slot) => text::write_granted(run, places, n, next_slot, out),
+        Restored::Refused(number, place) => {
+            text::write_refused(LETTER_R, wide(number), place as u64, out)
+        }
+    }
+}
+
+// The text of so many lines and blob bytes.
+fn report_read(
+    run: &[u8],
+    places: &[u64],
+    lines: usize,
+    used: usize,
+    out: &mut [u8],
+) -> Written
+    ensures { λ r. ⌜ leaves r (now (out .exit)) ≡ stored (readText lines used (now (run .entry)) (now (places .entry))) (now (out .entry)) ⌝ }
+    ensures { λ r. ⌜ length (readText lines used (now (run .entry)) (now (places .entry))) ≤ «TEXT_BYTES» ⌝ }
+{
+    let bytes = least(used, sheet::room_for(BLOB_BYTES, run.len()));
+    let n = least(lines, sheet::room_for(LINES, places.len() / PLACE));
+    report_store(&run[..bytes], places, n, out)
+}
+
+// The whole text that the program `statement` prints.
+pub fn report(state: State, run: &[u8], places: &[u64], out: &mut [u8]) -> Written
+    ensures { λ r. ⌜ leaves r (now (out .exit)) ≡ stored (reportOf (answerOf state) (now (run .entry)) (now (places .entry))) (now (out .entry)) ⌝ }
+    ensures { λ r. ⌜ length (reportOf (answerOf state) (now (run .entry)) (now (places .entry))) ≤ «TEXT_BYTES» ⌝ }
+{
+    let answer = sheet::finish(state);
+    match answer {
+        Answer::Read(lines, used) => report_read(run, places, lines, used, out),
+        Answer::Refused(number, line) => {
+            text::write_refused(LETTER_X, wide(number), line as u64, out)
+        }
+    }
+}
