@@ -2,5 +2,5 @@ mod Entries
 mod Texts
 mod Rows
 mod Lines
-mod Report
+mod Fed
 pub mod Proved

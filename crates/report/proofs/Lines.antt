@@ -2,12 +2,13 @@
 -- Assumes nothing.
 use Prim.Native.Nat.{ℕ, _+_, _/_, _^_, _≤_, _<_}
 use mathlib.Core.List.{List, [], _∷_}
-use mathlib.Core.Bool.{true, _&&_}
+use mathlib.Core.Bool.{Bool, true, cond, _&&_}
 use mathlib.Core.Path.{_≡_, refl, sym, ap, _∙_, subst}
 use native.Mathlib.Omega.{arith}
 use lib.ListN.{length}
 use lib.Dec.{leb}
 use borrow.Author.Tests.{le-leb}
+use Rattle.layout.specs.Questions.{STORE, OUTPUT}
 use Rattle.layout.specs.RowLaws.{Bytes, Valid}
 use Rattle.rows.specs.Values.{Contact}
 use Rattle.rows.specs.Rows as rows
@@ -24,7 +25,7 @@ use Rattle.store.specs.Store as store
 use Rattle.store.specs.Store.{storeOf, entryAt, ContactRow, Found, asked, found, outcome}
 use Rattle.ledger.specs.declared.Mark.the-variants.{Fresh, Restored}
 use Rattle.ledger.specs.Call.{restore, opens, statement, Answer, isGranted, granted, said, Hand, Lent, lentOf}
-use Rattle.ledger.specs.Ledger.{Open, Ledger, nothing, restored, opened, Account, plain, enough, fitting, openOf, openIn, passesNow, covered, current, lineNow, ledger}
+use Rattle.ledger.specs.Ledger.{Open, Ledger, nothing, restored, opened, Account, plain, refuse, enough, fitting, openOf, openIn, passesNow, covered, current, lineNow, writeNow, ledger}
 use Rattle.ledger.specs.Ledger as ledgers
 use Rattle.ledger.specs.Replay.{answers, ledgerAnswers, AllTyped}
 use Rattle.ledger.specs.Proved.{HIGHEST}
@@ -106,7 +107,13 @@ module _ (run : List ℕ) (es : List Entry) (by : Bytes run) (going : asked (sto
         → ledger HIGHEST statement (lentOf h) (opened run es (openOf k v))
         ≡ record { answer = said (length (contactLine es c)) (contactLine es c); state = opened run es (openOf k v); freed = 0; output = contactLine es c }
     unfolding ledgers.ledger
-    saying room = rw (passing, line-is, le-leb (length (contactLine es c)) (length (h .out)) room)
+    saying room =
+        let l : Ledger = opened run es (openOf k v) in
+        let now = lineNow HIGHEST es (openOf k v) in
+        let line = contactLine es c in
+        ap (λ (b : Bool). cond b (writeNow (said (length now) now) now (lentOf h) l) (refuse STORE l)) passing
+        ∙ ap (λ (x : List ℕ). writeNow (said (length x) x) x (lentOf h) l) line-is
+        ∙ ap (λ (b : Bool). cond b (record { answer = said (length line) line; state = l; freed = 0; output = line }) (refuse OUTPUT l)) (le-leb (length line) (length (h .out)) room)
 
   -- ---- contact by contact
   abbrev On : Ledger → Type 0
@@ -126,7 +133,7 @@ module _ (run : List ℕ) (es : List Entry) (by : Bytes run) (going : asked (sto
   two-calls c cs l on from long room rest =
       ap (λ (a : Account). a .answer ∷ ledgerAnswers HIGHEST (statement ∷ callsOn cs) (lentOf h) (a .state)) (on (c .id) ∙ opening-it c from long l)
       ∙ ap (λ (a : Account). granted ∷ a .answer ∷ ledgerAnswers HIGHEST (callsOn cs) (lentOf h) (a .state)) (saying c from long room)
-      ∙ ap (λ (as : List Answer). granted ∷ said (length (contactLine es c)) (contactLine es c) ∷ as) rest
+      ∙ ap (λ (rest : List Answer). granted ∷ said (length (contactLine es c)) (contactLine es c) ∷ rest) rest
 
   all-calls : (cs : List ContactRow) (l : Ledger) → On l → AllFrom run es cs → LentEnough es (lentOf h) cs → ledgerAnswers HIGHEST (callsOn cs) (lentOf h) l ≡ linesOf es cs
   all-calls [] l on from e = refl
@@ -148,7 +155,7 @@ module _ (run : List ℕ) (es : List Entry) (by : Bytes run) (h : Hand) where
           → ledgerAnswers HIGHEST (restore run es ∷ callsOn (f .contacts)) (lentOf h) nothing ≡ granted ∷ linesOf es (f .contacts)
       go asks.Going g r =
           let same : found (storeOf run es) ≡ f = cc in
-          rw g (ap (λ (as : List Answer). granted ∷ as)
+          rw g (ap (λ (rest : List Answer). granted ∷ rest)
           (all-calls run es by g h (f .contacts) (restored run es) (on-restored run es by g h)
           (subst (λ (x : Found). AllFrom run es (x .contacts)) same (all-from run es es)) enough))
       go (asks.Refused n i) g r = absurd (let z : _≡_ {A = ℕ} 0 1 = cc in omega arith)

@@ -1,7 +1,7 @@
 -- What is proved of the text of a sheet.
 -- Assumes nothing.
 use Rattle.report.specs.Proved.{ReportLaws}
-use Rattle.report.proofs.Report.{chunks-text}
+use Rattle.report.proofs.Fed.{chunks-text}
 use Rattle.report.proofs.Lines.{lines-said}
 
 pub proved : ReportLaws

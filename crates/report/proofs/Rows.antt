@@ -66,11 +66,11 @@ first-in : (es : List Entry) (k j : ℕ) → j < length es → T (isOf CONTACT k
     → contactIn es k ≡ some (entryAt es j)
 first-in [] k j b t alone = absurd (omega (arith, b))
 first-in (e ∷ es) k zero b t alone = rw (holds (isOf CONTACT k e) t)
-first-in (e ∷ es) k (suc j) b t alone = go (isOf CONTACT k e) refl
+first-in (e ∷ es) k (suc j) b t alone = go (isOf CONTACT k e) refl (first-in es k j (omega (arith, b)) t (λ i h. alone (suc i) (omega (arith, h))))
   where
-    go : (x : Bool) → isOf CONTACT k e ≡ x → cond x (some e) (contactIn es k) ≡ some (entryAt es j)
-    go true p = absurd (alone 0 (omega arith) (truth (isOf CONTACT k e) p))
-    go false p = first-in es k j (omega (arith, b)) t (λ i h. alone (suc i) (omega (arith, h)))
+    go : (x : Bool) → isOf CONTACT k e ≡ x → contactIn es k ≡ some (entryAt es j) → cond x (some e) (contactIn es k) ≡ some (entryAt es j)
+    go true p later = absurd (alone 0 (omega arith) (truth (isOf CONTACT k e) p))
+    go false p later = later
 
 pub opens-it : (run : List ℕ) (es : List Entry) (c : ContactRow) → Bytes run → asked (storeOf run es) ≡ Going → (f : FromEntry run es c) → contactIn es (c .id) ≡ some (entryAt es (f .place))
 opens-it run es c by going f =

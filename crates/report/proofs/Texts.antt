@@ -1,8 +1,8 @@
--- The text of a store, from what restore answers of a table with its entries.
+-- The text of a store, from what restore answers of a table with its entries; and the text of a sheet, from what its reader answers.
 -- Assumes nothing.
-use Prim.Native.Nat.{ℕ, _≤_}
+use Prim.Native.Nat.{ℕ, _≤_, min}
 use mathlib.Core.List.{List, [], _∷_, _++_}
-use mathlib.Core.Path.{_≡_, refl, sym, ap, _∙_, subst}
+use mathlib.Core.Path.{_≡_, refl, sym, ap, ap₂, _∙_, subst}
 use native.Mathlib.Omega.{arith}
 use lib.ListN.{length, take}
 use Rattle.layout.specs.Write.{Left, stored}
@@ -12,10 +12,15 @@ use Rattle.store.specs.Store.{storeOf, Outcome, granted, refused, restore}
 use Rattle.restore.specs.declared.Restored.{Restored}
 use Rattle.restore.specs.declared.Restored.the-variants.{Granted, Refused}
 use Rattle.restore.specs.Restored.{answered}
-use Rattle.text.specs.Text.{lastLine, textOf, «LETTER_R»}
+use Rattle.text.specs.Text.{lastLine, textOf, «LETTER_R», «LETTER_X»}
+use Rattle.sheet.specs.declared.Answer.{Answer}
+use Rattle.sheet.specs.declared.Answer.the-variants as answer
+use Rattle.sheet.specs.Machine.{bytesIn, linesIn}
 use Rattle.table.specs.Table.{ENTRIES, Filled}
 use Rattle.text.specs.Lines.{entriesOf, linesFrom, countFrom, «TEXT_BYTES»}
 use Rattle.text.proofs.Text.{text-granted, text-refused}
+use Rattle.report.specs.Report as report
+use Rattle.report.specs.Report.{readText, reportOf}
 use Rattle.report.proofs.Entries.{first-entries}
 
 module _ (run : List ℕ) (es : List Entry) where
@@ -47,8 +52,21 @@ module _ (run places : List ℕ) (n : ℕ) (few : n ≤ ENTRIES) {t : List Entry
       → textOf run (entriesOf places n) ≡ linesFrom run (entriesOf places n) (entriesOf places n) ++ lastLine (countFrom run (entriesOf places n)) (entriesOf places n) slot
   table-granted e = granted-text run (entriesOf places n) (sym restored ∙ e)
 
-  pub table-refused : {number place : ℕ} → r ≡ Refused number place → textOf run (entriesOf places n) ≡ «LETTER_R» ∷ fieldsText (number ∷ place ∷ [])
-  table-refused e = refused-text run (entriesOf places n) (sym restored ∙ e)
+  pub table-refused : {number place m : ℕ} → r ≡ Refused number place → m ≡ number → textOf run (entriesOf places n) ≡ «LETTER_R» ∷ fieldsText (m ∷ place ∷ [])
+  table-refused {place = place} e w = refused-text run (entriesOf places n) (sym restored ∙ e) ∙ (λ i. «LETTER_R» ∷ fieldsText (sym w i ∷ place ∷ []))
+
+-- ---- what the reader answered
+module _ (run places : List ℕ) where
+  pub read-text : (lines used : ℕ) {b bytes n most : ℕ} → b ≡ min used bytes → bytes ≡ bytesIn run → n ≡ min lines most → most ≡ linesIn places
+      → readText lines used run places ≡ textOf (take b run) (entriesOf places n)
+  unfolding report.readText
+  read-text lines used p q s t = sym (ap₂ (λ (x y : ℕ). textOf (take x run) (entriesOf places y)) (p ∙ ap (min used) q) (s ∙ ap (min lines) t))
+
+  pub read-report : {a b : Answer} {lines used : ℕ} → b ≡ a → b ≡ answer.Read lines used → reportOf a run places ≡ readText lines used run places
+  read-report p q = ap (λ (a : Answer). reportOf a run places) (sym p ∙ q)
+
+  pub refused-report : {a b : Answer} {number line m : ℕ} → b ≡ a → b ≡ answer.Refused number line → m ≡ number → reportOf a run places ≡ «LETTER_X» ∷ fieldsText (m ∷ line ∷ [])
+  refused-report {line = line} p q w = ap (λ (a : Answer). reportOf a run places) (sym p ∙ q) ∙ (λ i. «LETTER_X» ∷ fieldsText (sym w i ∷ line ∷ []))
 
 -- ---- a writer that stored one text has stored another that is the same
 pub as-text : (out : List ℕ) {a b : List ℕ} {l : Left} → a ≡ b → (l ≡ stored b out) × (length b ≤ «TEXT_BYTES») → (l ≡ stored a out) × (length a ≤ «TEXT_BYTES»)

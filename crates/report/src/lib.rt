@@ -56,13 +56,7 @@ fn report_store(run: &[u8], places: &[u64], n: usize, out: &mut [u8]) -> Written
 }
 
 // The text of so many lines and blob bytes.
-fn report_read(
-    run: &[u8],
-    places: &[u64],
-    lines: usize,
-    used: usize,
-    out: &mut [u8],
-) -> Written
+fn report_read(run: &[u8], places: &[u64], lines: usize, used: usize, out: &mut [u8]) -> Written
     ensures { λ r. ⌜ leaves r (now (out .exit)) ≡ stored (readText lines used (now (run .entry)) (now (places .entry))) (now (out .entry)) ⌝ }
     ensures { λ r. ⌜ length (readText lines used (now (run .entry)) (now (places .entry))) ≤ «TEXT_BYTES» ⌝ }
 {
