@@ -1,0 +1,6 @@
+pub mod Quiet
+pub mod Store
+pub mod Steps
+pub mod Typed
+pub mod Turns
+pub mod Samples

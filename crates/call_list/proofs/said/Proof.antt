@@ -1,0 +1,24 @@
+-- `call_list::said` meets its contract: by the answer.
+-- Assumes nothing.
+use borrow.Author.Needs.{needs}
+use Rattle.call_list.proofs.said.Statement.{statement}
+use Rattle.call_list.proofs.said.Tie as tie
+
+enum-known-answer : tie.Need-enum-known-answer
+enum-known-answer c = search needs
+
+enum-known-answer-2 : tie.Need-enum-known-answer-2
+enum-known-answer-2 c = search needs
+
+no-requires : tie.Need-no-requires
+no-requires c κs = search needs
+
+returns : tie.Need-returns
+returns c = λ out. rw (c .before .answer .given .1)
+
+returns-2 : tie.Need-returns-2
+returns-2 c = λ out. rw (c .before .before .answer2 .given .1) (c .no .ensures)
+
+pub said-spec : {M : Type 1} → statement M
+said-spec =
+    tie.close (tie.spec enum-known-answer enum-known-answer-2 no-requires returns returns-2)

@@ -1,0 +1,28 @@
+-- `call_list::truth` meets its contract: by the answer.
+-- Assumes nothing.
+use borrow.Author.Needs.{needs}
+use Rattle.call_list.proofs.truth.Statement.{statement}
+use Rattle.call_list.proofs.truth.Tie as tie
+
+enum-known-answer : tie.Need-enum-known-answer
+enum-known-answer c = search needs
+
+bit-requires : tie.Need-bit-requires
+bit-requires c κs = search needs
+
+enum-known-answer-2 : tie.Need-enum-known-answer-2
+enum-known-answer-2 c = search needs
+
+no-requires : tie.Need-no-requires
+no-requires c κs = search needs
+
+returns : tie.Need-returns
+returns c = rw (c .before .before .answer .given .1, c .bit .ensures)
+
+returns-2 : tie.Need-returns-2
+returns-2 c = rw (c .before .before .answer2 .given .1) (c .no .ensures)
+
+pub truth-spec : {M : Type 1} → statement M
+truth-spec =
+    tie.close
+    (tie.spec enum-known-answer bit-requires enum-known-answer-2 no-requires returns returns-2)
