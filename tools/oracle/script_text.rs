@@ -138,7 +138,11 @@ impl<'a> Steps<'a> {
     }
 
     /// The lines that a restore is followed by, each as `part` reads it.
-    fn follow<T>(&mut self, count: usize, part: impl Fn(&str) -> Option<T>) -> Option<Vec<T>> {
+    fn follow<T>(
+        &mut self,
+        count: usize,
+        mut part: impl FnMut(&str) -> Option<T>,
+    ) -> Option<Vec<T>> {
         if count > LINES {
             return None;
         }
@@ -151,9 +155,12 @@ impl<'a> Steps<'a> {
         Some(match *words.as_slice() {
             ["script", number] => Step::Script(decimal(number)?),
             ["restore", count] => {
-                let lines = self.follow(decimal(count)?, sheet_line)?;
-                let bytes: usize = lines.iter().map(|line| line.blob.len()).sum();
-                (bytes <= BLOB_BYTES).then_some(Step::Restore(lines))?
+                let mut room = BLOB_BYTES;
+                Step::Restore(self.follow(decimal(count)?, |line| {
+                    let line = sheet_line(line)?;
+                    room = room.checked_sub(line.blob.len())?;
+                    Some(line)
+                })?)
             }
             ["rawrestore", count, run] => {
                 let run = bytes(run)?;
@@ -237,7 +244,11 @@ fn numbers<const COUNT: usize>(words: &[&str]) -> Option<[usize; COUNT]> {
 
 /// Lowercase hexadecimal, `-` for nothing; no more than a run may have.
 fn bytes(word: &str) -> Option<Vec<u8>> {
-    let word = if word == "-" { "" } else { word };
+    let word = match word {
+        "" => return None,
+        "-" => "",
+        word => word,
+    };
     let line = format!("D,3,{word}\n");
     let lines = sheet_model::read(line.as_bytes()).ok()?;
     Some(lines[0].blob.clone())

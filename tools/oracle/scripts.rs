@@ -18,7 +18,7 @@ const BATCH: usize = 250;
 const SHOWN: usize = 3;
 
 /// What `replay` is to end at: a line that is none, with its number.
-const NONE: [&str; 16] = [
+const NONE: [&str; 27] = [
     "fly\n",
     "script 1\n\n# a comment\n= an answer\nfly\nopen 1\n",
     "open\n",
@@ -35,7 +35,35 @@ const NONE: [&str; 16] = [
     "Take\n",
     "state\nrestore 1\nD,03,\n",
     "rawrestore 1 -\n0 0 0 3 0\n",
+    "rawrestore 1 -\n0 0 0 3 0 18446744073709551616\n",
+    "rawrestore 1 -\n0 0 4294967296 3 0 0\n",
+    "rawrestore 0 \n",
+    "restore 513\n",
+    "restore 1\n# no comment\n",
+    "state\nrestore 2\nD,3,\n",
+    "read 1 3 - -\n",
+    "read 1 3 1,2,3,4 -\n",
+    "read 1 3 1,2,3,4,05 -\n",
+    "read 0 3 1,2,3,4,5 -\n",
+    "read 4 3 - -\n",
 ];
+
+/// More of them, longer than a line of the source.
+fn long_none() -> [String; 4] {
+    let blob = |bytes: usize| "00".repeat(bytes);
+    let sheet_line = |bytes: usize| format!("D,3,{}\n", blob(bytes));
+    [
+        // The third line goes beyond 61,440 bytes.
+        format!(
+            "restore 4\n{}{}D\n",
+            sheet_line(40_000),
+            sheet_line(30_000)
+        ),
+        format!("state\nrawrestore 0 {}\n", blob(61_441)),
+        format!("# {}\n= {}\nfly\n", blob(200_000), blob(400_000)),
+        format!("state\nveil 0 3 0 {}\n", blob(1_000_000)),
+    ]
+}
 
 /// A list of calls, and whether it is the one before with other veiled bytes.
 pub struct Made {
@@ -241,7 +269,8 @@ pub fn check(seed: u64, times: u64, program: Program) -> bool {
         }
     });
     different += batch_differences(&batch, program, different);
-    for text in NONE {
+    let long = long_none();
+    for text in NONE.into_iter().chain(long.iter().map(String::as_str)) {
         let (due, printed) = (replay(text), printed(program, text).join("\n") + "\n");
         if due != printed {
             different += 1;
