@@ -2,3 +2,4 @@ mod Words
 mod Numbers
 mod Pairs
 mod Samples
+pub mod ReadBack

@@ -1,11 +1,13 @@
 -- Lines of scripts, by computation: each command, and lines at the edges of what is one. The text of each stands before it.
 -- Assumes nothing.
 use mathlib.Core.List.{[], _∷_}
+use mathlib.Core.Bool.{true, false}
 use mathlib.Core.Path.{_≡_, refl}
 use Rattle.sheet.specs.Decimal as decimals
 use Rattle.sheet.specs.Sheet as sheet
+use Rattle.store.specs.Kinds.{DEVICE, CONTACT}
 use Rattle.script.specs.Script as script
-use Rattle.script.specs.Script.{UNKNOWN, SCRIPT, RESTORE, RAWRESTORE, LEND, OPEN, COVER, CONTAINS, COVERS, TAKE, STATEMENT, WRITE, VEIL, READ, STATE, commandOf}
+use Rattle.script.specs.Script.{UNKNOWN, SCRIPT, RESTORE, RAWRESTORE, LEND, OPEN, COVER, CONTAINS, COVERS, TAKE, STATEMENT, WRITE, VEIL, READ, STATE, commandOf, isEntry, lengthsFor}
 
 -- ---- commands
 -- script 1
@@ -153,3 +155,49 @@ space-before = refl
 two-spaces : commandOf (0x6F ∷ 0x70 ∷ 0x65 ∷ 0x6E ∷ 0x20 ∷ 0x20 ∷ 0x31 ∷ []) ≡ UNKNOWN
 unfolding sheet.parted decimals.decimalIn script.same script.codeFrom script.decimalsFrom
 two-spaces = refl
+
+-- ---- entries, and lent lengths
+-- `0 0 0 3 0 49`
+an-entry : isEntry (0x30 ∷ 0x20 ∷ 0x30 ∷ 0x20 ∷ 0x30 ∷ 0x20 ∷ 0x33 ∷ 0x20 ∷ 0x30 ∷ 0x20 ∷ 0x34 ∷ 0x39 ∷ []) ≡ true
+unfolding sheet.parted decimals.decimalIn
+an-entry = refl
+
+-- `0 0 0 3 0`
+five-numbers : isEntry (0x30 ∷ 0x20 ∷ 0x30 ∷ 0x20 ∷ 0x30 ∷ 0x20 ∷ 0x33 ∷ 0x20 ∷ 0x30 ∷ []) ≡ false
+unfolding sheet.parted decimals.decimalIn
+five-numbers = refl
+
+-- `0 0 4294967296 3 0 49`
+entry-wide-msgno : isEntry (0x30 ∷ 0x20 ∷ 0x30 ∷ 0x20 ∷ 0x34 ∷ 0x32 ∷ 0x39 ∷ 0x34 ∷ 0x39 ∷ 0x36 ∷ 0x37 ∷ 0x32 ∷ 0x39 ∷ 0x36 ∷ 0x20 ∷ 0x33 ∷ 0x20 ∷ 0x30 ∷ 0x20 ∷ 0x34 ∷ 0x39 ∷ []) ≡ false
+unfolding sheet.parted decimals.decimalIn
+entry-wide-msgno = refl
+
+-- `0 4294967296 0 3 0 49`
+entry-wide-id : isEntry (0x30 ∷ 0x20 ∷ 0x34 ∷ 0x32 ∷ 0x39 ∷ 0x34 ∷ 0x39 ∷ 0x36 ∷ 0x37 ∷ 0x32 ∷ 0x39 ∷ 0x36 ∷ 0x20 ∷ 0x30 ∷ 0x20 ∷ 0x33 ∷ 0x20 ∷ 0x30 ∷ 0x20 ∷ 0x34 ∷ 0x39 ∷ []) ≡ true
+unfolding sheet.parted decimals.decimalIn
+entry-wide-id = refl
+
+-- `1,2,3,4,5`
+lengths-of-a-contact : lengthsFor CONTACT (0x31 ∷ 0x2C ∷ 0x32 ∷ 0x2C ∷ 0x33 ∷ 0x2C ∷ 0x34 ∷ 0x2C ∷ 0x35 ∷ []) ≡ true
+unfolding sheet.parted decimals.decimalIn
+lengths-of-a-contact = refl
+
+-- `1,2,3,4,5`
+lengths-of-a-device : lengthsFor DEVICE (0x31 ∷ 0x2C ∷ 0x32 ∷ 0x2C ∷ 0x33 ∷ 0x2C ∷ 0x34 ∷ 0x2C ∷ 0x35 ∷ []) ≡ false
+unfolding sheet.parted decimals.decimalIn
+lengths-of-a-device = refl
+
+-- `-`
+no-lengths : lengthsFor DEVICE (0x2D ∷ []) ≡ true
+unfolding sheet.parted decimals.decimalIn
+no-lengths = refl
+
+-- `-`
+no-lengths-of-a-contact : lengthsFor CONTACT (0x2D ∷ []) ≡ false
+unfolding sheet.parted decimals.decimalIn
+no-lengths-of-a-contact = refl
+
+-- `-`
+unknown-kind : lengthsFor 4 (0x2D ∷ []) ≡ false
+unfolding sheet.parted decimals.decimalIn
+unknown-kind = refl

@@ -1,5 +1,6 @@
 -- A line of a script of calls, on its bytes: words with a space between them, the first a command's name.
 -- Behind the name stand decimals, first those of 32 bits and then those of 64, and then other words: hexadecimal, and the lent lengths of a read.
+-- The lines behind a `rawrestore` are of decimals alone.
 -- Assumes nothing.
 use Prim.Native.Nat.{ℕ, zero, suc, _+_}
 use mathlib.Core.List.{List, [], _∷_}
@@ -7,7 +8,9 @@ use mathlib.Core.Bool.{Bool, true, false, cond, _&&_}
 use mathlib.Core.Option.{Option, none, some}
 use lib.ListN.{length, getD}
 use lib.Dec.{eqb, leb}
-use Rattle.cases.specs.Text.{SPACE}
+use Rattle.line.specs.Line.{COMMA}
+use Rattle.store.specs.Kinds.{CONTACT, COURIER}
+use Rattle.cases.specs.Text.{SPACE, dashOf}
 use Rattle.sheet.specs.Decimal.{decimalIn}
 use Rattle.sheet.specs.Sheet.{parted, U32, U64}
 
@@ -137,13 +140,13 @@ isSome (some n) = true
 abbrev pub highestAt : (narrow i : ℕ) → ℕ
 highestAt narrow i = cond (leb i narrow) U32 U64
 
-abbrev pub isDecimalAt : (narrow i : ℕ) → List (List ℕ) → Bool
-isDecimalAt narrow i words = isSome (decimalIn (highestAt narrow i) (getD words i []))
+abbrev pub isDecimalAt : (highest i : ℕ) → List (List ℕ) → Bool
+isDecimalAt highest i words = isSome (decimalIn highest (getD words i []))
 
 -- whether the words from the i-th on, so many, are decimals
 unfoldable pub decimalsFrom : (narrow i count : ℕ) → List (List ℕ) → Bool
 decimalsFrom narrow i zero words = true
-decimalsFrom narrow i (suc count) words = isDecimalAt narrow i words && decimalsFrom narrow (suc i) count words
+decimalsFrom narrow i (suc count) words = isDecimalAt (highestAt narrow i) i words && decimalsFrom narrow (suc i) count words
 
 -- the command with this code, if the line has its words
 abbrev pub commandAs : (code : ℕ) → (words : List (List ℕ)) → ℕ
@@ -152,16 +155,39 @@ commandAs code words =
     code
     UNKNOWN
 
-abbrev pub wordAt : (i : ℕ) → List ℕ → List ℕ
-wordAt i line = getD (parted SPACE line) i []
+-- the i-th of the words between these marks, counted from 0
+abbrev pub wordAt : (mark i : ℕ) → List ℕ → List ℕ
+wordAt mark i text = getD (parted mark text) i []
 
 abbrev pub commandOf : List ℕ → ℕ
-commandOf line = commandAs (codeOf (wordAt 0 line)) (parted SPACE line)
+commandOf line = commandAs (codeOf (wordAt SPACE 0 line)) (parted SPACE line)
 
 -- what a word says, 0 where it is no number
 abbrev pub numberOr0 : Option ℕ → ℕ
 numberOr0 none = 0
 numberOr0 (some n) = n
 
-abbrev pub numberAt : (i : ℕ) → List ℕ → ℕ
-numberAt i line = numberOr0 (decimalIn U64 (wordAt i line))
+abbrev pub numberAt : (mark i : ℕ) → List ℕ → ℕ
+numberAt mark i text = numberOr0 (decimalIn U64 (wordAt mark i text))
+
+-- ---- other lines and words
+-- whether the words from the i-th on are decimals, each up to its number
+abbrev pub upToFrom : (i : ℕ) → (highest : List ℕ) → List (List ℕ) → Bool
+upToFrom i [] words = true
+upToFrom i (h ∷ hs) words = isDecimalAt h i words && upToFrom (suc i) hs words
+
+-- whether there are as many words as numbers, each a decimal up to its number
+abbrev pub decimalsUpTo : (highest : List ℕ) → List (List ℕ) → Bool
+decimalsUpTo highest words = eqb (length words) (length highest) && upToFrom 0 highest words
+
+-- an entry behind `rawrestore`: kind, id, msgno, version, start, length
+abbrev pub isEntry : List ℕ → Bool
+isEntry line = decimalsUpTo (U32 ∷ U64 ∷ U32 ∷ U32 ∷ U64 ∷ U64 ∷ []) (parted SPACE line)
+
+-- the lengths of chains, skipped keys, pairs above, unacked numbers and expired pairs, in a `read`
+abbrev pub areLengths : List ℕ → Bool
+areLengths word = decimalsUpTo (U64 ∷ U64 ∷ U64 ∷ U64 ∷ U64 ∷ []) (parted COMMA word)
+
+-- the lent lengths of a `read` of this kind: of a contact five, of another row `-`
+abbrev pub lengthsFor : (kind : ℕ) → (word : List ℕ) → Bool
+lengthsFor kind word = cond (eqb kind CONTACT) (areLengths word) (leb kind COURIER && dashOf word)

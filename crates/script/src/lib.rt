@@ -1,5 +1,6 @@
 // A line of a script of calls: words with a space between them, a command's name and behind it its numbers, and for some commands other words.
-// A line that is no command is `UNKNOWN`. Hexadecimal is read by `cases::bytes` and written here.
+// A line that is no command is `UNKNOWN`. Behind `rawrestore` stand lines of six decimals, and the lent lengths of `read` are five with commas.
+// Hexadecimal is read by `cases::bytes` and written here.
 use layout::question;
 use rows::Written;
 ghost use mathlib.Core.Path.{_≡_};
@@ -16,7 +17,8 @@ ghost use Rattle.sheet.specs.Decimal.{decimalIn};
 ghost use Rattle.sheet.specs.Sheet.{parted};
 ghost use Rattle.sheet.proofs.Decimal.{goesOn};
 ghost use Rattle.cases.specs.Text.{SPACE, before, behind};
-ghost use Rattle.script.specs.Script.{same, codeOf, narrowOf, wideOf, othersOf, highestAt, isDecimalAt, decimalsFrom, wordAt, commandOf, numberAt};
+ghost use Rattle.line.specs.Line.{COMMA};
+ghost use Rattle.script.specs.Script.{same, codeOf, narrowOf, wideOf, othersOf, highestAt, isDecimalAt, decimalsFrom, wordAt, commandOf, numberAt, isEntry, areLengths, lengthsFor};
 ghost use Rattle.script.specs.Says.{decimalSays};
 ghost use Rattle.script.specs.Hex.{hexDigit, pairsOf, hexOf};
 
@@ -173,61 +175,63 @@ fn code_of(word: &[u8]) -> u8
     UNKNOWN
 }
 
-// ---- words
+// ---- words: what stands before, between and behind the marks, which are spaces or commas
 
-fn is_space(b: u8) -> usize
-    ensures { λ r. ⌜ (r ≡ cond (eqb b SPACE) 1 0) × (r ≤ 1) ⌝ }
+fn is_mark(b: u8, mark: u8) -> usize
+    ensures { λ r. ⌜ (r ≡ cond (eqb b mark) 1 0) × (r ≤ 1) ⌝ }
 {
-    if b == b' ' {
+    if b == mark {
         return 1;
     }
     0
 }
 
-// How many spaces a line has: one less than words.
-fn spaces(line: &[u8]) -> usize
-    ensures { λ r. ⌜ suc r ≡ length (parted SPACE (now (line .entry))) ⌝ }
+// How many marks a text has: one less than words.
+fn marks(text: &[u8], mark: u8) -> usize
+    ensures { λ r. ⌜ suc r ≡ length (parted mark (now (text .entry))) ⌝ }
 {
     let mut n: usize = 0;
     let mut i = 0;
-    while i < line.len() {
-        n += is_space(line[i]);
+    while i < text.len() {
+        n += is_mark(text[i], mark);
         i += 1;
     }
     n
 }
 
-// Where the next word starts, the line's end where there is none.
-fn next_word(line: &[u8], at: usize) -> usize
-    requires { ⌜ at ≤ length (now line) ⌝ }
-    ensures { λ r. ⌜ (r ≤ length (now (line .entry))) × (drop r (now (line .entry)) ≡ behind SPACE (drop at (now (line .entry)))) ⌝ }
+// Where the next word starts, the text's end where there is none.
+fn next_word(text: &[u8], mark: u8, at: usize) -> usize
+    requires { ⌜ at ≤ length (now text) ⌝ }
+    ensures { λ r. ⌜ (r ≤ length (now (text .entry))) × (drop r (now (text .entry)) ≡ behind mark (drop at (now (text .entry)))) ⌝ }
 {
-    let rest = &line[at..];
-    let n = cases::until(rest, b' ');
+    let rest = &text[at..];
+    let n = cases::until(rest, mark);
     if n < rest.len() {
         return at + n + 1;
     }
-    line.len()
+    text.len()
 }
 
-fn start_of(line: &[u8], i: usize) -> usize
-    ensures { λ r. ⌜ (r ≤ length (now (line .entry))) × (wordAt i (now (line .entry)) ≡ before SPACE (drop r (now (line .entry)))) ⌝ }
+fn start_of(text: &[u8], mark: u8, i: usize) -> usize
+    ensures { λ r. ⌜ (r ≤ length (now (text .entry))) × (wordAt mark i (now (text .entry)) ≡ before mark (drop r (now (text .entry)))) ⌝ }
 {
     let mut at = 0;
     let mut left = i;
     while 0 < left {
-        at = next_word(line, at);
+        at = next_word(text, mark, at);
         left -= 1;
     }
     at
 }
 
-// The i-th word, counted from the name; empty where there are fewer.
-pub fn word(line: &[u8], i: usize) -> &[u8]
-    ensures { λ r. ⌜ now r ≡ wordAt i (now (line .entry)) ⌝ }
+// The i-th word, counted from 0; empty where there are fewer.
+pub fn word(text: &[u8], mark: u8, i: usize) -> &[u8]
+    ensures { λ r. ⌜ now r ≡ wordAt mark i (now (text .entry)) ⌝ }
 {
-    let at = start_of(line, i);
-    cases::field(&line[at..])
+    let at = start_of(text, mark, i);
+    let rest = &text[at..];
+    let n = cases::until(rest, mark);
+    &rest[0..n]
 }
 
 // ---- decimals
@@ -291,30 +295,19 @@ pub fn decimal(text: &[u8], highest: u64) -> Said
 }
 
 // The number that the i-th word says, 0 where it is none.
-pub fn number(line: &[u8], i: usize) -> u64
-    ensures { λ r. ⌜ r ≡ numberAt i (now (line .entry)) ⌝ }
+pub fn number(text: &[u8], mark: u8, i: usize) -> u64
+    ensures { λ r. ⌜ r ≡ numberAt mark i (now (text .entry)) ⌝ }
 {
-    let Said::Number(n) = decimal(word(line, i), U64) else {
+    let Said::Number(n) = decimal(word(text, mark, i), U64) else {
         return 0;
     };
     n
 }
 
-// ---- a line
-
-fn highest(narrow: usize, i: usize) -> u64
-    ensures { λ r. ⌜ r ≡ highestAt narrow i ⌝ }
+fn is_decimal_at(text: &[u8], mark: u8, i: usize, highest: u64) -> bool
+    ensures { λ r. ⌜ r ≡ isDecimalAt highest i (parted mark (now (text .entry))) ⌝ }
 {
-    if i <= narrow {
-        return U32;
-    }
-    U64
-}
-
-fn is_decimal_at(line: &[u8], narrow: usize, i: usize) -> bool
-    ensures { λ r. ⌜ r ≡ isDecimalAt narrow i (parted SPACE (now (line .entry))) ⌝ }
-{
-    let Said::Number(_) = decimal(word(line, i), highest(narrow, i)) else {
+    let Said::Number(_) = decimal(word(text, mark, i), highest) else {
         return false;
     };
     true
@@ -326,6 +319,17 @@ fn both(a: bool, b: bool) -> bool
     if a { b } else { false }
 }
 
+// ---- a line that is a command
+
+fn highest(narrow: usize, i: usize) -> u64
+    ensures { λ r. ⌜ r ≡ highestAt narrow i ⌝ }
+{
+    if i <= narrow {
+        return U32;
+    }
+    U64
+}
+
 fn are_decimals(line: &[u8], narrow: usize, count: usize) -> bool
     requires { ⌜ count ≤ 510 ⌝ }
     ensures { λ r. ⌜ r ≡ decimalsFrom narrow 1 count (parted SPACE (now (line .entry))) ⌝ }
@@ -334,7 +338,7 @@ fn are_decimals(line: &[u8], narrow: usize, count: usize) -> bool
     let mut i = 1;
     let mut left = count;
     while 0 < left {
-        right = both(right, is_decimal_at(line, narrow, i));
+        right = both(right, is_decimal_at(line, b' ', i, highest(narrow, i)));
         i += 1;
         left -= 1;
     }
@@ -345,16 +349,62 @@ fn are_decimals(line: &[u8], narrow: usize, count: usize) -> bool
 pub fn command(line: &[u8]) -> u8
     ensures { λ r. ⌜ r ≡ commandOf (now (line .entry)) ⌝ }
 {
-    let code = code_of(word(line, 0));
+    let code = code_of(word(line, b' ', 0));
     let narrow = narrow_of(code);
     let count = narrow + wide_of(code);
-    if spaces(line) == count + others_of(code) {
+    if marks(line, b' ') == count + others_of(code) {
         if are_decimals(line, narrow, count) {
             return code;
         }
         return UNKNOWN;
     }
     UNKNOWN
+}
+
+// ---- other lines and words
+
+// Whether a line behind `rawrestore` is an entry: kind, id, msgno, version, start, length.
+pub fn is_entry(line: &[u8]) -> bool
+    ensures { λ r. ⌜ r ≡ isEntry (now (line .entry)) ⌝ }
+{
+    if marks(line, b' ') != 5 {
+        return false;
+    }
+    let kind = is_decimal_at(line, b' ', 0, U32);
+    let id = is_decimal_at(line, b' ', 1, U64);
+    let msgno = is_decimal_at(line, b' ', 2, U32);
+    let version = is_decimal_at(line, b' ', 3, U32);
+    let start = is_decimal_at(line, b' ', 4, U64);
+    let len = is_decimal_at(line, b' ', 5, U64);
+    both(kind, both(id, both(msgno, both(version, both(start, len)))))
+}
+
+// Whether a word is five lengths with commas.
+fn are_lengths(word: &[u8]) -> bool
+    ensures { λ r. ⌜ r ≡ areLengths (now (word .entry)) ⌝ }
+{
+    if marks(word, b',') != 4 {
+        return false;
+    }
+    let chains = is_decimal_at(word, b',', 0, U64);
+    let skipped = is_decimal_at(word, b',', 1, U64);
+    let above = is_decimal_at(word, b',', 2, U64);
+    let unacked = is_decimal_at(word, b',', 3, U64);
+    let expired = is_decimal_at(word, b',', 4, U64);
+    both(chains, both(skipped, both(above, both(unacked, expired))))
+}
+
+// Whether a word is the lent lengths of a `read` of this kind: of a contact five, of another row `-`.
+pub fn lengths_for(kind: u64, word: &[u8]) -> bool
+    ensures { λ r. ⌜ r ≡ lengthsFor kind (now (word .entry)) ⌝ }
+{
+    if kind == store::CONTACT as u64 {
+        return are_lengths(word);
+    }
+    if kind <= store::COURIER as u64 {
+        return cases::is_dash(word);
+    }
+    false
 }
 
 // ---- hexadecimal
@@ -381,17 +431,18 @@ fn digit_at(bytes: &[u8], i: usize) -> u8
     hex_digit(b % 16)
 }
 
-fn put_pairs(bytes: &[u8], out: &mut [u8]) -> usize
-    requires { ⌜ 2 * length (now bytes) ≤ length (now out) ⌝ }
-    ensures { λ r. ⌜ Wrote (now (out .entry)) 0 (pairsOf (now (bytes .entry))) (now (out .exit)) r ⌝ }
+// Writes the digits from a position on, and answers the position behind them. A part of writers, which see to the room.
+pub fn put_pairs(out: &mut [u8], at: usize, bytes: &[u8]) -> usize
+    requires { ⌜ at + 2 * length (now bytes) ≤ length (now out) ⌝ }
+    ensures { λ r. ⌜ (r ≡ at + 2 * length (now (bytes .entry))) × Wrote (now (out .entry)) at (pairsOf (now (bytes .entry))) (now (out .exit)) r ⌝ }
 {
     let n = 2 * bytes.len();
     let mut i = 0;
     while i < n {
-        out[i] = digit_at(bytes, i);
+        out[at + i] = digit_at(bytes, i);
         i += 1;
     }
-    i
+    at + n
 }
 
 // Writes the bytes' text to the front of the output, if there is room.
@@ -408,5 +459,5 @@ pub fn hex(bytes: &[u8], out: &mut [u8]) -> Written
     if out.len() / 2 < bytes.len() {
         return Written::Refused(question::OUTPUT);
     }
-    Written::Length(put_pairs(bytes, out))
+    Written::Length(put_pairs(out, 0, bytes))
 }

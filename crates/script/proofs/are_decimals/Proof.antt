@@ -21,6 +21,9 @@ abbrev μ-loop : tie.MeasureT-loop
 loop-holds : tie.Need-loop-holds Inv-loop μ-loop
 loop-holds c = (omega arith, refl)
 
+highest-requires : tie.Need-highest-requires Inv-loop μ-loop
+highest-requires c κs = search needs
+
 is-decimal-at-requires : tie.Need-is-decimal-at-requires Inv-loop μ-loop
 is-decimal-at-requires c κs = search needs
 
@@ -38,8 +41,9 @@ loop-less c = search needs
 
 loop-again : tie.Need-loop-again Inv-loop μ-loop
 loop-again c =
-    let l = c .before .before .before in
-    (omega arith, rw (c .both .ensures, c .before .is-decimal-at .ensures) (one-decimal _ (l .loop .i) _ (l .loop .right) (l .loop .left) (omega arith) ∙ l .loop .inv .1))
+    let h = c .before .before in
+    let l = h .before .before in
+    (omega arith, rw (c .both .ensures, c .before .is-decimal-at .ensures, h .highest .ensures) (one-decimal _ (l .loop .i) _ (l .loop .right) (l .loop .left) (omega arith) ∙ l .loop .inv .1))
 
 returns : tie.Need-returns Inv-loop μ-loop
 returns c =
@@ -53,6 +57,7 @@ are-decimals-spec =
     Inv-loop
     μ-loop
     loop-holds
+    highest-requires
     is-decimal-at-requires
     both-requires
     add-i

@@ -24,8 +24,8 @@ wide-of-requires c κs = search needs
 add-count : tie.Need-add-count
 add-count c = search needs
 
-spaces-requires : tie.Need-spaces-requires
-spaces-requires c κs = search needs
+marks-requires : tie.Need-marks-requires
+marks-requires c κs = search needs
 
 others-of-requires : tie.Need-others-of-requires
 others-of-requires c κs = search needs
@@ -45,7 +45,7 @@ returns c =
     let k = n .before in
     let e = sym (k .code-of .ensures ∙ ap codeOf (k .before .word .ensures)) in
     let d = c .before in
-    rw e (sym (counted (k .code-of .result) (n .narrow-of .result) (w .wide-of .result) (o .others-of .result) (s .spaces .result) (parted SPACE (k .before .before .before .args .line .now)) (n .narrow-of .ensures .0) (w .wide-of .ensures .0) (o .others-of .ensures .0) (s .spaces .ensures) (d .before .if1 .taken) (d .are-decimals .result) (d .are-decimals .ensures) ∙ rw (c .if2 .taken)))
+    rw e (sym (counted (k .code-of .result) (n .narrow-of .result) (w .wide-of .result) (o .others-of .result) (s .marks .result) (parted SPACE (k .before .before .before .args .line .now)) (n .narrow-of .ensures .0) (w .wide-of .ensures .0) (o .others-of .ensures .0) (s .marks .ensures) (d .before .if1 .taken) (d .are-decimals .result) (d .are-decimals .ensures) ∙ rw (c .if2 .taken)))
 
 returns-2 : tie.Need-returns-2
 returns-2 c =
@@ -56,7 +56,7 @@ returns-2 c =
     let k = n .before in
     let e = sym (k .code-of .ensures ∙ ap codeOf (k .before .word .ensures)) in
     let d = c .before in
-    rw e (sym (counted (k .code-of .result) (n .narrow-of .result) (w .wide-of .result) (o .others-of .result) (s .spaces .result) (parted SPACE (k .before .before .before .args .line .now)) (n .narrow-of .ensures .0) (w .wide-of .ensures .0) (o .others-of .ensures .0) (s .spaces .ensures) (d .before .if1 .taken) (d .are-decimals .result) (d .are-decimals .ensures) ∙ rw (c .if2 .left)))
+    rw e (sym (counted (k .code-of .result) (n .narrow-of .result) (w .wide-of .result) (o .others-of .result) (s .marks .result) (parted SPACE (k .before .before .before .args .line .now)) (n .narrow-of .ensures .0) (w .wide-of .ensures .0) (o .others-of .ensures .0) (s .marks .ensures) (d .before .if1 .taken) (d .are-decimals .result) (d .are-decimals .ensures) ∙ rw (c .if2 .left)))
 
 returns-3 : tie.Need-returns-3
 returns-3 c =
@@ -66,7 +66,7 @@ returns-3 c =
     let n = w .before in
     let k = n .before in
     let e = sym (k .code-of .ensures ∙ ap codeOf (k .before .word .ensures)) in
-    rw e (sym (miscounted (k .code-of .result) (n .narrow-of .result) (w .wide-of .result) (o .others-of .result) (s .spaces .result) (parted SPACE (k .before .before .before .args .line .now)) (n .narrow-of .ensures .0) (w .wide-of .ensures .0) (o .others-of .ensures .0) (s .spaces .ensures) (c .if1 .left)))
+    rw e (sym (miscounted (k .code-of .result) (n .narrow-of .result) (w .wide-of .result) (o .others-of .result) (s .marks .result) (parted SPACE (k .before .before .before .args .line .now)) (n .narrow-of .ensures .0) (w .wide-of .ensures .0) (o .others-of .ensures .0) (s .marks .ensures) (c .if1 .left)))
 
 pub command-spec : {M : Type 1} → statement M
 command-spec =
@@ -77,7 +77,7 @@ command-spec =
     narrow-of-requires
     wide-of-requires
     add-count
-    spaces-requires
+    marks-requires
     others-of-requires
     add-if1
     are-decimals-requires

@@ -52,9 +52,9 @@ returns-4 : tie.Need-returns-4
 returns-4 c =
     let call = c .before .before in
     let a = call .before .before .before .before .before .before .args in
-    let e : call .put-pairs .result ≡ length (pairsOf (a .bytes .now)) = omega (arith, call .put-pairs .ensures .next-is) in
+    let e : call .put-pairs .result ≡ length (pairsOf (a .bytes .now)) = omega (arith, call .put-pairs .ensures .1 .next-is) in
     let room : length (pairsOf (a .bytes .now)) ≤ length (a .out .now) = omega (arith, length-pairs (a .bytes .now)) in
-    rw (ne-eqb _ 0 (call .before .before .before .if1 .left), stored-row (pairsOf (a .bytes .now)) (a .out .now) room, e, call .put-pairs .ensures .now-is, put-front (a .out .now) (pairsOf (a .bytes .now)) room)
+    rw (ne-eqb _ 0 (call .before .before .before .if1 .left), stored-row (pairsOf (a .bytes .now)) (a .out .now) room, e, call .put-pairs .ensures .1 .now-is, put-front (a .out .now) (pairsOf (a .bytes .now)) room)
 
 pub hex-spec : {M : Type 1} → statement M
 hex-spec =

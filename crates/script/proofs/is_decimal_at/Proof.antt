@@ -11,9 +11,6 @@ use Rattle.script.proofs.is_decimal_at.Tie as tie
 word-requires : tie.Need-word-requires
 word-requires c κs = search needs
 
-highest-requires : tie.Need-highest-requires
-highest-requires c κs = search needs
-
 decimal-requires : tie.Need-decimal-requires
 decimal-requires c κs = search needs
 
@@ -26,21 +23,18 @@ enum-told-2 c = search needs
 returns : tie.Need-returns
 returns c =
     let d = c .before .before in
-    let h = d .before in
-    sym (rw (h .highest .ensures) at (ap isSome (said _ (h .before .word .ensures) (d .decimal .ensures) (ap decimalSays (c .enum-told2 .given .1)))))
+    sym (ap isSome (said _ (d .before .word .ensures) (d .decimal .ensures) (ap decimalSays (c .enum-told2 .given .1))))
 
 returns-2 : tie.Need-returns-2
 returns-2 c =
     let d = c .before .before in
-    let h = d .before in
-    sym (rw (h .highest .ensures) at (ap isSome (said _ (h .before .word .ensures) (d .decimal .ensures) (ap decimalSays (c .enum-told .given .1)))))
+    sym (ap isSome (said _ (d .before .word .ensures) (d .decimal .ensures) (ap decimalSays (c .enum-told .given .1))))
 
 pub is-decimal-at-spec : {M : Type 1} → statement M
 is-decimal-at-spec =
     tie.close
     (tie.spec
     word-requires
-    highest-requires
     decimal-requires
     enum-told
     enum-told-2

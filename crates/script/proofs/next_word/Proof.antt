@@ -1,6 +1,5 @@
--- `script::next_word` meets its contract: the place behind the next space, or the end.
+-- `script::next_word` meets its contract: the place behind the next mark, or the end.
 -- Assumes nothing.
-use Rattle.cases.specs.Text.{SPACE}
 use Rattle.script.proofs.Words.{behind-space, no-space}
 use borrow.Author.Needs.{needs}
 use Rattle.script.proofs.next_word.Statement.{statement}
@@ -27,12 +26,12 @@ add-result-2 c = search needs
 returns : tie.Need-returns
 returns c =
     let a = c .before .before .before .before .args in
-    (search needs, behind-space SPACE (a .line .now) (a .at) (c .before .until .result) (c .before .until .ensures .0))
+    (search needs, behind-space (a .mark) (a .text .now) (a .at) (c .before .until .result) (c .before .until .ensures .0))
 
 returns-2 : tie.Need-returns-2
 returns-2 c =
     let a = c .before .before .before .before .args in
-    (search needs, no-space SPACE (a .line .now) (a .at) (c .before .until .result) (c .before .until .ensures .0) (c .if1 .left))
+    (search needs, no-space (a .mark) (a .text .now) (a .at) (c .before .until .result) (c .before .until .ensures .0) (c .if1 .left))
 
 pub next-word-spec : {M : Type 1} → statement M
 next-word-spec =

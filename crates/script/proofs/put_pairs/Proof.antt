@@ -1,9 +1,8 @@
 -- `script::put_pairs` meets its contract: its loop stores the text byte by byte (`bytes-start`, `bytes-turn`, `bytes-end`). The measure is what is left.
 -- Assumes nothing.
-use Prim.Native.Nat.{_+_, _-_, _≤_, _<_}
-use mathlib.Core.Path.{sym}
+use Prim.Native.Nat.{_+_, _-_, _*_, _≤_, _<_}
+use mathlib.Core.Path.{_≡_, sym}
 use native.Mathlib.Omega.{arith}
-use native.Mathlib.Nat.{zero-add}
 use lib.ListN.{length, drop}
 use Rattle.put.proofs.Put.{Writing, bytes-start, bytes-turn, bytes-end}
 use Rattle.script.specs.Hex.{pairsOf}
@@ -13,10 +12,10 @@ use Rattle.script.proofs.put_pairs.Statement.{statement}
 use Rattle.script.proofs.put_pairs.Tie as tie
 
 abbrev Inv-loop : tie.InvT-loop
-Inv-loop bytes out₀ n i₀ out i = (i ≤ n) × Writing out₀ 0 (pairsOf bytes) out (0 + i) (drop i (pairsOf bytes))
+Inv-loop out₀ at bytes n i₀ out i = (i ≤ n) × Writing out₀ at (pairsOf bytes) out (at + i) (drop i (pairsOf bytes))
 
 abbrev μ-loop : tie.MeasureT-loop
-μ-loop bytes out₀ n i₀ out i = n - i
+μ-loop out₀ at bytes n i₀ out i = n - i
 
 mul-n : tie.Need-mul-n Inv-loop μ-loop
 mul-n c = search needs
@@ -26,6 +25,9 @@ loop-holds c = (search needs, bytes-start _ _ _)
 
 digit-at-requires : tie.Need-digit-at-requires Inv-loop μ-loop
 digit-at-requires c κs = search needs
+
+add-out : tie.Need-add-out Inv-loop μ-loop
+add-out c = search needs
 
 slice-write-out : tie.Need-slice-write-out Inv-loop μ-loop
 slice-write-out c = search needs
@@ -41,7 +43,10 @@ loop-again c =
     let l = c .before .before in
     let bytes = l .before .before .before .args .bytes .now in
     let h : l .loop .i < length (pairsOf bytes) = omega (arith, length-pairs bytes) in
-    (omega arith, rw (zero-add (l .loop .i)) at (bytes-turn _ 0 _ (l .loop .i) h (sym (c .digit-at .ensures)) (l .loop .inv .1)))
+    (omega arith, bytes-turn _ _ _ (l .loop .i) h (sym (c .digit-at .ensures)) (l .loop .inv .1))
+
+add-result : tie.Need-add-result Inv-loop μ-loop
+add-result c = search needs
 
 same-length : tie.Need-same-length Inv-loop μ-loop
 same-length c = search needs
@@ -50,7 +55,8 @@ returns : tie.Need-returns Inv-loop μ-loop
 returns c =
     let l = c .before in
     let bytes = l .before .before .before .args .bytes .now in
-    rw zero-add at (bytes-end _ 0 _ (l .loop .i) (omega (arith, length-pairs bytes)) (l .loop .inv .1))
+    let e : l .loop .i ≡ 2 * length bytes = omega arith in
+    (search needs, bytes-end _ _ _ (2 * length bytes) (length-pairs bytes) (rw e at (l .loop .inv .1)))
 
 pub put-pairs-spec : {M : Type 1} → statement M
 put-pairs-spec =
@@ -61,9 +67,11 @@ put-pairs-spec =
     mul-n
     loop-holds
     digit-at-requires
+    add-out
     slice-write-out
     add-i
     loop-less
     loop-again
+    add-result
     same-length
     returns)

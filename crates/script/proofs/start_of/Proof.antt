@@ -5,7 +5,6 @@ use mathlib.Core.List.{[]}
 use mathlib.Core.Path.{_≡_, _∙_}
 use native.Mathlib.Omega.{arith}
 use lib.ListN.{length, getD, drop}
-use Rattle.cases.specs.Text.{SPACE}
 use Rattle.sheet.specs.Sheet.{parted}
 use Rattle.script.proofs.Words.{first-word, next-left}
 use borrow.Author.Needs.{needs}
@@ -13,10 +12,10 @@ use Rattle.script.proofs.start_of.Statement.{statement}
 use Rattle.script.proofs.start_of.Tie as tie
 
 abbrev Inv-loop : tie.InvT-loop
-Inv-loop line i at₀ left₀ at left = (at ≤ length line) × (getD (parted SPACE line) i [] ≡ getD (parted SPACE (drop at line)) left [])
+Inv-loop text mark i at₀ left₀ at left = (at ≤ length text) × (getD (parted mark text) i [] ≡ getD (parted mark (drop at text)) left [])
 
 abbrev μ-loop : tie.MeasureT-loop
-μ-loop line i at₀ left₀ at left = left
+μ-loop text mark i at₀ left₀ at left = left
 
 loop-holds : tie.Need-loop-holds Inv-loop μ-loop
 loop-holds c = search needs
@@ -33,15 +32,15 @@ loop-less c = search needs
 loop-again : tie.Need-loop-again Inv-loop μ-loop
 loop-again c =
     let l = c .before .before in
-    let t = l .before .before .args .line .now in
-    (c .next-word .ensures .0, l .loop .inv .1 ∙ next-left SPACE (drop (l .loop .at) t) (l .loop .left) (omega arith) ∙ rw (c .next-word .ensures .1))
+    let a = l .before .before .args in
+    (c .next-word .ensures .0, l .loop .inv .1 ∙ next-left (a .mark) (drop (l .loop .at) (a .text .now)) (l .loop .left) (omega arith) ∙ rw (c .next-word .ensures .1))
 
 returns : tie.Need-returns Inv-loop μ-loop
 returns c =
     let l = c .before in
-    let t = l .before .before .args .line .now in
+    let a = l .before .before .args in
     let none : l .loop .left ≡ 0 = omega arith in
-    (l .loop .inv .0, l .loop .inv .1 ∙ rw none (first-word SPACE (drop (l .loop .at) t)))
+    (l .loop .inv .0, l .loop .inv .1 ∙ rw none (first-word (a .mark) (drop (l .loop .at) (a .text .now))))
 
 pub start-of-spec : {M : Type 1} → statement M
 start-of-spec =
