@@ -1,5 +1,5 @@
 mod Words
 mod Numbers
-mod Pairs
+pub mod Pairs
 mod Samples
 pub mod ReadBack

@@ -17,7 +17,6 @@ ghost use Rattle.sheet.specs.Decimal.{decimalIn};
 ghost use Rattle.sheet.specs.Sheet.{parted};
 ghost use Rattle.sheet.proofs.Decimal.{goesOn};
 ghost use Rattle.cases.specs.Text.{SPACE, before, behind};
-ghost use Rattle.line.specs.Line.{COMMA};
 ghost use Rattle.script.specs.Script.{same, codeOf, narrowOf, wideOf, othersOf, highestAt, isDecimalAt, decimalsFrom, wordAt, commandOf, numberAt, isEntry, areLengths, lengthsFor};
 ghost use Rattle.script.specs.Says.{decimalSays};
 ghost use Rattle.script.specs.Hex.{hexDigit, pairsOf, hexOf};
