@@ -29,7 +29,7 @@ isAmong k numbers e = isOf QUEUED k e && any (eqb (e .msgno)) numbers
 abbrev pub queuedAmong : (contact : ℕ) → (numbers : List ℕ) → List Entry → Bool
 queuedAmong k numbers = any (isAmong k numbers)
 
--- what a search by halves finds of the numbers from low on and below high: it looks at the middle one, then in one half. Each look takes one of the fuel
+-- what a search by halves finds of the numbers from low on and below high: it looks at the middle one, then in one half. The fuel is how often it may look
 unfoldable pub foundIn : (fuel : ℕ) → (numbers : List ℕ) → (msgno low high : ℕ) → Bool
 foundIn zero numbers m low high = false
 foundIn (suc fuel) numbers m low high =
@@ -39,7 +39,7 @@ foundIn (suc fuel) numbers m low high =
     (cond (ltb (getD numbers mid 0) m) (foundIn fuel numbers m (mid + 1) high) (foundIn fuel numbers m low mid)))
     false
 
--- ... of all of them
+-- ... of all of them: once for each is often enough
 abbrev pub isFound : (numbers : List ℕ) → (msgno : ℕ) → Bool
 isFound numbers m = foundIn (length numbers) numbers m 0 (length numbers)
 
