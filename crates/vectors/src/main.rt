@@ -3,13 +3,20 @@
 use card::Card;
 use cases::Number;
 use data::Leb128Field;
+use fields::U32Field;
+use fields::U64Field;
+use ledger::Mark;
 use libc::STDIN_FILENO;
 use libc::STDOUT_FILENO;
+use restore::Restored;
 use rows::Verdict;
 use rows::Written;
+use store::Entry;
+use table::ENTRIES;
 ghost use mathlib.Core.Path.{_≡_};
-ghost use Prim.Native.Nat.{_+_, min};
+ghost use Prim.Native.Nat.{_+_, _*_, _≤_, min};
 ghost use lib.ListN.{length};
+ghost use Rattle.table.specs.Table.{ENTRIES};
 
 // How many cases of a letter there were, and how many of them came out different.
 struct Tally {
@@ -17,7 +24,7 @@ struct Tally {
     different: u64,
 }
 
-// One for each letter: L, W, N, C, D, Q, K, P.
+// One for each letter: L, W, N, C, D, Q, K, P, S.
 struct Tallies {
     read: Tally,
     written: Tally,
@@ -27,6 +34,7 @@ struct Tallies {
     queued: Tally,
     courier: Tally,
     contacts: Tally,
+    stores: Tally,
 }
 
 impl Tally {
@@ -71,6 +79,7 @@ impl Tallies {
             queued: Tally::new(),
             courier: Tally::new(),
             contacts: Tally::new(),
+            stores: Tally::new(),
         }
     }
 
@@ -85,6 +94,7 @@ impl Tallies {
             b'Q' => self.queued = self.queued.with(same),
             b'K' => self.courier = self.courier.with(same),
             b'P' => self.contacts = self.contacts.with(same),
+            b'S' => self.stores = self.stores.with(same),
             _ => {}
         }
         self
@@ -99,6 +109,7 @@ impl Tallies {
         self.queued.print(b'Q');
         self.courier.print(b'K');
         self.contacts.print(b'P');
+        self.stores.print(b'S');
     }
 }
 
@@ -221,6 +232,100 @@ fn row(letter: u8, case: &[u8], bytes: &mut [u8], again: &mut [u8]) -> bool {
     is_number(cases::rest(blob), number as u64)
 }
 
+// ---- stores
+
+// How many bytes an entry has in a case.
+const ENTRY: usize = 36;
+
+// A big-endian number of four bytes; 0 where they are not all there.
+fn number_32(bytes: &[u8], at: usize) -> u32 {
+    match fields::u32_at(bytes, at) {
+        U32Field::Value(number, _) => number,
+        U32Field::Short => 0,
+    }
+}
+
+// The same of eight bytes.
+fn number_64(bytes: &[u8], at: usize) -> u64 {
+    match fields::u64_at(bytes, at) {
+        U64Field::Value(number, _) => number,
+        U64Field::Short => 0,
+    }
+}
+
+// The entry whose bytes start here: kind, contact or slot, msgno, version, start, length.
+fn entry(bytes: &[u8], at: usize) -> Entry
+    requires { ⌜ at ≤ 36 * ENTRIES ⌝ }
+{
+    Entry {
+        id: number_64(bytes, at + 4),
+        start: number_64(bytes, at + 20) as usize,
+        len: number_64(bytes, at + 28) as usize,
+        msgno: number_32(bytes, at + 12),
+        version: number_32(bytes, at + 16),
+        kind: number_32(bytes, at),
+    }
+}
+
+// A table with so many entries; every place behind them holds the first entry.
+fn entries(bytes: &[u8], count: usize) -> [Entry; ENTRIES]
+    requires { ⌜ count ≤ ENTRIES ⌝ }
+{
+    let first = entry(bytes, 0);
+    let mut table = [first; ENTRIES];
+    let mut i = 0;
+    while i < count {
+        table[i] = entry(bytes, ENTRY * i);
+        i += 1;
+    }
+    table
+}
+
+// Whether the text is these two numbers, of eight bytes each.
+fn is_pair(text: &[u8], one: u64, other: u64) -> bool {
+    let mut pair = [0u8; 16];
+    let Written::Length(n) = cases::bytes(text, &mut pair) else {
+        return false;
+    };
+    n == 16 && number_64(&pair, 0) == one && number_64(&pair, 8) == other
+}
+
+// `0 NEXT`, next_contact and next_slot; or `NUMBER INDEX`.
+fn is_restored(text: &[u8], answer: Restored) -> bool {
+    match answer {
+        Restored::Granted(contact, slot) => {
+            is_number(cases::field(text), 0) && is_pair(cases::rest(text), contact, slot)
+        }
+        Restored::Refused(number, place) => is_value(text, number as u32, place),
+    }
+}
+
+// `RUN ANSWER`: the run of a store with these entries, and what restore answers.
+fn restored(case: &[u8], table: [Entry; ENTRIES], count: usize, bytes: &mut [u8]) -> bool {
+    let Written::Length(n) = cases::bytes(cases::field(case), bytes) else {
+        return false;
+    };
+    let left = table::restore(cases::first(bytes, n), table, count, Mark::Fresh);
+    let answer = left.answer;
+    is_restored(cases::rest(case), answer)
+}
+
+// `ENTRIES RUN ANSWER`.
+fn store(case: &[u8], bytes: &mut [u8], again: &mut [u8]) -> bool {
+    let Written::Length(n) = cases::bytes(cases::field(case), bytes) else {
+        return false;
+    };
+    let count = n / ENTRY;
+    if ENTRIES < count {
+        return false;
+    }
+    if n % ENTRY == 0 {
+        let table = entries(cases::first(bytes, n), count);
+        return restored(cases::rest(case), table, count, again);
+    }
+    false
+}
+
 // Whether our answer to a case is the stored one.
 fn same(letter: u8, case: &[u8], bytes: &mut [u8], again: &mut [u8]) -> bool {
     match letter {
@@ -229,6 +334,7 @@ fn same(letter: u8, case: &[u8], bytes: &mut [u8], again: &mut [u8]) -> bool {
         b'N' => name(case, bytes),
         b'C' => card(case, bytes, again),
         b'D' | b'Q' | b'K' | b'P' => row(letter, case, bytes, again),
+        b'S' => store(case, bytes, again),
         _ => false,
     }
 }
@@ -285,11 +391,11 @@ fn lines(text: &[u8], bytes: &mut [u8], again: &mut [u8]) -> Tallies {
     tallies
 }
 
-// 262,144 zeros, to read the input into.
-fn text_bytes() -> [u8; 262144]
-    ensures { λ r. ⌜ 262144 ≡ length r ⌝ }
+// 524,288 zeros, to read the input into.
+fn text_bytes() -> [u8; 524288]
+    ensures { λ r. ⌜ 524288 ≡ length r ⌝ }
 {
-    [0; 262144]
+    [0; 524288]
 }
 
 fn replay(text: &mut [u8], bytes: &mut [u8], again: &mut [u8]) {
