@@ -35,6 +35,7 @@ mod script_stores;
 mod script_text;
 mod scripts;
 mod sheet_build;
+mod sheet_cases;
 mod sheet_model;
 mod sheet_samples;
 mod sheets;
@@ -126,7 +127,7 @@ mod resume {
 const USAGE: &str =
     "usage: oracle all|leb128|utf8|card|device|queued|courier|contact|received|stores [SEED [TIMES]]
        oracle samples DIR
-       oracle store-cases DIR
+       oracle store-cases|sheet-cases DIR
        oracle program-samples DIR
        oracle speed|restore-speed
        oracle scripts|transcript|scripts-rust|sheets|sheets-rust SEED TIMES

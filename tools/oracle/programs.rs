@@ -1,7 +1,8 @@
 //! The commands about lists of calls and about sheets.
 
 use crate::program::Program;
-use crate::{call_samples, script_run, scripts, sheet_model, sheet_samples, sheets, sheets_speed};
+use crate::{call_samples, script_run, scripts};
+use crate::{sheet_cases, sheet_model, sheet_samples, sheets, sheets_speed};
 use std::error::Error;
 use std::io::Read;
 use std::path::Path;
@@ -18,6 +19,7 @@ pub fn run(words: &[&str]) -> Option<Done> {
         })),
         ["statement"] => Some(from_input(crate::statement::statement)),
         ["statement-model"] => Some(from_input(sheet_model::statement)),
+        ["sheet-cases", folder] => Some(sheet_cases::write(folder.as_ref()).map(|()| true)),
         ["sheets-speed", ref program @ ..] if !program.is_empty() => {
             sheets_speed::run(Program { words: program });
             Some(Ok(true))

@@ -15,7 +15,7 @@ const SHOWN: usize = 3;
 /// The program is run so often at most for one that differs.
 const RUNS: usize = 2_000;
 
-fn each(seed: u64, times: u64, mut visit: impl FnMut(Made)) {
+pub fn each(seed: u64, times: u64, mut visit: impl FnMut(Made)) {
     let mut random = Random::new(seed);
     for index in 0..SHEETS * times as usize {
         visit(sheet_build::sheet(&mut random, index));
@@ -43,6 +43,15 @@ pub fn print(seed: u64, times: u64) -> std::io::Result<bool> {
     done.map(|()| true)
 }
 
+/// A refusal's letter and number; all else is granted.
+pub fn class(due: &str) -> String {
+    let words: Vec<&str> = due.split(',').collect();
+    match words[0] {
+        "R" | "X" => format!("{} {}", words[0], words[1]),
+        _ => "granted".into(),
+    }
+}
+
 /// How often each answer was due.
 #[derive(Default)]
 struct Due {
@@ -55,12 +64,7 @@ impl Due {
     fn count(&mut self, due: &str) {
         self.sheets += 1;
         self.lines += due.lines().filter(|line| line.starts_with('S')).count() as u64;
-        let words: Vec<&str> = due.split(',').collect();
-        let class = match words[0] {
-            "R" | "X" => format!("{} {}", words[0], words[1]),
-            _ => "granted".into(),
-        };
-        *self.answers.entry(class).or_default() += 1;
+        *self.answers.entry(class(due)).or_default() += 1;
     }
 
     /// Whether every answer came: granted, R with 1 and 3 to 33, X with 41 to 44.
