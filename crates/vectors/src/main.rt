@@ -24,7 +24,7 @@ struct Tally {
     different: u64,
 }
 
-// One for each letter: L, W, N, C, D, Q, K, P, S.
+// One for each letter: L, W, N, C, D, Q, K, P, S, T.
 struct Tallies {
     read: Tally,
     written: Tally,
@@ -35,6 +35,7 @@ struct Tallies {
     courier: Tally,
     contacts: Tally,
     stores: Tally,
+    sheets: Tally,
 }
 
 impl Tally {
@@ -80,6 +81,7 @@ impl Tallies {
             courier: Tally::new(),
             contacts: Tally::new(),
             stores: Tally::new(),
+            sheets: Tally::new(),
         }
     }
 
@@ -95,6 +97,7 @@ impl Tallies {
             b'K' => self.courier = self.courier.with(same),
             b'P' => self.contacts = self.contacts.with(same),
             b'S' => self.stores = self.stores.with(same),
+            b'T' => self.sheets = self.sheets.with(same),
             _ => {}
         }
         self
@@ -110,6 +113,7 @@ impl Tallies {
         self.courier.print(b'K');
         self.contacts.print(b'P');
         self.stores.print(b'S');
+        self.sheets.print(b'T');
     }
 }
 
@@ -326,6 +330,49 @@ fn store(case: &[u8], bytes: &mut [u8], again: &mut [u8]) -> bool {
     false
 }
 
+// ---- sheets
+
+// Zeros for the blob bytes of a sheet.
+fn run_bytes() -> [u8; 61440]
+    ensures { λ r. ⌜ 61440 ≡ length r ⌝ }
+{
+    [0; 61440]
+}
+
+// Zeros for the six numbers of each of 512 lines.
+fn no_places() -> [u64; 3072]
+    ensures { λ r. ⌜ 3072 ≡ length r ⌝ }
+{
+    [0; 3072]
+}
+
+// Writes the text that a statement of the sheet is.
+fn statement(sheet: &[u8], out: &mut [u8]) -> Written {
+    let mut run = run_bytes();
+    let mut places = no_places();
+    let state = sheet::read_chunk(sheet::begin(), sheet, &mut run, &mut places);
+    report::report(state, &run, &places, out)
+}
+
+// Whether the field is these bytes.
+fn is_bytes(text: &[u8], expected: &[u8], bytes: &mut [u8]) -> bool {
+    let Written::Length(n) = cases::bytes(text, bytes) else {
+        return false;
+    };
+    check::same(expected, cases::first(bytes, n))
+}
+
+// `SHEET TEXT`: a sheet, and the text of its statement.
+fn sheet(case: &[u8], bytes: &mut [u8], again: &mut [u8]) -> bool {
+    let Written::Length(n) = cases::bytes(cases::field(case), bytes) else {
+        return false;
+    };
+    let Written::Length(size) = statement(cases::first(bytes, n), again) else {
+        return false;
+    };
+    is_bytes(cases::rest(case), cases::first(again, size), bytes)
+}
+
 // Whether our answer to a case is the stored one.
 fn same(letter: u8, case: &[u8], bytes: &mut [u8], again: &mut [u8]) -> bool {
     match letter {
@@ -335,6 +382,7 @@ fn same(letter: u8, case: &[u8], bytes: &mut [u8], again: &mut [u8]) -> bool {
         b'C' => card(case, bytes, again),
         b'D' | b'Q' | b'K' | b'P' => row(letter, case, bytes, again),
         b'S' => store(case, bytes, again),
+        b'T' => sheet(case, bytes, again),
         _ => false,
     }
 }
