@@ -7,6 +7,7 @@ extern crate self as zeroize;
 mod build;
 mod call_samples;
 mod calls_model;
+mod calls_speed;
 mod cards;
 mod compare;
 mod contact_samples;
@@ -132,7 +133,7 @@ const USAGE: &str =
        oracle speed|restore-speed
        oracle scripts|transcript|scripts-rust|sheets|sheets-rust SEED TIMES
        oracle scripts-check|sheets-check SEED TIMES PROGRAM [WORD..]
-       oracle sheets-speed PROGRAM [WORD..]
+       oracle sheets-speed|calls-speed PROGRAM [WORD..]
        oracle replay|statement|statement-model (from standard input)";
 
 fn main() -> std::process::ExitCode {

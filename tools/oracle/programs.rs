@@ -1,7 +1,7 @@
 //! The commands about lists of calls and about sheets.
 
 use crate::program::Program;
-use crate::{call_samples, script_run, scripts};
+use crate::{call_samples, calls_speed, script_run, scripts};
 use crate::{sheet_cases, sheet_model, sheet_samples, sheets, sheets_speed};
 use std::error::Error;
 use std::io::Read;
@@ -20,6 +20,10 @@ pub fn run(words: &[&str]) -> Option<Done> {
         ["statement"] => Some(from_input(crate::statement::statement)),
         ["statement-model"] => Some(from_input(sheet_model::statement)),
         ["sheet-cases", folder] => Some(sheet_cases::write(folder.as_ref()).map(|()| true)),
+        ["calls-speed", ref program @ ..] if !program.is_empty() => {
+            calls_speed::run(Program { words: program });
+            Some(Ok(true))
+        }
         ["sheets-speed", ref program @ ..] if !program.is_empty() => {
             sheets_speed::run(Program { words: program });
             Some(Ok(true))

@@ -157,3 +157,32 @@ pub fn processor_time() -> f64 {
     assert_eq!(status, 0, "Linux has this clock");
     time.seconds as f64 * 1e9 + time.nanoseconds as f64
 }
+
+/// The time that the programs which have ended had the processor, in seconds.
+pub fn programs_time() -> f64 {
+    #[repr(C)]
+    #[derive(Clone, Copy, Default)]
+    struct Timeval {
+        seconds: i64,
+        microseconds: i64,
+    }
+    #[repr(C)]
+    #[derive(Default)]
+    struct Usage {
+        user: Timeval,
+        system: Timeval,
+        others: [i64; 14],
+    }
+    unsafe extern "C" {
+        fn getrusage(who: i32, usage: *mut Usage) -> i32;
+    }
+    const RUSAGE_CHILDREN: i32 = -1;
+    let mut usage = Usage::default();
+    // SAFETY: Linux on x86-64 has this function, with these types, and writes the struct alone.
+    let status = unsafe { getrusage(RUSAGE_CHILDREN, &mut usage) };
+    assert_eq!(status, 0, "Linux counts this");
+    [usage.user, usage.system]
+        .map(|time| time.seconds as f64 + time.microseconds as f64 / 1e6)
+        .iter()
+        .sum()
+}
