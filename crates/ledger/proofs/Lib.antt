@@ -22,6 +22,7 @@ pub mod AlikeLedgers
 pub mod Two
 pub mod Blank
 pub mod Aside
+pub mod Output
 pub mod Contracts
 pub mod Replay
 pub mod Samples

@@ -5,6 +5,7 @@ use mathlib.Core.Path.{_≡_, refl}
 use Rattle.ledger.specs.Proved.{StepLaws, LedgerLaws, HIGHEST, Proved}
 use Rattle.ledger.proofs.Refused.{step-keeps, restore-keeps}
 use Rattle.ledger.proofs.Lengths.{lent-keeps}
+use Rattle.ledger.proofs.Output.{output-aside}
 use Rattle.ledger.proofs.Aside.{passes-in-parts}
 use Rattle.line.proofs.Decimal.{decimal-laws}
 use Rattle.ledger.proofs.Every.{every-list}
@@ -30,6 +31,7 @@ step-laws N = record {
   refused-keeps = λ c h. step-keeps h N c .keeps;
   lent-keeps = λ c h. lent-keeps h N c;
   restore-keeps = λ run es h. restore-keeps h N run es;
+  output-aside = λ c h o q. output-aside o h N c q .is;
   in-parts = passes-in-parts;
 }
 

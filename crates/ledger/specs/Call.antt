@@ -40,6 +40,17 @@ isGranted (said n line) = true
 isGranted (refused q) = false
 isGranted (refusedAt q i) = false
 
+-- the calls that write to the output
+abbrev pub hasOutput : Call → Bool
+hasOutput (restore run es) = false
+hasOutput (opens k) = false
+hasOutput (cover f t) = false
+hasOutput (contains m) = false
+hasOutput (covers f t) = false
+hasOutput take = false
+hasOutput statement = true
+hasOutput write = true
+
 -- all that is handed to a call. The MARK is document 01's: whether a store is restored, and which contact is open
 pub record Hand : Type 0 where
   pub mark : Mark

@@ -7,9 +7,9 @@ use mathlib.Core.Path.{_≡_}
 use Rattle.contact_put.specs.Row.{ContactTyped, ListsTyped}
 use Rattle.store.specs.declared.Entry.{Entry}
 use Rattle.ledger.specs.declared.Mark.the-variants.{Fresh}
-use Rattle.ledger.specs.Call.{Call, restore, isGranted, Hand, lentOf}
+use Rattle.ledger.specs.Call.{Call, restore, isGranted, hasOutput, Hand, lentOf, leaves}
 use Rattle.line.specs.Line.{DecimalLaws}
-use Rattle.ledger.specs.Step.{passes, step}
+use Rattle.ledger.specs.Step.{output, passes, step}
 use Rattle.ledger.specs.Aside.{passesInParts}
 use Rattle.ledger.specs.Ledger.{nothing}
 use Rattle.ledger.specs.Legal.{Turn, Each, Legal}
@@ -50,6 +50,8 @@ pub record StepLaws (N : ℕ) : Type 0 where
   pub lent-keeps : (c : Call) (h : Hand) → lentOf (step N c h .after) ≡ lentOf h
   -- restore writes to nothing lent
   pub restore-keeps : (run : List ℕ) (es : List Entry) (h : Hand) → NothingWritten h (step N (restore run es) h .after)
+  -- a call without output does not look at the one that stands by, and leaves it
+  pub output-aside : (c : Call) (h : Hand) (o : List ℕ) → hasOutput c ≡ false → step N c (output o h) ≡ leaves (step N c h .answer) (output o (step N c h .after))
   -- 34 may be asked in parts, with the contact's row left aside
   pub in-parts : (k : ℕ) (h : Hand) → ContactTyped (h .contact) → ListsTyped (h .lists) → passes k h ≡ passesInParts k h
 
