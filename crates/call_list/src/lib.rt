@@ -99,9 +99,6 @@ pub const NO_AT: u64 = 6;
 // How many numbers an answer has.
 pub const ANSWER: usize = 3;
 
-// The highest number of 32 bits.
-const HIGHEST_32: u64 = 0xFFFFFFFF;
-
 // ---- before the first call
 
 fn no_contact() -> Contact
@@ -151,33 +148,6 @@ pub fn begin() -> Session
         first: 0,
         n: 0,
     }
-}
-
-// ---- a call's numbers
-
-fn number_at(numbers: &[u64], i: usize) -> u64
-    ensures { λ r. ⌜ r ≡ getD (now (numbers .entry)) i 0 ⌝ }
-{
-    if i < numbers.len() {
-        return numbers[i];
-    }
-    0
-}
-
-fn in_field(x: u64) -> u32
-    ensures { λ r. ⌜ r ≡ inField x ⌝ }
-{
-    if x <= HIGHEST_32 {
-        return x as u32;
-    }
-    HIGHEST_32 as u32
-}
-
-fn msgno_at(numbers: &[u64], i: usize) -> u32
-    ensures { λ r. ⌜ r ≡ inField (getD (now (numbers .entry)) i 0) ⌝ }
-{
-    let number = number_at(numbers, i);
-    in_field(number)
 }
 
 // ---- a store in the lent run and places
@@ -367,10 +337,10 @@ fn restored(
 fn restore(session: Session, run: &[u8], places: &[u64], five: &[u64]) -> CallLeft
     ensures { λ r. ⌜ ((l : Lists) (out : List ℕ) → LeftAs (step HIGHEST (call.restore (runAt (getD (now (five .entry)) 1 0) (getD (now (five .entry)) 2 0) (now (run .entry))) (entriesAt (getD (now (five .entry)) 3 0) (getD (now (five .entry)) 4 0) (now (places .entry)))) (handIn session (now (run .entry)) (now (places .entry)) l out)) (handIn (r .session) (now (run .entry)) (now (places .entry)) l out) r) ⌝ }
 {
-    let start = number_at(five, 1) as usize;
-    let len = number_at(five, 2) as usize;
-    let first = number_at(five, 3) as usize;
-    let n = number_at(five, 4) as usize;
+    let start = table::number_at(five, 1) as usize;
+    let len = table::number_at(five, 2) as usize;
+    let first = table::number_at(five, 3) as usize;
+    let n = table::number_at(five, 4) as usize;
     let mark = session.mark;
     let left = table::restore(run_at(run, start, len), table_at(places, first, n), n, mark);
     restored(session, left, start, len, first, n)
@@ -389,7 +359,7 @@ fn open(
 ) -> CallLeft
     ensures { λ r. ⌜ ((out : List ℕ) → LeftAs (step HIGHEST (call.opens (getD (now (five .entry)) 1 0)) (handIn session (now (run .entry)) (now (places .entry)) (lists (now (chains .entry)) (now (skipped .entry)) (now (above .entry)) (now (unacked .entry)) (now (expired .entry))) out)) (handIn (r .session) (now (run .entry)) (now (places .entry)) (lists (now (chains .exit)) (now (skipped .exit)) (now (above .exit)) (now (unacked .exit)) (now (expired .exit))) out) r) ⌝ }
 {
-    let id = ContactId(number_at(five, 1));
+    let id = ContactId(table::number_at(five, 1));
     let mark = session.mark;
     let contact = session.contact;
     let left = table::open(
@@ -424,8 +394,8 @@ fn cover(
 ) -> CallLeft
     ensures { λ r. ⌜ ((out : List ℕ) → LeftAs (step HIGHEST (call.cover (inField (getD (now (five .entry)) 1 0)) (inField (getD (now (five .entry)) 2 0))) (handIn session (now (run .entry)) (now (places .entry)) (lists (now (chains .entry)) (now (skipped .entry)) (now (above .entry)) (now (unacked .entry)) (now (expired .entry))) out)) (handIn (r .session) (now (run .entry)) (now (places .entry)) (lists (now (chains .entry)) (now (skipped .entry)) (now (above .exit)) (now (unacked .entry)) (now (expired .entry))) out) r) ⌝ }
 {
-    let from = msgno_at(five, 1);
-    let to = msgno_at(five, 2);
+    let from = table::field_at(five, 1);
+    let to = table::field_at(five, 2);
     let mark = session.mark;
     let contact = session.contact;
     let left = table::cover(
@@ -460,7 +430,7 @@ fn contains(
 ) -> CallLeft
     ensures { λ r. ⌜ ((out : List ℕ) → LeftAs (step HIGHEST (call.contains (inField (getD (now (five .entry)) 1 0))) (handIn session (now (run .entry)) (now (places .entry)) (lists (now (chains .entry)) (now (skipped .entry)) (now (above .entry)) (now (unacked .entry)) (now (expired .entry))) out)) (handIn (r .session) (now (run .entry)) (now (places .entry)) (lists (now (chains .entry)) (now (skipped .entry)) (now (above .entry)) (now (unacked .entry)) (now (expired .entry))) out) r) ⌝ }
 {
-    let msgno = msgno_at(five, 1);
+    let msgno = table::field_at(five, 1);
     let mark = session.mark;
     let contact = session.contact;
     let answer = table::contains(
@@ -492,8 +462,8 @@ fn covers(
 ) -> CallLeft
     ensures { λ r. ⌜ ((out : List ℕ) → LeftAs (step HIGHEST (call.covers (inField (getD (now (five .entry)) 1 0)) (inField (getD (now (five .entry)) 2 0))) (handIn session (now (run .entry)) (now (places .entry)) (lists (now (chains .entry)) (now (skipped .entry)) (now (above .entry)) (now (unacked .entry)) (now (expired .entry))) out)) (handIn (r .session) (now (run .entry)) (now (places .entry)) (lists (now (chains .entry)) (now (skipped .entry)) (now (above .entry)) (now (unacked .entry)) (now (expired .entry))) out) r) ⌝ }
 {
-    let from = msgno_at(five, 1);
-    let to = msgno_at(five, 2);
+    let from = table::field_at(five, 1);
+    let to = table::field_at(five, 2);
     let mark = session.mark;
     let contact = session.contact;
     let answer = table::covers(
@@ -639,7 +609,7 @@ fn one(
 ) -> CallLeft
     ensures { λ r. ⌜ Ran (callOf (now (run .entry)) (now (places .entry)) (now (five .entry))) (handIn session (now (run .entry)) (now (places .entry)) (lists (now (chains .entry)) (now (skipped .entry)) (now (above .entry)) (now (unacked .entry)) (now (expired .entry))) (now (out .entry))) (handIn (r .session) (now (run .entry)) (now (places .entry)) (lists (now (chains .exit)) (now (skipped .exit)) (now (above .exit)) (now (unacked .exit)) (now (expired .exit))) (now (out .exit))) r ⌝ }
 {
-    let code = number_at(five, 0);
+    let code = table::number_at(five, 0);
     if code == RESTORE {
         return restore(session, run, places, five);
     }

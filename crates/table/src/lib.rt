@@ -42,7 +42,8 @@ fn held(n: usize) -> usize
 
 // ---- a table filled from a sheet's places
 
-fn number_at(places: &[u64], i: usize) -> u64
+// The i-th number, 0 where there is none.
+pub fn number_at(places: &[u64], i: usize) -> u64
     ensures { λ r. ⌜ r ≡ getD (now (places .entry)) i 0 ⌝ }
 {
     if i < places.len() {
@@ -60,7 +61,8 @@ fn in_field(x: u64) -> u32
     HIGHEST_32 as u32
 }
 
-fn field_at(places: &[u64], i: usize) -> u32
+// The i-th number in a field of 32 bits.
+pub fn field_at(places: &[u64], i: usize) -> u32
     ensures { λ r. ⌜ r ≡ inField (getD (now (places .entry)) i 0) ⌝ }
 {
     let number = number_at(places, i);

@@ -8,8 +8,8 @@ use Rattle.call_list.proofs.Steps.{quiet-left}
 use Rattle.call_list.proofs.contains.Statement.{statement}
 use Rattle.call_list.proofs.contains.Tie as tie
 
-msgno-at-requires : tie.Need-msgno-at-requires
-msgno-at-requires c κs = search needs
+field-at-requires : tie.Need-field-at-requires
+field-at-requires c κs = search needs
 
 run-at-requires : tie.Need-run-at-requires
 run-at-requires c κs = search needs
@@ -36,7 +36,7 @@ returns c =
     quiet-left (a .session) (a .run .now) (a .places .now) (part .run-at .ensures) (table .table-at .ensures)
     (lists (a .chains .now) (a .skipped .now) (a .above .now) (a .unacked .now) (a .expired .now))
     refl
-    (ap call.contains (msgno .msgno-at .ensures))
+    (ap call.contains (msgno .field-at .ensures))
     (made .contains .ensures)
     (c .before .truth .ensures)
     (c .next .ensures)
@@ -45,7 +45,7 @@ pub contains-spec : {M : Type 1} → statement M
 contains-spec =
     tie.close
     (tie.spec
-    msgno-at-requires
+    field-at-requires
     run-at-requires
     table-at-requires
     contains-requires
