@@ -37,8 +37,12 @@ decimalFrom n [] = some n
 decimalFrom n (b ∷ bs) =
     cond (ltb (digitOf b) 10 && ltb (n * 10 + digitOf b) (2 ^ 32)) (decimalFrom (n * 10 + digitOf b) bs) none
 
+-- a 0 before other bytes
+abbrev pub leadingZero : List ℕ → Bool
+leadingZero text = ltb 1 (length text) && eqb (getD text 0 0) 0x30
+
 unfoldable pub decimalOf : List ℕ → Option ℕ
-decimalOf text = cond (eqb (length text) 0) none (decimalFrom 0 text)
+decimalOf text = cond (eqb (length text) 0) none (cond (leadingZero text) none (decimalFrom 0 text))
 
 -- ---- bytes in hexadecimal
 unfoldable pub digitsOnly : List ℕ → Bool

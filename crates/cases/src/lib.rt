@@ -7,7 +7,7 @@ ghost use Prim.Native.Nat.{_/_, _≤_};
 ghost use lib.ListN.{length, take};
 ghost use Rattle.rows.specs.Answers.{leaves};
 ghost use Rattle.put.specs.Put.{Wrote};
-ghost use Rattle.cases.specs.Text.{before, behind, SPACE, dashOf, digitOf, decimalOf, digitsOnly, pairs, bytesOf, keeps};
+ghost use Rattle.cases.specs.Text.{before, behind, SPACE, dashOf, digitOf, leadingZero, decimalOf, digitsOnly, pairs, bytesOf, keeps};
 ghost use Rattle.cases.specs.Says.{numberSays};
 
 // A number below 2^32; None where the text is none.
@@ -81,11 +81,24 @@ fn digit(b: u8) -> u8
     }
 }
 
-// The number that the text is in decimal.
+// Whether a 0 stands before other bytes.
+fn leads_with_zero(text: &[u8]) -> bool
+    ensures { λ r. ⌜ r ≡ leadingZero (now (text .entry)) ⌝ }
+{
+    if 1 < text.len() {
+        return text[0] == b'0';
+    }
+    false
+}
+
+// The number that the text is in decimal, without leading zeros.
 pub fn decimal(text: &[u8]) -> Number
     ensures { λ r. ⌜ numberSays r ≡ decimalOf (now (text .entry)) ⌝ }
 {
     if text.len() == 0 {
+        return Number::None;
+    }
+    if leads_with_zero(text) {
         return Number::None;
     }
     let mut n: u64 = 0;
