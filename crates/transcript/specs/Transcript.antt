@@ -1,0 +1,50 @@
+-- The line that `replay` prints for the answer to a call: `= `, the answer's text, LF. An answer is three numbers (call_list/specs/Encoding.antt), and what
+-- the call wrote stands at the front of the output.
+-- Assumes nothing.
+use Prim.Native.Nat.{ℕ, _-_}
+use mathlib.Core.List.{List, [], _∷_, _++_}
+use mathlib.Core.Bool.{cond}
+use lib.ListN.{take}
+use lib.Dec.{eqb}
+use Rattle.line.specs.Line.{LF, decimal}
+use Rattle.cases.specs.Text.{SPACE}
+use Rattle.script.specs.Hex.{hexOf}
+use Rattle.call_list.specs.Encoding.{YES, TRUTH, NUMBER, WROTE, SAID, NO}
+
+-- `=`
+abbrev pub EQUALS : ℕ
+EQUALS = 0x3D
+
+abbrev pub lineOf : (text : List ℕ) → List ℕ
+lineOf text = EQUALS ∷ SPACE ∷ (text ++ (LF ∷ []))
+
+-- yes
+abbrev pub yesText : List ℕ
+yesText = 0x79 ∷ 0x65 ∷ 0x73 ∷ []
+
+-- true
+abbrev pub trueText : List ℕ
+trueText = 0x74 ∷ 0x72 ∷ 0x75 ∷ 0x65 ∷ []
+
+-- false
+abbrev pub falseText : List ℕ
+falseText = 0x66 ∷ 0x61 ∷ 0x6C ∷ 0x73 ∷ 0x65 ∷ []
+
+-- no, and a space
+abbrev pub noText : List ℕ
+noText = 0x6E ∷ 0x6F ∷ SPACE ∷ []
+
+-- a refusal with its place
+abbrev pub placeText : (question place : ℕ) → List ℕ
+placeText question place = noText ++ (decimal question ++ (SPACE ∷ decimal place))
+
+-- a statement's line stands without its LF
+unfoldable pub answerText : (tag a b : ℕ) → (out : List ℕ) → List ℕ
+answerText tag a b out =
+    cond (eqb tag YES) yesText
+    (cond (eqb tag TRUTH) (cond (eqb a 0) falseText trueText)
+    (cond (eqb tag NUMBER) (decimal a)
+    (cond (eqb tag WROTE) (hexOf (take a out))
+    (cond (eqb tag SAID) (take (a - 1) out)
+    (cond (eqb tag NO) (noText ++ decimal a)
+    (placeText a b))))))

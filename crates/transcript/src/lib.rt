@@ -1,0 +1,140 @@
+// The lines that `replay` prints: `= `, a text, LF. Each is written to the front of the output, if there is room for all of it.
+use call_list::NO;
+use call_list::NUMBER;
+use call_list::SAID;
+use call_list::TRUTH;
+use call_list::WROTE;
+use call_list::YES;
+use layout::question;
+use rows::Written;
+ghost use mathlib.Core.Path.{_≡_};
+ghost use mathlib.Core.List.{[], _∷_, _++_};
+ghost use Prim.Native.Nat.{_-_, _≤_};
+ghost use lib.ListN.{length};
+ghost use Rattle.layout.specs.Write.{stored};
+ghost use Rattle.rows.specs.Answers.{leaves};
+ghost use Rattle.put.specs.Put.{Wrote};
+ghost use Rattle.line.specs.Line.{decimal};
+ghost use Rattle.cases.specs.Text.{SPACE};
+ghost use Rattle.script.specs.Hex.{hexOf};
+ghost use Rattle.transcript.specs.Transcript.{EQUALS, lineOf, placeText, answerText};
+
+const EQUALS: u8 = b'=';
+
+const SPACE: u8 = b' ';
+
+const LF: u8 = b'\n';
+
+// How many bytes stand around a text.
+const AROUND: usize = 3;
+
+fn begin(out: &mut [u8]) -> usize
+    requires { ⌜ 3 ≤ length (now out) ⌝ }
+    ensures { λ r. ⌜ (r ≡ 2) × Wrote (now (out .entry)) 0 (EQUALS ∷ SPACE ∷ []) (now (out .exit)) r ⌝ }
+{
+    let at = put::put_byte(out, 0, EQUALS);
+    put::put_byte(out, at, SPACE)
+}
+
+pub fn text_line(text: &[u8], out: &mut [u8]) -> Written
+    ensures { λ r. ⌜ leaves r (now (out .exit)) ≡ stored (lineOf (now (text .entry))) (now (out .entry)) ⌝ }
+{
+    if out.len() < AROUND {
+        return Written::Refused(question::OUTPUT);
+    }
+    if out.len() - AROUND < text.len() {
+        return Written::Refused(question::OUTPUT);
+    }
+    let at = begin(out);
+    let end = put::put_run(out, at, text, 0, text.len());
+    Written::Length(put::put_byte(out, end, LF))
+}
+
+// A word and a number behind it.
+pub fn number_line(word: &[u8], n: u64, out: &mut [u8]) -> Written
+    ensures { λ r. ⌜ leaves r (now (out .exit)) ≡ stored (lineOf (now (word .entry) ++ decimal n)) (now (out .entry)) ⌝ }
+{
+    let fixed = line::decimal_len(n) + AROUND;
+    if out.len() < fixed {
+        return Written::Refused(question::OUTPUT);
+    }
+    if out.len() - fixed < word.len() {
+        return Written::Refused(question::OUTPUT);
+    }
+    let at = begin(out);
+    let number_at = put::put_run(out, at, word, 0, word.len());
+    let end = line::put_decimal(out, number_at, n);
+    Written::Length(put::put_byte(out, end, LF))
+}
+
+// A refusal with its place.
+pub fn place_line(number: u64, place: u64, out: &mut [u8]) -> Written
+    ensures { λ r. ⌜ leaves r (now (out .exit)) ≡ stored (lineOf (placeText number place)) (now (out .entry)) ⌝ }
+{
+    let len = line::decimal_len(number) + line::decimal_len(place) + 4 + AROUND;
+    if out.len() < len {
+        return Written::Refused(question::OUTPUT);
+    }
+    let at = begin(out);
+    let number_at = put::put_run(out, at, b"no ", 0, 3);
+    let space_at = line::put_decimal(out, number_at, number);
+    let place_at = put::put_byte(out, space_at, SPACE);
+    let end = line::put_decimal(out, place_at, place);
+    Written::Length(put::put_byte(out, end, LF))
+}
+
+// Bytes in hexadecimal.
+pub fn hex_line(bytes: &[u8], out: &mut [u8]) -> Written
+    ensures { λ r. ⌜ leaves r (now (out .exit)) ≡ stored (lineOf (hexOf (now (bytes .entry)))) (now (out .entry)) ⌝ }
+{
+    if bytes.len() == 0 {
+        return text_line(b"-", out);
+    }
+    if out.len() < AROUND {
+        return Written::Refused(question::OUTPUT);
+    }
+    if (out.len() - AROUND) / 2 < bytes.len() {
+        return Written::Refused(question::OUTPUT);
+    }
+    let at = begin(out);
+    let end = script::put_pairs(out, at, bytes);
+    Written::Length(put::put_byte(out, end, LF))
+}
+
+fn less_one(n: usize) -> usize
+    ensures { λ r. ⌜ r ≡ n - 1 ⌝ }
+{
+    if n == 0 {
+        return 0;
+    }
+    n - 1
+}
+
+// The line of a call's answer: its tag and two numbers. What the call wrote stands at the front of the bytes.
+pub fn answer_line(tag: u64, a: u64, b: u64, bytes: &[u8], out: &mut [u8]) -> Written
+    ensures { λ r. ⌜ leaves r (now (out .exit)) ≡ stored (lineOf (answerText tag a b (now (bytes .entry)))) (now (out .entry)) ⌝ }
+{
+    let n = a as usize;
+    if tag == YES {
+        return text_line(b"yes", out);
+    }
+    if tag == TRUTH {
+        if a == 0 {
+            return text_line(b"false", out);
+        }
+        return text_line(b"true", out);
+    }
+    if tag == NUMBER {
+        return number_line(b"", a, out);
+    }
+    if tag == WROTE {
+        return hex_line(cases::first(bytes, n), out);
+    }
+    if tag == SAID {
+        return text_line(cases::first(bytes, less_one(n)), out);
+    }
+    if tag == NO {
+        return number_line(b"no ", a, out);
+    }
+    place_line(a, b, out)
+}
