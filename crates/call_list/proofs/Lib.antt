@@ -1,4 +1,3 @@
-pub mod Quiet
 pub mod Store
 pub mod Steps
 pub mod Typed

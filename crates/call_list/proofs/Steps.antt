@@ -2,7 +2,7 @@
 -- Assumes nothing.
 use Prim.Native.Nat.{ℕ}
 use mathlib.Core.List.{List, []}
-use mathlib.Core.Bool.{true, false}
+use mathlib.Core.Bool.{false}
 use mathlib.Core.Option.{Option, none}
 use mathlib.Core.Path.{_≡_, refl, sym, ap, ap₂, _∙_, subst}
 use lib.ListN.{getD}
@@ -11,9 +11,10 @@ use Rattle.contact.specs.declared.Contact.{Contact}
 use Rattle.contact.specs.Contact.{Lists}
 use Rattle.store.specs.declared.Entry.{Entry}
 use Rattle.ledger.specs.declared.Mark.{Mark}
-use Rattle.ledger.specs.Call.{Call, restore, Answer, Hand, Left, leaves}
+use Rattle.ledger.specs.Call.{Call, restore, Answer, hasOutput, Hand, Left, leaves}
 use Rattle.ledger.specs.Step.{output, step}
 use Rattle.ledger.specs.Proved.{HIGHEST}
+use Rattle.ledger.proofs.Output.{output-aside}
 use Rattle.calls.specs.Calls.{handOf, leftBy, restoredOn}
 use Rattle.calls.specs.declared.RestoreLeft.{RestoreLeft}
 use Rattle.call_list.specs.declared.Session.{Session}
@@ -22,7 +23,6 @@ use Rattle.call_list.specs.declared.CallLeft.{CallLeft}
 use Rattle.call_list.specs.Encoding as encoding
 use Rattle.call_list.specs.Encoding.{RESTORE, OPEN, COVER, CONTAINS, COVERS, TAKE, STATEMENT, WRITE, runAt, entriesAt, callAs, callOf, threeOf}
 use Rattle.call_list.specs.Replay.{handIn, three, nextOf, LeftAs, Ran}
-use Rattle.call_list.proofs.Quiet.{isQuiet, quiet-step}
 
 module _ (s : Session) (run places : List ℕ) where
   abbrev itsRun : List ℕ
@@ -57,13 +57,13 @@ module _ (s : Session) (run places : List ℕ) where
     output-left {out′ = out′} call l out is says next = next-left l out′ (on-its-store l out refl is) says next
 
     -- the others, which are made with no output, whatever stands there
-    pub quiet-left : {made call : Call} {answer : Answer} {m : Mark} {c : Contact} {a : Numbers} {r : CallLeft} {l′ : Lists} (l : Lists) → isQuiet call ≡ true → made ≡ call
+    pub quiet-left : {made call : Call} {answer : Answer} {m : Mark} {c : Contact} {a : Numbers} {r : CallLeft} {l′ : Lists} (l : Lists) → hasOutput call ≡ false → made ≡ call
         → leaves answer (handOf m p t c l′ []) ≡ step HIGHEST made (handOf (s .mark) p t (s .contact) l [])
         → three a ≡ threeOf answer → r ≡ nextOf s m c a
         → (out : List ℕ) → LeftAs (step HIGHEST call (handIn s run places l out)) (handIn (r .session) run places l′ out) r
     quiet-left {call = call} {l′ = l′} l quiet which is says next out =
         next-left l′ out
-        (ap (λ (x : Left). leaves (x .answer) (output out (x .after))) (on-its-store l [] which is) ∙ sym (quiet-step out (handIn s run places l []) call quiet .is))
+        (ap (λ (x : Left). leaves (x .answer) (output out (x .after))) (on-its-store l [] which is) ∙ sym (output-aside out (handIn s run places l []) HIGHEST call quiet .is))
         says
         next
 
