@@ -1,11 +1,11 @@
--- `replay::move_front` is safe and ends: the bytes to be moved are held. The measure is how many are left.
+-- `replay::window::move_front` is safe and ends: the bytes to be moved are held. The measure is how many are left.
 -- Assumes nothing.
 use Prim.Native.Nat.{_-_, _≤_}
 use mathlib.Core.Path.{_≡_}
 use lib.ListN.{length}
 use borrow.Author.Needs.{needs}
-use Rattle.replay.proofs.move_front.Statement.{statement}
-use Rattle.replay.proofs.move_front.Tie as tie
+use Rattle.replay.proofs.window.move_front.Statement.{statement}
+use Rattle.replay.proofs.window.move_front.Tie as tie
 
 abbrev Inv-loop : tie.InvT-loop
 Inv-loop text₀ at held n i₀ text i = (i ≤ n) × (length text ≡ length text₀)

@@ -1,9 +1,9 @@
--- `replay::print_places` ends: the measure is how many pairs are left.
+-- `replay::answers::print_places` ends: the measure is how many pairs are left.
 -- Assumes nothing.
 use Prim.Native.Nat.{_-_, _≤_}
 use borrow.Author.Needs.{needs}
-use Rattle.replay.proofs.print_places.Statement.{statement}
-use Rattle.replay.proofs.print_places.Tie as tie
+use Rattle.replay.proofs.answers.print_places.Statement.{statement}
+use Rattle.replay.proofs.answers.print_places.Tie as tie
 
 abbrev Inv-loop : tie.InvT-loop
 Inv-loop above count i₀ i = i ≤ count

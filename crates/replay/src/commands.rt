@@ -1,0 +1,323 @@
+// What a line of a script asks for: a command, or a line behind a restore.
+use super::ABOVE;
+use super::CHAINS;
+use super::EXPIRED;
+use super::NOTHING;
+use super::SHOW;
+use super::SKIPPED;
+use super::STATE;
+use super::Script;
+use super::UNACKED;
+use super::at_most;
+use super::least;
+use cases::first;
+use rows::Written;
+use sheet::Answer;
+use sheet::State;
+ghost use Prim.Native.Nat.{_≤_};
+
+// ---- lines of a restore
+
+// Where the numbers of an entry stand, of a store whose entries start with this one.
+fn place_of(first: usize, entry: usize) -> usize
+    ensures { λ r. ⌜ r ≤ 6144 ⌝ }
+{
+    (least(first, sheet::LINES) + least(entry, sheet::LINES)) * sheet::PLACE
+}
+
+fn put_number(places: &mut [u64], at: usize, n: u64) {
+    if at < places.len() {
+        places[at] = n;
+    }
+}
+
+fn put_entry(line: &[u8], places: &mut [u64], first: usize, entry: usize) {
+    let at = place_of(first, entry);
+    put_number(places, at, script::number(line, b' ', 0));
+    put_number(places, at + 1, script::number(line, b' ', 1));
+    put_number(places, at + 2, script::number(line, b' ', 4));
+    put_number(places, at + 3, script::number(line, b' ', 5));
+    put_number(places, at + 4, script::number(line, b' ', 2));
+    put_number(places, at + 5, script::number(line, b' ', 3));
+}
+
+// Feeds a part of a line to the sheet's reader, which writes to the free half.
+fn fed(s: Script, part: &[u8], run: &mut [u8], places: &mut [u64]) -> State {
+    let start = least(s.start, run.len());
+    let place = least(place_of(s.first, 0), places.len());
+    let before = s.sheet;
+    sheet::read_chunk(before, part, &mut run[start..], &mut places[place..])
+}
+
+// What a sheet's line leaves: the restore, where it is the last, or nothing to do.
+fn line_read(s: Script) -> Script {
+    let sheet = s.sheet;
+    match sheet::finish(sheet) {
+        Answer::Refused(_, _) => s.unknown(),
+        Answer::Read(lines, used) => {
+            if s.left == 0 {
+                s.restores(used, lines)
+            } else {
+                s
+            }
+        }
+    }
+}
+
+// One line of a sheet, its LF with it.
+fn sheet_line(s: Script, line: &[u8], run: &mut [u8], places: &mut [u64]) -> Script {
+    let mut next = s;
+    let read = fed(s, line, run, places);
+    next.sheet = read;
+    let ended = fed(next, b"\n", run, places);
+    next.sheet = ended;
+    line_read(next)
+}
+
+fn entry_line(s: Script, line: &[u8], places: &mut [u64]) -> Script {
+    if script::is_entry(line) {
+        put_entry(line, places, s.first, s.entries);
+        let mut next = s;
+        next.entries = std::num::wrapping_add_usize(s.entries, 1);
+        if next.left == 0 {
+            return next.restores(next.len, next.entries);
+        }
+        return next;
+    }
+    s.unknown()
+}
+
+// A line behind a restore.
+fn restore_line(s: Script, line: &[u8], run: &mut [u8], places: &mut [u64]) -> Script {
+    let mut next = s;
+    next.left = std::num::wrapping_sub_u64(s.left, 1);
+    if next.raw {
+        return entry_line(next, line, places);
+    }
+    sheet_line(next, line, run, places)
+}
+
+// ---- commands
+
+fn restore_of(s: Script, count: u64) -> Script {
+    if (sheet::LINES as u64) < count {
+        return s.unknown();
+    }
+    let mut next = s;
+    let sheet = sheet::begin();
+    next.sheet = sheet;
+    next.raw = false;
+    next.left = count;
+    if count == 0 {
+        return next.restores(0, 0);
+    }
+    next
+}
+
+// The bytes that a word is, at the front of the free half of the run.
+fn bytes_of(s: Script, word: &[u8], run: &mut [u8]) -> Written {
+    let start = least(s.start, run.len());
+    let room = least(run.len() - start, sheet::BLOB_BYTES);
+    let end = start + room;
+    cases::bytes(word, &mut run[start..end])
+}
+
+// The row that bytes_of left.
+fn row_in(s: Script, run: &[u8], n: usize) -> &[u8] {
+    let start = least(s.start, run.len());
+    first(&run[start..], n)
+}
+
+fn raw_restore_of(s: Script, line: &[u8], run: &mut [u8]) -> Script {
+    let count = script::number(line, b' ', 1);
+    if (sheet::LINES as u64) < count {
+        return s.unknown();
+    }
+    let Written::Length(n) = bytes_of(s, script::word(line, b' ', 2), run) else {
+        return s.unknown();
+    };
+    let mut next = s;
+    next.raw = true;
+    next.left = count;
+    next.len = n;
+    next.entries = 0;
+    if count == 0 {
+        return next.restores(n, 0);
+    }
+    next
+}
+
+fn lend(s: Script, line: &[u8]) -> Script {
+    s.lends(
+        script::number(line, b' ', 1),
+        script::number(line, b' ', 2),
+        script::number(line, b' ', 3),
+        script::number(line, b' ', 4),
+        script::number(line, b' ', 5),
+        script::number(line, b' ', 6),
+    )
+}
+
+fn veil_row(s: Script, line: &[u8], run: &[u8], n: usize, out: &mut [u8]) -> Written {
+    let kind = narrow(script::number(line, b' ', 1));
+    let version = narrow(script::number(line, b' ', 2));
+    let room = at_most(script::number(line, b' ', 3), out.len());
+    veil::veil(kind, version, row_in(s, run, n), &mut out[0..room])
+}
+
+fn veil_line(s: Script, line: &[u8], run: &mut [u8], out: &mut [u8]) -> Script {
+    let Written::Length(n) = bytes_of(s, script::word(line, b' ', 4), run) else {
+        return s.unknown();
+    };
+    s.shows(veil_row(s, line, run, n, out))
+}
+
+// What reading a contact row and writing it again answers, with lists of these lengths, which a word has with commas.
+fn read_contact(version: u32, word: &[u8], row: &[u8], out: &mut [u8]) -> u32 {
+    let mut chains = [0u8; 13056];
+    let mut skipped = [0u8; 23000];
+    let mut above = [0u32; 15360];
+    let mut unacked = [0u32; 15360];
+    let mut expired = [0u32; 15360];
+    let c = lent::CHAIN_PLACE * at_most(script::number(word, b',', 0), CHAINS);
+    let k = lent::SKIPPED_PLACE * at_most(script::number(word, b',', 1), SKIPPED);
+    let a = 2 * at_most(script::number(word, b',', 2), ABOVE);
+    let u = at_most(script::number(word, b',', 3), UNACKED);
+    let e = 2 * at_most(script::number(word, b',', 4), EXPIRED);
+    contact_face::sicklestar_contact(
+        version,
+        row,
+        &mut chains[0..c],
+        &mut skipped[0..k],
+        &mut above[0..a],
+        &mut unacked[0..u],
+        &mut expired[0..e],
+        out,
+    )
+}
+
+// What reading a row and writing it again answers: 0, or the question's number.
+fn read_row(kind: u64, version: u32, word: &[u8], row: &[u8], out: &mut [u8]) -> u32 {
+    if kind == store::DEVICE as u64 {
+        return faces::sicklestar_device(version, row, out);
+    }
+    if kind == store::QUEUED as u64 {
+        return faces::sicklestar_queued(version, row, out);
+    }
+    if kind == store::CONTACT as u64 {
+        return read_contact(version, word, row, out);
+    }
+    faces::sicklestar_courier(version, row, out)
+}
+
+fn read_bytes(s: Script, line: &[u8], run: &[u8], n: usize, out: &mut [u8]) -> Script {
+    let kind = script::number(line, b' ', 1);
+    let version = narrow(script::number(line, b' ', 2));
+    let word = script::word(line, b' ', 3);
+    let number = read_row(kind, version, word, row_in(s, run, n), out);
+    if number == 0 {
+        return s.asks(SHOW, call_list::WROTE, n as u64, 0, 0);
+    }
+    s.asks(SHOW, call_list::NO, number as u64, 0, 0)
+}
+
+fn read_line(s: Script, line: &[u8], run: &mut [u8], out: &mut [u8]) -> Script {
+    let kind = script::number(line, b' ', 1);
+    if !script::lengths_for(kind, script::word(line, b' ', 3)) {
+        return s.unknown();
+    }
+    let Written::Length(n) = bytes_of(s, script::word(line, b' ', 4), run) else {
+        return s.unknown();
+    };
+    read_bytes(s, line, run, n, out)
+}
+
+fn narrow(n: u64) -> u32 {
+    (n % 4294967296) as u32
+}
+
+// The code of a call that a command is; NOTHING where it is none.
+fn call_code(command: u8) -> u64 {
+    if command == script::OPEN {
+        return call_list::OPEN;
+    }
+    if command == script::COVER {
+        return call_list::COVER;
+    }
+    if command == script::CONTAINS {
+        return call_list::CONTAINS;
+    }
+    if command == script::COVERS {
+        return call_list::COVERS;
+    }
+    if command == script::TAKE {
+        return call_list::TAKE;
+    }
+    if command == script::STATEMENT {
+        return call_list::STATEMENT;
+    }
+    if command == script::WRITE {
+        return call_list::WRITE;
+    }
+    if command == script::STATE {
+        return STATE;
+    }
+    NOTHING
+}
+
+fn command_line(s: Script, line: &[u8], run: &mut [u8], out: &mut [u8]) -> Script {
+    let command = script::command(line);
+    if command == script::UNKNOWN {
+        return s.unknown();
+    }
+    if command == script::SCRIPT {
+        return s.begins();
+    }
+    if command == script::RESTORE {
+        return restore_of(s, script::number(line, b' ', 1));
+    }
+    if command == script::RAWRESTORE {
+        return raw_restore_of(s, line, run);
+    }
+    if command == script::LEND {
+        return lend(s, line);
+    }
+    if command == script::VEIL {
+        return veil_line(s, line, run, out);
+    }
+    if command == script::READ {
+        return read_line(s, line, run, out);
+    }
+    let a = script::number(line, b' ', 1);
+    let b = script::number(line, b' ', 2);
+    s.asks(call_code(command), a, b, 0, 0)
+}
+
+// Lines that start so are passed over.
+fn is_passed(b: u8) -> bool {
+    if b == b'#' {
+        return true;
+    }
+    b == b'='
+}
+
+pub fn one_line(
+    s: Script,
+    line: &[u8],
+    run: &mut [u8],
+    places: &mut [u64],
+    out: &mut [u8],
+) -> Script {
+    let mut next = s.asks(NOTHING, 0, 0, 0, 0);
+    next.number = std::num::wrapping_add_u64(s.number, 1);
+    if 0 < next.left {
+        return restore_line(next, line, run, places);
+    }
+    if line.len() == 0 {
+        return next;
+    }
+    if is_passed(line[0]) {
+        return next;
+    }
+    command_line(next, line, run, out)
+}
