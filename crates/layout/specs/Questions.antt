@@ -1,4 +1,4 @@
--- The numbers of document 01's questions, by name: what is answered where the answer to the question is no.
+-- The numbers of the questions of documents 01 (1 to 44) and 02 (45 to 58), by name: what is answered where the answer to the question is no.
 -- `src/question.rt` has the same names for code. Assumes nothing.
 use Prim.Native.Nat.{ℕ}
 
@@ -177,3 +177,59 @@ BLOB = 43
 -- at most 61,440 blob bytes, 512 lines
 abbrev pub «SHEET_SIZE» : ℕ
 «SHEET_SIZE» = 44
+
+-- the object's epoch and kind
+abbrev pub OBJECT : ℕ
+OBJECT = 45
+
+-- chunk not empty, within the object; no count past it; progress at most what was sent
+abbrev pub «OBJECT_BOUNDS» : ℕ
+«OBJECT_BOUNDS» = 46
+
+-- chunk continues or repeats what is stored
+abbrev pub «CHUNK_FIT» : ℕ
+«CHUNK_FIT» = 47
+
+-- an S line with decimals within their widths
+abbrev pub «S_LINE» : ℕ
+«S_LINE» = 48
+
+-- sum at most 2^64 - 1
+abbrev pub SUM : ℕ
+SUM = 49
+
+-- peer_read at most sent_msgno
+abbrev pub «PEER_READ» : ℕ
+«PEER_READ» = 50
+
+-- slot below a version 4 next_slot
+abbrev pub «SLOT_BELOW_NEXT» : ℕ
+«SLOT_BELOW_NEXT» = 51
+
+-- next_slot not lost by a conversion back
+abbrev pub «SLOT_LOST» : ℕ
+«SLOT_LOST» = 52
+
+-- bounds of the window in order
+abbrev pub WINDOW : ℕ
+WINDOW = 53
+
+-- at most eight chains
+abbrev pub «CHAINS_COUNT» : ℕ
+«CHAINS_COUNT» = 54
+
+-- the ticket's change count is the present one
+abbrev pub TICKET : ℕ
+TICKET = 55
+
+-- change count below 2^64 - 1
+abbrev pub CHANGES : ℕ
+CHANGES = 56
+
+-- the caller has the right to this call
+abbrev pub RIGHTS : ℕ
+RIGHTS = 57
+
+-- a decimal from 0 to 12, and then LF
+abbrev pub RECORDS : ℕ
+RECORDS = 58

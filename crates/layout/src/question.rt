@@ -1,4 +1,4 @@
-// The numbers of document 01's questions, by name: what is answered where the answer to the question is no.
+// The numbers of the questions of documents 01 (1 to 44) and 02 (45 to 58), by name: what is answered where the answer to the question is no.
 // `specs/Questions.antt` has the same names for definitions; a contract that cites a definition fails where the two differ.
 
 // entry 0 a device, and every later kind 1 to 3 and not below the one before
@@ -89,3 +89,31 @@ pub const DECIMAL: u8 = 42;
 pub const BLOB: u8 = 43;
 // at most 61,440 blob bytes, 512 lines
 pub const SHEET_SIZE: u8 = 44;
+// the object's epoch and kind
+pub const OBJECT: u8 = 45;
+// chunk not empty, within the object; no count past it; progress at most what was sent
+pub const OBJECT_BOUNDS: u8 = 46;
+// chunk continues or repeats what is stored
+pub const CHUNK_FIT: u8 = 47;
+// an S line with decimals within their widths
+pub const S_LINE: u8 = 48;
+// sum at most 2^64 - 1
+pub const SUM: u8 = 49;
+// peer_read at most sent_msgno
+pub const PEER_READ: u8 = 50;
+// slot below a version 4 next_slot
+pub const SLOT_BELOW_NEXT: u8 = 51;
+// next_slot not lost by a conversion back
+pub const SLOT_LOST: u8 = 52;
+// bounds of the window in order
+pub const WINDOW: u8 = 53;
+// at most eight chains
+pub const CHAINS_COUNT: u8 = 54;
+// the ticket's change count is the present one
+pub const TICKET: u8 = 55;
+// change count below 2^64 - 1
+pub const CHANGES: u8 = 56;
+// the caller has the right to this call
+pub const RIGHTS: u8 = 57;
+// a decimal from 0 to 12, and then LF
+pub const RECORDS: u8 = 58;
