@@ -11,7 +11,8 @@
         s
     }
 
-START is 0 or a parameter, INIT a number, a bool or a parameter, and LIMIT a parameter or s itself. A config sets
+START is 0 or a parameter, INIT a number, a bool or a parameter, and LIMIT a parameter or s itself. A `&mut` slice among the
+parameters is lent to STEP again in each turn, for that call only. A config sets
     crate, fn   the function
     invariant   what holds before each turn, a type
     start       its proof before the first turn
@@ -24,7 +25,9 @@ START is 0 or a parameter, INIT a number, a bool or a parameter, and LIMIT a par
     names       other names for parameters, as in walkgen.py
 In `invariant` and `measure` {i} and {s} stand for the two variables; in the proofs too, of the turn's start, and {so} for the
 invariant's proof, {less} for i < LIMIT, {over} for LIMIT ≤ i, {next} for STEP's result and {told} for what STEP has ensured of it.
-A parameter has its own name, and `asks` is what the function requires.
+A parameter has its own name, and `asks` is what the function requires. Of a `&mut` slice NAME, `now NAME` is the list on entry,
+{NAME} in all of these the list before the turn, {long_NAME} the proof that it is as long as the one on entry, and {next_NAME}
+the list that STEP leaves.
 """
 import mir
 import walk
@@ -39,7 +42,7 @@ class Loop(walk.Walk):
         turn = mir.statements(block[1][1])
         self.counter, self.state, self.flag = begin.place, init.place, turn[0].place
         self.tests = [self.flag]
-        self.call = turn[2]
+        *lending, self.call, _ = turn[2:]
         self.step = self.callee(self.call.callee)
         self.i, self.s = self.source.lets[:2]
         self.held = dict(enumerate(self.params, 1))
@@ -47,12 +50,21 @@ class Loop(walk.Walk):
             self.held[local] = walk.Value(f"(t .{name})", function.locals[local], f"(t .in-{name})")
         self.begins = [(local, mir.operand(assign.value[1])) for local, assign in ((self.counter, begin), (self.state, init))]
         self.limit = mir.operand(turn[0].value[3])[1]
-        self.handed = [self.held[operand[1]] for operand in self.call.operands]
+        self.relents = [step for step in map(self.lent_by, lending) if step]
+        self.rooms = [local for step in self.relents for local in (step.pointer, step.place)]
+        again = {step.place: walk.Again(self.held[step.lent]) for step in self.relents}
+        self.lent = list(again.values())
+        self.handed = [{**self.held, **again}[operand[1]] for operand in self.call.operands]
+        self.kept = [param for param in self.slices if param.is_mut]
+
+    def param(self, name, type_):
+        return walk.Kept(name, type_) if isinstance(type_, mir.Slice) and type_.mutable else super().param(name, type_)
 
     def at_turn(self, key, default=None, **more):
         """A term of the config at the turn t."""
         text = self.config.get(key, default)
-        return text.format(i=self.held[self.counter].name, s=self.held[self.state].name, so="(t .so)", **more)
+        lists = {param.name: param.now for param in self.kept} | {f"long_{param.name}": param.fits for param in self.kept}
+        return text.format(i=self.held[self.counter].name, s=self.held[self.state].name, so="(t .so)", **lists, **more)
 
     @property
     def less(self):
@@ -71,7 +83,10 @@ class Loop(walk.Walk):
         self.head()
         self.over_params()
         self.turn_record()
-        self.line(f"    abbrev to : Turn → {self.step.its} .Ghost", f"    to t = {self.ghost(self.handed)}", "")
+        made = [pair for value in self.lent for pair in value.made]
+        binders = "".join(f"({name} : {type_}) → " for name, type_ in made)
+        self.to = " ".join(["to t", *[name for name, _ in made]])
+        self.line(f"    abbrev to : Turn → {binders}{self.step.its} .Ghost", f"    {self.to} = {self.ghost(self.handed)}", "")
         self.over_tables()
         self.over_locals()
         self.starts()
@@ -89,17 +104,24 @@ class Loop(walk.Walk):
         variables = [walk.Value(name, self.function.locals[local]) for name, local in ((self.i, self.counter), (self.s, self.state))]
         self.line("    -- the variables before a turn, and what is known of them", "    record Turn : Type 0 where")
         self.line(*[f"      {value.name} : {walk.denoted(value.type)}" for value in variables])
+        self.line(*[f"      at-{param.name} : List {walk.denoted(param.type.element)}" for param in self.kept])
         self.line(*[f"      in-{value.name} : {value.relation}" for value in variables])
-        self.line(f"      so : {self.config['invariant'].format(i=self.i, s=self.s)}", "")
+        self.line(*[f"      long-{param.name} : length at-{param.name} ≡ length (now {param.name})" for param in self.kept])
+        self.line(f"      so : {self.config['invariant'].format(i=self.i, s=self.s, **{param.name: f'at-{param.name}' for param in self.kept})}", "")
         starts = [self.start_of(operand)[1] for _, operand in self.begins]
+        lists = [(f"now {param.name}", "refl") for param in self.kept]
         self.line("    abbrev first-turn : Turn")
-        self.line(f"    first-turn = {self.turn(starts[0].name, starts[1].name, starts[0].proof, starts[1].proof, self.config['start'])}", "")
+        self.line(f"    first-turn = {self.turn([value.name for value in starts], [value.proof for value in starts], lists, self.config['start'])}", "")
         self.line("    abbrev far : Turn → ℕ", f"    far t = {self.at_turn('measure', self.held[self.limit].name + ' - {i}')}", "")
         self.line("    abbrev Nearer : Turn → Turn → Type 0", "    Nearer s t = far s < far t", "")
         self.line("    Nearer-wf : WellFounded Nearer", "    Nearer-wf = InvImage·wf far (Nat·lt-wfRel .wf)", "")
 
-    def turn(self, i, s, in_i, in_s, so):
-        return f"record {{ {self.i} = {i}; {self.s} = {s}; in-{self.i} = {in_i}; in-{self.s} = {in_s}; so = {so} }}"
+    def turn(self, values, proofs, lists, so):
+        """The turn with these values of the two variables and the proofs of how they lie, and of each `&mut` slice the list and the proof that it is as long as the first."""
+        names, kept = (self.i, self.s), [param.name for param in self.kept]
+        fields = [*zip(names, values), *[(f"at-{name}", list_) for name, (list_, _) in zip(kept, lists)]]
+        fields += [*[(f"in-{name}", proof) for name, proof in zip(names, proofs)], *[(f"long-{name}", long) for name, (_, long) in zip(kept, lists)], ("so", so)]
+        return f"record {{ {'; '.join(f'{name} = {term}' for name, term in fields)} }}"
 
     def over_locals(self):
         """The module over the locals' places: the context before a turn, one turn, and the loop."""
@@ -122,7 +144,7 @@ class Loop(walk.Walk):
             value = self.held.get(number)
             text = f"holds {type_} {local} ({value.value}) {walk.atom(text)}" if value else f"empty {type_} {local} {walk.atom(text)}"
         lent = [f"‵ (flft {lft} {share})" for lft, share in zip(self.lfts, self.shares)]
-        lent += [f"‵ ({param.row} .own {param.name} (slice-vals {param.name}))" for param in self.slices]
+        lent += [f"‵ ({param.row} .own {f'(at-list {param.name} {param.now})' if param.is_mut else param.name} (slice-vals {param.name}))" for param in self.slices]
         return walk.cons(lent, text)
 
     def one_turn(self, rest):
@@ -139,7 +161,7 @@ class Loop(walk.Walk):
         over = f"(nltb→le {i.name} {limit.name} over)"
         lines.append(f"(λ over. jumps ! $ exec ! C Λ En {rest} (atRet En (This .post bound)) $")
         lines.append(f"assigns ! (of-opd ! ({self.read(left, self.state)})) (into !) (init ! {left.at('_0')} refl {s.typed}) $ returns ! (look ! {left.at('_0')} refl) $")
-        lines += self.leaving(left, s, self.at_turn("ends", over=over), {})
+        lines += self.leaving(left, s, self.at_turn("ends", over=over), {param.name: param.now for param in self.kept}, self.rooms)
         lines[-1] += ")"
         self.line("        one-turn : (t : Turn) → Sq W (Before t) (runs C Λ En steps.turn-1 (anyQ (Turned t)))", "        unfolding afterTurn", "        one-turn t =")
         self.line(*[f"            {line}" for line in lines], "          where")
@@ -148,24 +170,60 @@ class Loop(walk.Walk):
     def goes_on(self, context):
         """The arm in which the turn is made: the call, the next number, and the invariant again."""
         i, order = self.held[self.counter], list(context.names)
-        steps, tokens = self.hand(context, self.handed)
+        lines = ["(λ less. skips ! $ exec ! C Λ En (rest-of (rest-of steps.turn-1)) (anyQ (Turned t)) $"]
+        for step in self.relents:
+            lines += self.relent(step, context)
+        lines += self.lending(context)
         next_ = walk.Value("next", self.function.locals[self.state])
-        asked = f"(factI 𝓤 _ (emp 𝓤) {walk.atom(self.at_turn('requires', less=self.less))})" if "requires" in self.config else "(id⊢ 𝓤 _)"
-        lines = [
-            "(λ less. skips ! $ exec ! C Λ En (rest-of (rest-of steps.turn-1)) (anyQ (Turned t)) $",
-            steps,
-            f"calls-held ! fm {self.step.alias}.ended {self.step.clauses} (known .{self.step.alias}) (to t) {asked} {walk.held(next_.type)} (λ r ws. id⊢ 𝓤 _)",
-            f"{self.operands(context, self.call.operands)} (λ next told in-next.",
-        ]
-        context.replace_front(1, tokens)
+        lines += self.called(context, next_)
+        lasts = {}
+        opened = self.settle_lasts("next", self.handed, context, lines, lasts) + 2 * len(self.lent)
         lines.append(f"land ! (into !) (store ! {context.at(f'_{self.state}')} refl {next_.typed}) $")
+        lines += self.taking_back(context, lasts)
         place, fits = context.at(f"_{self.counter}"), f"record {{ fits = fits {self.less} }}"
         lines.append(f"assigns-last ! (bin ! ({self.read(context, self.counter)}) (lit ! tt) ({fits})) (into !) (store ! {place} refl (tt, {fits})) $")
-        so = self.at_turn("next", less=self.less, next="next", told="told")
-        nearer = self.at_turn("nearer", f"add-one-dec {self.held[self.limit].name} {{i}} {{less}}", less=self.less, next="next", told="told")
-        turn = self.turn(f"{i.name} + 1", "next", f"(refl, fits {self.less})", "in-next", so)
-        forgets = f"forget ! {context.at(f'_{self.flag}')} refl $ "
-        lines.append(f"{forgets}{context.to_front(order)}again ! Nearer Before t ({turn}) ({nearer})))")
+        known = {"less": self.less, "next": "next", "told": "told"} | {f"next_{name}": last for name, last in lasts.items()}
+        nearer = self.at_turn("nearer", f"add-one-dec {self.held[self.limit].name} {{i}} {{less}}", **known)
+        lists = [(lasts[param.name], f"fits-{param.name} ∙ {param.fits}") if param.name in lasts else (param.now, param.fits) for param in self.kept]
+        turn = self.turn([f"{i.name} + 1", "next"], [f"(refl, fits {self.less})", "in-next"], lists, self.at_turn("next", **known))
+        forgets = "".join(f"forget ! {context.at(f'_{local}')} refl $ " for local in [self.flag, *self.rooms])
+        lines.append(f"{forgets}{context.reordered(order)}again ! Nearer Before t ({turn}) ({nearer})))" + ")" * opened)
+        return lines
+
+    def called(self, context, next_):
+        """The call of a turn."""
+        steps, tokens = self.hand(context, self.handed)
+        asked = f"(factI 𝓤 _ (emp 𝓤) {walk.atom(self.at_turn('requires', less=self.less))})" if "requires" in self.config else "(id⊢ 𝓤 _)"
+        call, last = ("calls-lent", " ws-next") if self.lent else ("calls-held", "")
+        lines = [
+            steps,
+            f"{call} ! fm {self.step.alias}.ended {self.step.clauses} (known .{self.step.alias}) ({self.to}) {asked} {walk.held(next_.type)} (λ r ws. id⊢ 𝓤 _)",
+            f"{self.operands(context, self.call.operands)} (λ next{last} told in-next.",
+        ]
+        context.replace_front(1, [*tokens, "lasts"] if self.lent else tokens)
+        return lines
+
+    # ---- `&mut` slices that are lent again
+    def lending(self, context):
+        """The steps by which they are lent for the call, each for a lifetime of its own."""
+        lines = []
+        for value in self.lent:
+            context.names.insert(0, value.token)
+            front = context.to_front([value.lender.owned, value.lender.token])
+            context.replace_front(2, [value.owned, value.kept])
+            lines.append(f"lft-new ! tt (λ {value.lifetime_made}. {front}lends-again ! tt {value.loan} {value.lender.fits} (λ {value.name_made}.")
+        return lines
+
+    def taking_back(self, context, lasts):
+        """The steps by which they come back, with the lists that the call has left."""
+        lines = []
+        for value in self.lent:
+            lender, last = value.lender, f"last {value.label}"
+            steps = context.to_front([value.token]) + "lft-end ! tt $ "
+            context.replace_front(1, [value.dead])
+            steps += context.to_front([value.dead, value.kept, last])
+            context.replace_front(3, [lender.owned, lender.token])
+            lines.append(f"{steps}comes-back ! tt {value.loan} {lasts[value.label]} {value.name_made} (fits-{value.label} ∙ {lender.fits}) $")
         return lines
 
 

@@ -42,8 +42,15 @@ class Slice:
 
 
 @dataclass(frozen=True)
+class Pointer:
+    """A reference to one value, as MIR has it of a slice that is lent on; its lifetime is left out."""
+    element: object
+    mutable: bool
+
+
+@dataclass(frozen=True)
 class Other:
-    """A type that no walk here names, as a pointer."""
+    """A type that no walk here names."""
     text: str
 
 
@@ -73,7 +80,7 @@ class Function:
 
 
 def parsed(text):
-    """The S-expressions of a text, as lists of words."""
+    """The S-expressions of a text, as lists of words, up to its end or to a bracket that nothing opens."""
     words = re.findall(r'"[^"]*"|[()]|[^\s()]+', text)
     stack = [[]]
     for word in words:
@@ -81,6 +88,8 @@ def parsed(text):
             stack.append([])
         elif word == ")":
             done = stack.pop()
+            if not stack:
+                return done
             stack[-1].append(done)
         else:
             stack[-1].append(word)
@@ -118,6 +127,8 @@ def type_of(term, kinds):
         ref = items(term[2])[0]
         lifetime = int(ref[1][1]) if isinstance(ref[1], list) else None
         return Slice(type_of(ref[3], kinds), ref[2] == "mut", lifetime)
+    if term[0] == "tyRef":
+        return Pointer(type_of(term[3], kinds), term[2] == "mut")
     return Other(str(term))
 
 
@@ -143,18 +154,19 @@ def operand(term):
     return ("other", str(term))
 
 
-def functions(text):
-    """Every function of a program, by its path."""
-    found = {}
-    for definition in items(parsed(text)[1]):
-        path = unquoted(definition[1])
-        crate, name = path.split("::", 1)
-        item = definition[2]
-        table = items(definition[3]) if len(definition) > 3 else []
-        kinds = {unquoted(row[1]): "enum" if row[2][0] == "variants" else "struct" for row in table}
-        locals_ = [type_of(local[1], kinds) for local in items(item[4])]
-        found[path] = Function(crate, name, int(item[1]), int(item[3]), locals_, statements(item[5]))
-    return found
+def function(text, path):
+    """The function of that path, of a program's MIR; None if it has none. Only this function is parsed: a program is large."""
+    begin = text.find(f'(fn-def "{path}"')
+    if begin < 0:
+        return None
+    end = text.find(' (lcons (fn-def "', begin)
+    definition = parsed(text[begin:end] if end >= 0 else text[begin:])[0]
+    crate, name = path.split("::", 1)
+    item = definition[2]
+    table = items(definition[3]) if len(definition) > 3 else []
+    kinds = {unquoted(row[1]): "enum" if row[2][0] == "variants" else "struct" for row in table}
+    locals_ = [type_of(local[1], kinds) for local in items(item[4])]
+    return Function(crate, name, int(item[1]), int(item[3]), locals_, statements(item[5]))
 
 
 # ---- the source

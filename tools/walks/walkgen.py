@@ -40,14 +40,6 @@ class Called:
 
 
 @dataclass
-class Relent:
-    """A `&mut` slice that is lent on: MIR takes its parts, and puts them together in another local."""
-    lent: int
-    pointer: int
-    place: int
-
-
-@dataclass
 class Copied:
     """A table that is copied whole to another local."""
     source: int
@@ -70,7 +62,6 @@ class Line(walk.Walk):
         super().__init__(config, function)
         self.held = dict(enumerate(self.params, 1))
         self.steps = []
-        self.pointers = {}
         names = iter(self.source.lets)
         for statement in function.body:
             if isinstance(statement, mir.Call):
@@ -99,25 +90,25 @@ class Line(walk.Walk):
 
     def relend(self, statement):
         kind, value = statement.value[0], statement.value[1]
-        if kind == "addrOf":
-            self.pointers[statement.place] = int(value[1])
-        elif kind == "aggregate":
-            pointer = int(mir.items(value)[0][1][1])
-            lent = self.pointers[pointer]
-            if isinstance(self.function.locals[lent], mir.Array):
-                count = int(mir.items(value)[1][1][1])
-                self.held[statement.place] = walk.First(self.held[lent], self.config["lends"][self.held[lent].name][0], lent)
-                self.steps.append(Fronted(lent, pointer, count, statement.place))
-                return
-            again = self.function.locals[statement.place].mutable
-            self.held[statement.place] = self.held[lent] if again else walk.Lent(self.held[lent])
-            self.steps.append(Relent(lent, pointer, statement.place))
+        if kind in ("addrOf", "aggregate"):
+            step = self.lent_by(statement)
+            if step:
+                self.steps.append(self.lends_on(step, value))
         elif kind == "rvOpd" and isinstance(self.function.locals[statement.place], mir.Array):
             source = mir.operand(value)[1]
             self.held[statement.place] = self.held[source]
             self.steps.append(Copied(source, statement.place))
         else:
             raise SystemExit(f"a statement of another form: {statement}")
+
+    def lends_on(self, step, parts):
+        """The step, with what its place holds then: a table's first elements, or a slice, as `&mut` or as `&`."""
+        lender = self.held[step.lent]
+        if isinstance(lender.type, mir.Array):
+            self.held[step.place] = walk.First(lender, self.config["lends"][lender.name][0], step.lent)
+            return Fronted(step.lent, step.pointer, int(mir.items(parts)[1][1][1]), step.place)
+        self.held[step.place] = lender if self.function.locals[step.place].mutable else walk.Lent(lender)
+        return step
 
     # ---- the proof
     def proof(self):
@@ -133,7 +124,7 @@ class Line(walk.Walk):
         lines, context = self.entering()
         lasts, opened = {}, len(self.locals)
         for step in self.steps:
-            if isinstance(step, Relent):
+            if isinstance(step, walk.Relent):
                 lines += self.relent(step, context)
             elif isinstance(step, Copied):
                 lines.append(self.copied(step, context))
@@ -142,7 +133,7 @@ class Line(walk.Walk):
             else:
                 lines += self.lending(step, context)
                 lines += self.called(step, context)
-                opened += 1 + sum(self.opened(value) for value in step.lent) + self.settle_lasts(step, context, lines, lasts)
+                opened += 1 + sum(self.opened(value) for value in step.lent) + self.settle_lasts(step.result.name, step.handed, context, lines, lasts)
                 lines.append(f"land ! (into !) (init ! {context.at(f'_{step.statement.result}')} refl {step.result.typed}) $")
                 lines += self.taking_back(step, context)
         lines.append(f"returns ! (look ! {context.at('_0')} refl) $")
@@ -228,38 +219,6 @@ class Line(walk.Walk):
             f"assigns ! (addr ! (into !)) (into !) (init ! {pointer} refl (tt, tt)) $",
             f"assigns ! (agg ! (and-then ! ({self.read(context, step.pointer)}) (and-then ! ({self.read(context, step.count)}) (no-more !)))) (into !) (init ! {place} refl (tt, (tt, (record {{ fits = {count.proof} .1 }}, tt)))) $",
             f"rewrite ! {place} (λ (m : ℕ). ‵ ({held})) ({self.config['lends'][lent.lender.name][1]}) refl $",
-        ]
-
-    def settle_lasts(self, call, context, lines, lasts):
-        """What a call with a `&mut` says of its last values, taken apart. How many parentheses that opens."""
-        if "lasts" not in context.names:
-            return 0
-        steps, opened = "", 0
-        for number, value in enumerate(call.handed):
-            steps += context.to_front(["lasts"]) + "fsplit ! $ "
-            context.replace_front(1, ["one", "lasts"])
-            if value.is_mut:
-                steps += "fsplit ! $ "
-                context.replace_front(1, [f"last {value.name}", "long"])
-                steps += context.to_front(["long"]) + f"feqL ! (λ fits-{value.name}. "
-                context.replace_front(1, [])
-                lasts[value.name] = f"(ws-{call.result.name}{walk.part(number)})"
-                opened += 1
-            else:
-                steps += "drop ! $ "
-                context.replace_front(1, [])
-        lines.append(steps + context.to_front(["lasts"]) + "drop ! $")
-        context.replace_front(1, [])
-        return opened
-
-    def relent(self, step, context):
-        """The steps by which a `&mut` slice is lent on: its pointer, and then its two parts."""
-        lent, pointer, place = (context.at(f"_{local}") for local in (step.lent, step.pointer, step.place))
-        count = f"load ! (from ! (fld ! refl (stop !))) (look-in ! {lent} (sub ! 1 refl (whole !)))"
-        fits = f"(tt, (tt, (record {{ fits = {self.held[step.lent].proof} .0 .1 .0 }}, tt)))"
-        return [
-            f"assigns ! (addr ! (from ! (fld ! refl (hop ! (look-in ! {lent} (sub ! 0 refl (whole !))) (stop !))))) (into !) (init ! {pointer} refl (tt, tt)) $",
-            f"assigns ! (agg ! (and-then ! ({self.read(context, step.pointer)}) (and-then ! ({count}) (no-more !)))) (into !) (init ! {place} refl {fits}) $",
         ]
 
 

@@ -1,11 +1,12 @@
-// Entries as a lent slice of structs: one is copied out by value, and one is looked for. Everything else takes an entry by value.
+// Entries as a lent slice of structs: one is copied out by value, one is stored, and one is looked for. Everything else takes an entry by value.
 use store::Entry;
 use store::Wanted;
 ghost use mathlib.Core.Path.{_≡_};
 ghost use Prim.Native.Nat.{_-_, _≤_, _<_};
-ghost use lib.ListN.{length};
+ghost use lib.ListN.{length, set};
 ghost use Rattle.store.specs.Store.{entryAt};
 ghost use Rattle.store.specs.Find.{isWanted, narrowedTo, firstOf};
+ghost use Rattle.entries.specs.Next.{nextIn};
 
 pub fn entry_at(entries: &[Entry], i: usize) -> Entry
     requires { ⌜ i < length (now entries) ⌝ }
@@ -18,6 +19,17 @@ pub fn entry_count(entries: &[Entry]) -> usize
     ensures { λ r. ⌜ r ≡ length (now (entries .entry)) ⌝ }
 {
     entries.len()
+}
+
+// Stores an entry at an index, and answers the next index; an index past the end changes nothing, and is answered itself.
+pub fn set_entry(entries: &mut [Entry], i: usize, e: Entry) -> usize
+    ensures { λ r. ⌜ (r ≡ nextIn (now (entries .entry)) i) × (now (entries .exit) ≡ set (now (entries .entry)) i e) ⌝ }
+{
+    if i < entries.len() {
+        entries[i] = e;
+        return i + 1;
+    }
+    i
 }
 
 fn is_wanted(e: Entry, wanted: Wanted) -> bool
