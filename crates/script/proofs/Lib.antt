@@ -1,3 +1,4 @@
+mod Table
 mod Words
 mod Numbers
 pub mod Pairs

@@ -1,203 +1,164 @@
--- Lines of scripts, by computation: each command, and lines at the edges of what is one. The text of each stands before it.
+-- Lines of scripts, by computation: each command, and lines at the edges of what is one.
 -- Assumes nothing.
-use mathlib.Core.List.{[], _∷_}
 use mathlib.Core.Bool.{true, false}
 use mathlib.Core.Path.{_≡_, refl}
 use Rattle.sheet.specs.Decimal as decimals
 use Rattle.sheet.specs.Sheet as sheet
 use Rattle.store.specs.Kinds.{DEVICE, CONTACT}
 use Rattle.script.specs.Script as script
-use Rattle.script.specs.Script.{UNKNOWN, SCRIPT, RESTORE, RAWRESTORE, LEND, OPEN, COVER, CONTAINS, COVERS, TAKE, STATEMENT, WRITE, VEIL, READ, STATE, commandOf, isEntry, lengthsFor}
+use Rattle.script.specs.Script.{UNKNOWN, SCRIPT, RESTORE, RAWRESTORE, LEND, OPEN, COVER, CONTAINS, COVERS, TAKE, STATEMENT, WRITE, VEIL, READ, STATE, bytes, commandOf, isEntry, lengthsFor}
 
 -- ---- commands
--- script 1
-a-script : commandOf (0x73 ∷ 0x63 ∷ 0x72 ∷ 0x69 ∷ 0x70 ∷ 0x74 ∷ 0x20 ∷ 0x31 ∷ []) ≡ SCRIPT
+a-script : commandOf (bytes "script 1") ≡ SCRIPT
 unfolding sheet.parted decimals.decimalIn script.same script.codeFrom script.decimalsFrom
 a-script = refl
 
--- restore 4
-a-restore : commandOf (0x72 ∷ 0x65 ∷ 0x73 ∷ 0x74 ∷ 0x6F ∷ 0x72 ∷ 0x65 ∷ 0x20 ∷ 0x34 ∷ []) ≡ RESTORE
+a-restore : commandOf (bytes "restore 4") ≡ RESTORE
 unfolding sheet.parted decimals.decimalIn script.same script.codeFrom script.decimalsFrom
 a-restore = refl
 
--- rawrestore 0 -
-a-raw-restore : commandOf (0x72 ∷ 0x61 ∷ 0x77 ∷ 0x72 ∷ 0x65 ∷ 0x73 ∷ 0x74 ∷ 0x6F ∷ 0x72 ∷ 0x65 ∷ 0x20 ∷ 0x30 ∷ 0x20 ∷ 0x2D ∷ []) ≡ RAWRESTORE
+a-raw-restore : commandOf (bytes "rawrestore 0 -") ≡ RAWRESTORE
 unfolding sheet.parted decimals.decimalIn script.same script.codeFrom script.decimalsFrom
 a-raw-restore = refl
 
--- lend 0 0 1 1 1 100
-a-lend : commandOf (0x6C ∷ 0x65 ∷ 0x6E ∷ 0x64 ∷ 0x20 ∷ 0x30 ∷ 0x20 ∷ 0x30 ∷ 0x20 ∷ 0x31 ∷ 0x20 ∷ 0x31 ∷ 0x20 ∷ 0x31 ∷ 0x20 ∷ 0x31 ∷ 0x30 ∷ 0x30 ∷ []) ≡ LEND
+a-lend : commandOf (bytes "lend 0 0 1 1 1 100") ≡ LEND
 unfolding sheet.parted decimals.decimalIn script.same script.codeFrom script.decimalsFrom
 a-lend = refl
 
--- open 18446744073709551615
-an-open : commandOf (0x6F ∷ 0x70 ∷ 0x65 ∷ 0x6E ∷ 0x20 ∷ 0x31 ∷ 0x38 ∷ 0x34 ∷ 0x34 ∷ 0x36 ∷ 0x37 ∷ 0x34 ∷ 0x34 ∷ 0x30 ∷ 0x37 ∷ 0x33 ∷ 0x37 ∷ 0x30 ∷ 0x39 ∷ 0x35 ∷ 0x35 ∷ 0x31 ∷ 0x36 ∷ 0x31 ∷ 0x35 ∷ []) ≡ OPEN
+an-open : commandOf (bytes "open 18446744073709551615") ≡ OPEN
 unfolding sheet.parted decimals.decimalIn script.same script.codeFrom script.decimalsFrom
 an-open = refl
 
--- cover 6 9
-a-cover : commandOf (0x63 ∷ 0x6F ∷ 0x76 ∷ 0x65 ∷ 0x72 ∷ 0x20 ∷ 0x36 ∷ 0x20 ∷ 0x39 ∷ []) ≡ COVER
+a-cover : commandOf (bytes "cover 6 9") ≡ COVER
 unfolding sheet.parted decimals.decimalIn script.same script.codeFrom script.decimalsFrom
 a-cover = refl
 
--- contains 4294967295
-a-contains : commandOf (0x63 ∷ 0x6F ∷ 0x6E ∷ 0x74 ∷ 0x61 ∷ 0x69 ∷ 0x6E ∷ 0x73 ∷ 0x20 ∷ 0x34 ∷ 0x32 ∷ 0x39 ∷ 0x34 ∷ 0x39 ∷ 0x36 ∷ 0x37 ∷ 0x32 ∷ 0x39 ∷ 0x35 ∷ []) ≡ CONTAINS
+a-contains : commandOf (bytes "contains 4294967295") ≡ CONTAINS
 unfolding sheet.parted decimals.decimalIn script.same script.codeFrom script.decimalsFrom
 a-contains = refl
 
--- covers 1 2
-a-covers : commandOf (0x63 ∷ 0x6F ∷ 0x76 ∷ 0x65 ∷ 0x72 ∷ 0x73 ∷ 0x20 ∷ 0x31 ∷ 0x20 ∷ 0x32 ∷ []) ≡ COVERS
+a-covers : commandOf (bytes "covers 1 2") ≡ COVERS
 unfolding sheet.parted decimals.decimalIn script.same script.codeFrom script.decimalsFrom
 a-covers = refl
 
--- take
-a-take : commandOf (0x74 ∷ 0x61 ∷ 0x6B ∷ 0x65 ∷ []) ≡ TAKE
+a-take : commandOf (bytes "take") ≡ TAKE
 unfolding sheet.parted decimals.decimalIn script.same script.codeFrom script.decimalsFrom
 a-take = refl
 
--- statement
-a-statement : commandOf (0x73 ∷ 0x74 ∷ 0x61 ∷ 0x74 ∷ 0x65 ∷ 0x6D ∷ 0x65 ∷ 0x6E ∷ 0x74 ∷ []) ≡ STATEMENT
+a-statement : commandOf (bytes "statement") ≡ STATEMENT
 unfolding sheet.parted decimals.decimalIn script.same script.codeFrom script.decimalsFrom
 a-statement = refl
 
--- write
-a-write : commandOf (0x77 ∷ 0x72 ∷ 0x69 ∷ 0x74 ∷ 0x65 ∷ []) ≡ WRITE
+a-write : commandOf (bytes "write") ≡ WRITE
 unfolding sheet.parted decimals.decimalIn script.same script.codeFrom script.decimalsFrom
 a-write = refl
 
--- veil 0 3 100 0a
-a-veil : commandOf (0x76 ∷ 0x65 ∷ 0x69 ∷ 0x6C ∷ 0x20 ∷ 0x30 ∷ 0x20 ∷ 0x33 ∷ 0x20 ∷ 0x31 ∷ 0x30 ∷ 0x30 ∷ 0x20 ∷ 0x30 ∷ 0x61 ∷ []) ≡ VEIL
+a-veil : commandOf (bytes "veil 0 3 100 0a") ≡ VEIL
 unfolding sheet.parted decimals.decimalIn script.same script.codeFrom script.decimalsFrom
 a-veil = refl
 
--- read 1 3 0,0,1,1,1 -
-a-read : commandOf (0x72 ∷ 0x65 ∷ 0x61 ∷ 0x64 ∷ 0x20 ∷ 0x31 ∷ 0x20 ∷ 0x33 ∷ 0x20 ∷ 0x30 ∷ 0x2C ∷ 0x30 ∷ 0x2C ∷ 0x31 ∷ 0x2C ∷ 0x31 ∷ 0x2C ∷ 0x31 ∷ 0x20 ∷ 0x2D ∷ []) ≡ READ
+a-read : commandOf (bytes "read 1 3 0,0,1,1,1 -") ≡ READ
 unfolding sheet.parted decimals.decimalIn script.same script.codeFrom script.decimalsFrom
 a-read = refl
 
--- state
-a-state : commandOf (0x73 ∷ 0x74 ∷ 0x61 ∷ 0x74 ∷ 0x65 ∷ []) ≡ STATE
+a-state : commandOf (bytes "state") ≡ STATE
 unfolding sheet.parted decimals.decimalIn script.same script.codeFrom script.decimalsFrom
 a-state = refl
 
 -- ---- no commands
--- `fly`
-no-command : commandOf (0x66 ∷ 0x6C ∷ 0x79 ∷ []) ≡ UNKNOWN
+no-command : commandOf (bytes "fly") ≡ UNKNOWN
 unfolding sheet.parted decimals.decimalIn script.same script.codeFrom script.decimalsFrom
 no-command = refl
 
--- ``
-nothing : commandOf ([]) ≡ UNKNOWN
+nothing : commandOf (bytes "") ≡ UNKNOWN
 unfolding sheet.parted decimals.decimalIn script.same script.codeFrom script.decimalsFrom
 nothing = refl
 
--- `Take`
-capital : commandOf (0x54 ∷ 0x61 ∷ 0x6B ∷ 0x65 ∷ []) ≡ UNKNOWN
+capital : commandOf (bytes "Take") ≡ UNKNOWN
 unfolding sheet.parted decimals.decimalIn script.same script.codeFrom script.decimalsFrom
 capital = refl
 
--- `open`
-no-number : commandOf (0x6F ∷ 0x70 ∷ 0x65 ∷ 0x6E ∷ []) ≡ UNKNOWN
+no-number : commandOf (bytes "open") ≡ UNKNOWN
 unfolding sheet.parted decimals.decimalIn script.same script.codeFrom script.decimalsFrom
 no-number = refl
 
--- `open 1 2`
-one-more : commandOf (0x6F ∷ 0x70 ∷ 0x65 ∷ 0x6E ∷ 0x20 ∷ 0x31 ∷ 0x20 ∷ 0x32 ∷ []) ≡ UNKNOWN
+one-more : commandOf (bytes "open 1 2") ≡ UNKNOWN
 unfolding sheet.parted decimals.decimalIn script.same script.codeFrom script.decimalsFrom
 one-more = refl
 
--- `cover 1`
-one-less : commandOf (0x63 ∷ 0x6F ∷ 0x76 ∷ 0x65 ∷ 0x72 ∷ 0x20 ∷ 0x31 ∷ []) ≡ UNKNOWN
+one-less : commandOf (bytes "cover 1") ≡ UNKNOWN
 unfolding sheet.parted decimals.decimalIn script.same script.codeFrom script.decimalsFrom
 one-less = refl
 
--- `lend 1 2 3 4 5`
-five-lengths : commandOf (0x6C ∷ 0x65 ∷ 0x6E ∷ 0x64 ∷ 0x20 ∷ 0x31 ∷ 0x20 ∷ 0x32 ∷ 0x20 ∷ 0x33 ∷ 0x20 ∷ 0x34 ∷ 0x20 ∷ 0x35 ∷ []) ≡ UNKNOWN
+five-lengths : commandOf (bytes "lend 1 2 3 4 5") ≡ UNKNOWN
 unfolding sheet.parted decimals.decimalIn script.same script.codeFrom script.decimalsFrom
 five-lengths = refl
 
--- `open 01`
-leading-zero : commandOf (0x6F ∷ 0x70 ∷ 0x65 ∷ 0x6E ∷ 0x20 ∷ 0x30 ∷ 0x31 ∷ []) ≡ UNKNOWN
+leading-zero : commandOf (bytes "open 01") ≡ UNKNOWN
 unfolding sheet.parted decimals.decimalIn script.same script.codeFrom script.decimalsFrom
 leading-zero = refl
 
--- `open x`
-no-digit : commandOf (0x6F ∷ 0x70 ∷ 0x65 ∷ 0x6E ∷ 0x20 ∷ 0x78 ∷ []) ≡ UNKNOWN
+no-digit : commandOf (bytes "open x") ≡ UNKNOWN
 unfolding sheet.parted decimals.decimalIn script.same script.codeFrom script.decimalsFrom
 no-digit = refl
 
--- `open 18446744073709551616`
-wide : commandOf (0x6F ∷ 0x70 ∷ 0x65 ∷ 0x6E ∷ 0x20 ∷ 0x31 ∷ 0x38 ∷ 0x34 ∷ 0x34 ∷ 0x36 ∷ 0x37 ∷ 0x34 ∷ 0x34 ∷ 0x30 ∷ 0x37 ∷ 0x33 ∷ 0x37 ∷ 0x30 ∷ 0x39 ∷ 0x35 ∷ 0x35 ∷ 0x31 ∷ 0x36 ∷ 0x31 ∷ 0x36 ∷ []) ≡ UNKNOWN
+wide : commandOf (bytes "open 18446744073709551616") ≡ UNKNOWN
 unfolding sheet.parted decimals.decimalIn script.same script.codeFrom script.decimalsFrom
 wide = refl
 
--- `contains 4294967296`
-wide-msgno : commandOf (0x63 ∷ 0x6F ∷ 0x6E ∷ 0x74 ∷ 0x61 ∷ 0x69 ∷ 0x6E ∷ 0x73 ∷ 0x20 ∷ 0x34 ∷ 0x32 ∷ 0x39 ∷ 0x34 ∷ 0x39 ∷ 0x36 ∷ 0x37 ∷ 0x32 ∷ 0x39 ∷ 0x36 ∷ []) ≡ UNKNOWN
+wide-msgno : commandOf (bytes "contains 4294967296") ≡ UNKNOWN
 unfolding sheet.parted decimals.decimalIn script.same script.codeFrom script.decimalsFrom
 wide-msgno = refl
 
--- `take 1`
-a-word-more : commandOf (0x74 ∷ 0x61 ∷ 0x6B ∷ 0x65 ∷ 0x20 ∷ 0x31 ∷ []) ≡ UNKNOWN
+a-word-more : commandOf (bytes "take 1") ≡ UNKNOWN
 unfolding sheet.parted decimals.decimalIn script.same script.codeFrom script.decimalsFrom
 a-word-more = refl
 
--- `take `
-space-behind : commandOf (0x74 ∷ 0x61 ∷ 0x6B ∷ 0x65 ∷ 0x20 ∷ []) ≡ UNKNOWN
+space-behind : commandOf (bytes "take ") ≡ UNKNOWN
 unfolding sheet.parted decimals.decimalIn script.same script.codeFrom script.decimalsFrom
 space-behind = refl
 
--- ` take`
-space-before : commandOf (0x20 ∷ 0x74 ∷ 0x61 ∷ 0x6B ∷ 0x65 ∷ []) ≡ UNKNOWN
+space-before : commandOf (bytes " take") ≡ UNKNOWN
 unfolding sheet.parted decimals.decimalIn script.same script.codeFrom script.decimalsFrom
 space-before = refl
 
--- `open  1`
-two-spaces : commandOf (0x6F ∷ 0x70 ∷ 0x65 ∷ 0x6E ∷ 0x20 ∷ 0x20 ∷ 0x31 ∷ []) ≡ UNKNOWN
+two-spaces : commandOf (bytes "open  1") ≡ UNKNOWN
 unfolding sheet.parted decimals.decimalIn script.same script.codeFrom script.decimalsFrom
 two-spaces = refl
 
 -- ---- entries, and lent lengths
--- `0 0 0 3 0 49`
-an-entry : isEntry (0x30 ∷ 0x20 ∷ 0x30 ∷ 0x20 ∷ 0x30 ∷ 0x20 ∷ 0x33 ∷ 0x20 ∷ 0x30 ∷ 0x20 ∷ 0x34 ∷ 0x39 ∷ []) ≡ true
+an-entry : isEntry (bytes "0 0 0 3 0 49") ≡ true
 unfolding sheet.parted decimals.decimalIn
 an-entry = refl
 
--- `0 0 0 3 0`
-five-numbers : isEntry (0x30 ∷ 0x20 ∷ 0x30 ∷ 0x20 ∷ 0x30 ∷ 0x20 ∷ 0x33 ∷ 0x20 ∷ 0x30 ∷ []) ≡ false
+five-numbers : isEntry (bytes "0 0 0 3 0") ≡ false
 unfolding sheet.parted decimals.decimalIn
 five-numbers = refl
 
--- `0 0 4294967296 3 0 49`
-entry-wide-msgno : isEntry (0x30 ∷ 0x20 ∷ 0x30 ∷ 0x20 ∷ 0x34 ∷ 0x32 ∷ 0x39 ∷ 0x34 ∷ 0x39 ∷ 0x36 ∷ 0x37 ∷ 0x32 ∷ 0x39 ∷ 0x36 ∷ 0x20 ∷ 0x33 ∷ 0x20 ∷ 0x30 ∷ 0x20 ∷ 0x34 ∷ 0x39 ∷ []) ≡ false
+entry-wide-msgno : isEntry (bytes "0 0 4294967296 3 0 49") ≡ false
 unfolding sheet.parted decimals.decimalIn
 entry-wide-msgno = refl
 
--- `0 4294967296 0 3 0 49`
-entry-wide-id : isEntry (0x30 ∷ 0x20 ∷ 0x34 ∷ 0x32 ∷ 0x39 ∷ 0x34 ∷ 0x39 ∷ 0x36 ∷ 0x37 ∷ 0x32 ∷ 0x39 ∷ 0x36 ∷ 0x20 ∷ 0x30 ∷ 0x20 ∷ 0x33 ∷ 0x20 ∷ 0x30 ∷ 0x20 ∷ 0x34 ∷ 0x39 ∷ []) ≡ true
+entry-wide-id : isEntry (bytes "0 4294967296 0 3 0 49") ≡ true
 unfolding sheet.parted decimals.decimalIn
 entry-wide-id = refl
 
--- `1,2,3,4,5`
-lengths-of-a-contact : lengthsFor CONTACT (0x31 ∷ 0x2C ∷ 0x32 ∷ 0x2C ∷ 0x33 ∷ 0x2C ∷ 0x34 ∷ 0x2C ∷ 0x35 ∷ []) ≡ true
+lengths-of-a-contact : lengthsFor CONTACT (bytes "1,2,3,4,5") ≡ true
 unfolding sheet.parted decimals.decimalIn
 lengths-of-a-contact = refl
 
--- `1,2,3,4,5`
-lengths-of-a-device : lengthsFor DEVICE (0x31 ∷ 0x2C ∷ 0x32 ∷ 0x2C ∷ 0x33 ∷ 0x2C ∷ 0x34 ∷ 0x2C ∷ 0x35 ∷ []) ≡ false
+lengths-of-a-device : lengthsFor DEVICE (bytes "1,2,3,4,5") ≡ false
 unfolding sheet.parted decimals.decimalIn
 lengths-of-a-device = refl
 
--- `-`
-no-lengths : lengthsFor DEVICE (0x2D ∷ []) ≡ true
+no-lengths : lengthsFor DEVICE (bytes "-") ≡ true
 unfolding sheet.parted decimals.decimalIn
 no-lengths = refl
 
--- `-`
-no-lengths-of-a-contact : lengthsFor CONTACT (0x2D ∷ []) ≡ false
+no-lengths-of-a-contact : lengthsFor CONTACT (bytes "-") ≡ false
 unfolding sheet.parted decimals.decimalIn
 no-lengths-of-a-contact = refl
 
--- `-`
-unknown-kind : lengthsFor 4 (0x2D ∷ []) ≡ false
+unknown-kind : lengthsFor 4 (bytes "-") ≡ false
 unfolding sheet.parted decimals.decimalIn
 unknown-kind = refl

@@ -2,7 +2,7 @@
 -- Assumes nothing.
 use Prim.Native.Nat.{ℕ, zero, suc, _+_, _-_, _≤_, _<_}
 use mathlib.Core.List.{List, [], _∷_}
-use mathlib.Core.Bool.{Bool, true, false, cond, _&&_}
+use mathlib.Core.Bool.{Bool, true, false, cond}
 use mathlib.Core.Path.{_≡_, refl, sym, ap, _∙_}
 use native.Mathlib.Omega.{arith}
 use native.Mathlib.Numerals.{add-one}
@@ -16,32 +16,55 @@ use Rattle.cases.proofs.Text.{other-fields, no-fields}
 use Rattle.sheet.specs.Sheet as sheet
 use Rattle.sheet.specs.Sheet.{inFront, parted}
 use Rattle.script.specs.Script as script
-use Rattle.script.specs.Script.{same}
+use Rattle.script.specs.Script.{Command, UNKNOWN, unknown, same, codeFrom}
 
--- ---- names
-module _ (a b : List ℕ) (i : ℕ) (h : i < length a) (k : i < length b) where
-  pub same-next : getD a i 0 ≡ getD b i 0 → same (drop i a) (drop i b) ≡ same (drop (i + 1) a) (drop (i + 1) b)
-  unfolding script.same
-  same-next e = rw (drop-cons a i 0 h, drop-cons b i 0 k, eq-eqb (getD a i 0) (getD b i 0) e, add-one)
+-- ---- a word, and what stands before a mark: from the i-th byte on
+abbrev pub sameFrom : (i m : ℕ) → (word text : List ℕ) → Bool
+sameFrom i m word text = same (drop i word) (before m (drop i text))
 
-  pub same-not : (getD a i 0 ≡ getD b i 0 → ⊥) → same (drop i a) (drop i b) ≡ false
-  unfolding script.same
-  same-not e = rw (drop-cons a i 0 h, drop-cons b i 0 k, ne-eqb (getD a i 0) (getD b i 0) e)
+module _ (m : ℕ) (word dotted : List ℕ) (i : ℕ) where
+  module _ (h : i < length word) (k : i < length dotted) where
+    pub same-next : (getD dotted i 0 ≡ m → ⊥) → getD dotted i 0 ≡ getD word i 0 → sameFrom i m word dotted ≡ sameFrom (i + 1) m word dotted
+    unfolding script.same text.before
+    same-next n e = rw (drop-cons word i 0 h, drop-cons dotted i 0 k, ne-eqb (getD dotted i 0) m n, eq-eqb (getD word i 0) (getD dotted i 0) (sym e), add-one)
 
-and-false : (b : Bool) → (b && false) ≡ false
-and-false true = refl
-and-false false = refl
+    pub same-not : (getD dotted i 0 ≡ m → ⊥) → (getD dotted i 0 ≡ getD word i 0 → ⊥) → sameFrom i m word dotted ≡ false
+    unfolding script.same text.before
+    same-not n e = rw (drop-cons word i 0 h, drop-cons dotted i 0 k, ne-eqb (getD dotted i 0) m n, ne-eqb (getD word i 0) (getD dotted i 0) (λ f. e (sym f)))
 
-pub same-length : (a b : List ℕ) → (length a ≡ length b → ⊥) → same a b ≡ false
-unfolding script.same
-same-length [] [] e = absurd (e refl)
-same-length [] (c ∷ cs) e = refl
-same-length (b ∷ bs) [] e = refl
-same-length (b ∷ bs) (c ∷ cs) e = rw (same-length bs cs (λ f. e (ap suc f))) (and-false (eqb b c))
+    pub same-mark : getD dotted i 0 ≡ m → sameFrom i m word dotted ≡ false
+    unfolding script.same text.before
+    same-mark e = rw (drop-cons word i 0 h, drop-cons dotted i 0 k, eq-eqb (getD dotted i 0) m e)
 
-pub same-end : (a b : List ℕ) (i : ℕ) → length a ≤ i → length b ≤ i → same (drop i a) (drop i b) ≡ true
-unfolding script.same
-same-end a b i h k = rw (drop-of-length-le a {i = i} h, drop-of-length-le b {i = i} k)
+  pub same-short : i < length word → length dotted ≤ i → sameFrom i m word dotted ≡ false
+  unfolding script.same text.before
+  same-short h k = rw (drop-cons word i 0 h, drop-of-length-le dotted {i = i} k)
+
+  pub same-end : length word ≤ i → i < length dotted → sameFrom i m word dotted ≡ eqb (getD dotted i 0) m
+  unfolding script.same text.before
+  same-end h k = rw (drop-of-length-le word {i = i} h, drop-cons dotted i 0 k) (go (eqb (getD dotted i 0) m) (before m (drop (suc i) dotted)))
+    where
+      go : (s : Bool) (bs : List ℕ) → same [] (cond s [] (getD dotted i 0 ∷ bs)) ≡ s
+      go true bs = refl
+      go false bs = refl
+
+  pub same-all : length word ≤ i → length dotted ≤ i → sameFrom i m word dotted ≡ true
+  unfolding script.same text.before
+  same-all h k = rw (drop-of-length-le word {i = i} h, drop-of-length-le dotted {i = i} k)
+
+-- ---- a command among those from a code on
+module _ (cs : List Command) (k : ℕ) (word : List ℕ) where
+  pub this-name : k < length cs → same word (getD cs k unknown .name) ≡ true → codeFrom k (drop k cs) word ≡ k
+  unfolding script.codeFrom
+  this-name h e = rw (drop-cons cs k unknown h, e)
+
+  pub other-name : k < length cs → same word (getD cs k unknown .name) ≡ false → codeFrom k (drop k cs) word ≡ codeFrom (k + 1) (drop (k + 1) cs) word
+  unfolding script.codeFrom
+  other-name h e = rw (drop-cons cs k unknown h, e, add-one)
+
+  pub no-name : length cs ≤ k → codeFrom k (drop k cs) word ≡ UNKNOWN
+  unfolding script.codeFrom
+  no-name h = rw (drop-of-length-le cs {i = k} h)
 
 -- ---- how many words
 front-length : (b : ℕ) (ps : List (List ℕ)) → length (inFront b ps) ≡ length ps

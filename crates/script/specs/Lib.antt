@@ -1,3 +1,4 @@
 pub mod Script
+pub mod Table
 pub mod Says
 pub mod Hex

@@ -3,6 +3,8 @@
 -- The lines behind a `rawrestore` are of decimals alone.
 -- Assumes nothing.
 use Prim.Native.Nat.{ℕ, zero, suc, _+_}
+use Prim.Native.Char.{code}
+use Prim.Native.String.{String, [] as ε, _∷_ as _∷ᵗ_}
 use mathlib.Core.List.{List, [], _∷_}
 use mathlib.Core.Bool.{Bool, true, false, cond, _&&_}
 use mathlib.Core.Option.{Option, none, some}
@@ -14,15 +16,42 @@ use Rattle.cases.specs.Text.{SPACE, dashOf}
 use Rattle.sheet.specs.Decimal.{decimalIn}
 use Rattle.sheet.specs.Sheet.{parted, U32, U64}
 
--- ---- names
--- the same bytes
-unfoldable pub same : List ℕ → List ℕ → Bool
-same [] [] = true
-same [] (c ∷ cs) = false
-same (b ∷ bs) [] = false
-same (b ∷ bs) (c ∷ cs) = eqb b c && same bs cs
+-- ---- commands
+-- a text's bytes, where its letters are of ASCII
+abbrev pub bytes : String → List ℕ
+bytes ε = []
+bytes (c ∷ᵗ cs) = code c ∷ bytes cs
 
--- a command is a number, and 0 is none
+-- a command's name, and how many decimals of 32 bits, decimals of 64 bits and other words stand behind it
+pub record Command : Type 0 where
+  pub name : List ℕ
+  pub narrow : ℕ
+  pub wide : ℕ
+  pub others : ℕ
+
+abbrev pub command : String → (narrow wide others : ℕ) → Command
+command name narrow wide others = record { name = bytes name; narrow = narrow; wide = wide; others = others }
+
+-- the commands, in the order of their codes from 1 on
+abbrev pub commands : List Command
+commands =
+    command "script" 0 1 0 ∷
+    command "restore" 0 1 0 ∷
+    command "rawrestore" 0 1 1 ∷
+    command "lend" 0 6 0 ∷
+    command "open" 0 1 0 ∷
+    command "cover" 2 0 0 ∷
+    command "contains" 1 0 0 ∷
+    command "covers" 2 0 0 ∷
+    command "take" 0 0 0 ∷
+    command "statement" 0 0 0 ∷
+    command "write" 0 0 0 ∷
+    command "veil" 2 1 1 ∷
+    command "read" 2 0 2 ∷
+    command "state" 0 0 0 ∷
+    []
+
+-- their codes, and 0, which is none
 abbrev pub UNKNOWN : ℕ
 UNKNOWN = 0
 
@@ -68,68 +97,39 @@ READ = 13
 abbrev pub STATE : ℕ
 STATE = 14
 
--- the names, in the order of the commands from 1 on
-abbrev pub names : List (List ℕ)
-names =
-    -- script
-    (0x73 ∷ 0x63 ∷ 0x72 ∷ 0x69 ∷ 0x70 ∷ 0x74 ∷ []) ∷
-    -- restore
-    (0x72 ∷ 0x65 ∷ 0x73 ∷ 0x74 ∷ 0x6F ∷ 0x72 ∷ 0x65 ∷ []) ∷
-    -- rawrestore
-    (0x72 ∷ 0x61 ∷ 0x77 ∷ 0x72 ∷ 0x65 ∷ 0x73 ∷ 0x74 ∷ 0x6F ∷ 0x72 ∷ 0x65 ∷ []) ∷
-    -- lend
-    (0x6C ∷ 0x65 ∷ 0x6E ∷ 0x64 ∷ []) ∷
-    -- open
-    (0x6F ∷ 0x70 ∷ 0x65 ∷ 0x6E ∷ []) ∷
-    -- cover
-    (0x63 ∷ 0x6F ∷ 0x76 ∷ 0x65 ∷ 0x72 ∷ []) ∷
-    -- contains
-    (0x63 ∷ 0x6F ∷ 0x6E ∷ 0x74 ∷ 0x61 ∷ 0x69 ∷ 0x6E ∷ 0x73 ∷ []) ∷
-    -- covers
-    (0x63 ∷ 0x6F ∷ 0x76 ∷ 0x65 ∷ 0x72 ∷ 0x73 ∷ []) ∷
-    -- take
-    (0x74 ∷ 0x61 ∷ 0x6B ∷ 0x65 ∷ []) ∷
-    -- statement
-    (0x73 ∷ 0x74 ∷ 0x61 ∷ 0x74 ∷ 0x65 ∷ 0x6D ∷ 0x65 ∷ 0x6E ∷ 0x74 ∷ []) ∷
-    -- write
-    (0x77 ∷ 0x72 ∷ 0x69 ∷ 0x74 ∷ 0x65 ∷ []) ∷
-    -- veil
-    (0x76 ∷ 0x65 ∷ 0x69 ∷ 0x6C ∷ []) ∷
-    -- read
-    (0x72 ∷ 0x65 ∷ 0x61 ∷ 0x64 ∷ []) ∷
-    -- state
-    (0x73 ∷ 0x74 ∷ 0x61 ∷ 0x74 ∷ 0x65 ∷ []) ∷
-    []
+-- what has the code 0: nothing stands behind it
+abbrev pub unknown : Command
+unknown = command "" 0 0 0
 
--- the command with this name, where the first of these names is k's
-unfoldable pub codeFrom : (k : ℕ) → List (List ℕ) → (word : List ℕ) → ℕ
-codeFrom k [] word = UNKNOWN
-codeFrom k (n ∷ ns) word = cond (same word n) k (codeFrom (suc k) ns word)
+abbrev pub withUnknown : List Command
+withUnknown = unknown ∷ commands
 
-abbrev pub codeOf : List ℕ → ℕ
-codeOf word = codeFrom 1 names word
-
--- ---- what stands behind a name: one column for each command, from 0 on
--- decimals of 32 bits
-abbrev pub narrows : List ℕ
-narrows = 0 ∷ 0 ∷ 0 ∷ 0 ∷ 0 ∷ 0 ∷ 2 ∷ 1 ∷ 2 ∷ 0 ∷ 0 ∷ 0 ∷ 2 ∷ 2 ∷ 0 ∷ []
-
--- decimals of 64 bits
-abbrev pub wides : List ℕ
-wides = 0 ∷ 1 ∷ 1 ∷ 1 ∷ 6 ∷ 1 ∷ 0 ∷ 0 ∷ 0 ∷ 0 ∷ 0 ∷ 0 ∷ 1 ∷ 0 ∷ 0 ∷ []
-
--- other words
-abbrev pub others : List ℕ
-others = 0 ∷ 0 ∷ 0 ∷ 1 ∷ 0 ∷ 0 ∷ 0 ∷ 0 ∷ 0 ∷ 0 ∷ 0 ∷ 0 ∷ 1 ∷ 2 ∷ 0 ∷ []
+abbrev pub ofCode : (code : ℕ) → Command
+ofCode code = getD withUnknown code unknown
 
 abbrev pub narrowOf : (code : ℕ) → ℕ
-narrowOf code = getD narrows code 0
+narrowOf code = ofCode code .narrow
 
 abbrev pub wideOf : (code : ℕ) → ℕ
-wideOf code = getD wides code 0
+wideOf code = ofCode code .wide
 
 abbrev pub othersOf : (code : ℕ) → ℕ
-othersOf code = getD others code 0
+othersOf code = ofCode code .others
+
+-- the same bytes
+unfoldable pub same : List ℕ → List ℕ → Bool
+same [] [] = true
+same [] (c ∷ cs) = false
+same (b ∷ bs) [] = false
+same (b ∷ bs) (c ∷ cs) = eqb b c && same bs cs
+
+-- the code of the first of these commands that has this name, where the codes start at k
+unfoldable pub codeFrom : (k : ℕ) → List Command → (word : List ℕ) → ℕ
+codeFrom k [] word = UNKNOWN
+codeFrom k (c ∷ cs) word = cond (same word (c .name)) k (codeFrom (suc k) cs word)
+
+abbrev pub codeOf : List ℕ → ℕ
+codeOf word = codeFrom 1 commands word
 
 -- ---- a line
 abbrev pub isSome : Option ℕ → Bool

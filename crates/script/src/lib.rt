@@ -18,6 +18,7 @@ ghost use Rattle.sheet.specs.Sheet.{parted};
 ghost use Rattle.sheet.proofs.Decimal.{goesOn};
 ghost use Rattle.cases.specs.Text.{SPACE, before, behind};
 ghost use Rattle.script.specs.Script.{same, codeOf, narrowOf, wideOf, othersOf, highestAt, isDecimalAt, decimalsFrom, wordAt, commandOf, numberAt, isEntry, areLengths, lengthsFor};
+ghost use Rattle.script.specs.Table.{DOT, TABLE};
 ghost use Rattle.script.specs.Says.{decimalSays};
 ghost use Rattle.script.specs.Hex.{hexDigit, pairsOf, hexOf};
 
@@ -64,14 +65,35 @@ pub const READ: u8 = 13;
 
 pub const STATE: u8 = 14;
 
-// What stands behind a name, one column for each command: decimals of 32 bits, decimals of 64 bits, other words.
-const COMMANDS: usize = 15;
+// The table of commands has a row for each code from 0 on: the name with dots behind it, and a digit each for the decimals of 32 bits,
+// the decimals of 64 bits and the other words that stand behind the name. A command adds its row, its number above, and 1 to CODES.
+const CODES: usize = 15;
 
-const NARROWS: [u8; 15] = [0, 0, 0, 0, 0, 0, 2, 1, 2, 0, 0, 0, 2, 2, 0];
+const ROW: usize = 20;
 
-const WIDES: [u8; 15] = [0, 1, 1, 1, 6, 1, 0, 0, 0, 0, 0, 0, 1, 0, 0];
+const NARROW: usize = 17;
 
-const OTHERS: [u8; 15] = [0, 0, 0, 1, 0, 0, 0, 0, 0, 0, 0, 0, 1, 2, 0];
+const WIDE: usize = 18;
+
+const OTHER: usize = 19;
+
+const TABLE: [u8; CODES * ROW] = *b"\
+    .................000\
+    script...........010\
+    restore..........010\
+    rawrestore.......011\
+    lend.............060\
+    open.............010\
+    cover............200\
+    contains.........100\
+    covers...........200\
+    take.............000\
+    statement........000\
+    write............000\
+    veil.............211\
+    read.............202\
+    state............000\
+";
 
 fn wide(b: u8) -> usize
     ensures { λ r. ⌜ (r ≡ b) × (r ≤ 255) ⌝ }
@@ -79,97 +101,74 @@ fn wide(b: u8) -> usize
     b as usize
 }
 
-fn narrow_of(code: u8) -> usize
+fn narrow_of(table: &[u8], code: u8) -> usize
+    requires { ⌜ now table ≡ TABLE ⌝ }
     ensures { λ r. ⌜ (r ≡ narrowOf code) × (r ≤ 255) ⌝ }
 {
     let i = wide(code);
-    if i < COMMANDS {
-        return wide(NARROWS[i]);
+    if i < CODES {
+        return wide(table[i * ROW + NARROW] - b'0');
     }
     0
 }
 
-fn wide_of(code: u8) -> usize
+fn wide_of(table: &[u8], code: u8) -> usize
+    requires { ⌜ now table ≡ TABLE ⌝ }
     ensures { λ r. ⌜ (r ≡ wideOf code) × (r ≤ 255) ⌝ }
 {
     let i = wide(code);
-    if i < COMMANDS {
-        return wide(WIDES[i]);
+    if i < CODES {
+        return wide(table[i * ROW + WIDE] - b'0');
     }
     0
 }
 
-fn others_of(code: u8) -> usize
+fn others_of(table: &[u8], code: u8) -> usize
+    requires { ⌜ now table ≡ TABLE ⌝ }
     ensures { λ r. ⌜ (r ≡ othersOf code) × (r ≤ 255) ⌝ }
 {
     let i = wide(code);
-    if i < COMMANDS {
-        return wide(OTHERS[i]);
+    if i < CODES {
+        return wide(table[i * ROW + OTHER] - b'0');
     }
     0
 }
 
-fn is(word: &[u8], name: &[u8]) -> bool
-    ensures { λ r. ⌜ r ≡ same (now (word .entry)) (now (name .entry)) ⌝ }
+// Whether a word is what stands before the first dot.
+fn is(word: &[u8], dotted: &[u8]) -> bool
+    ensures { λ r. ⌜ r ≡ same (now (word .entry)) (before DOT (now (dotted .entry))) ⌝ }
 {
-    if word.len() != name.len() {
-        return false;
-    }
     let mut i = 0;
     while i < word.len() {
-        if word[i] != name[i] {
+        if dotted.len() <= i {
+            return false;
+        }
+        if dotted[i] == b'.' {
+            return false;
+        }
+        if dotted[i] != word[i] {
             return false;
         }
         i += 1;
+    }
+    if i < dotted.len() {
+        return dotted[i] == b'.';
     }
     true
 }
 
 // The command with this name.
-fn code_of(word: &[u8]) -> u8
+fn code_of(table: &[u8], word: &[u8]) -> u8
+    requires { ⌜ now table ≡ TABLE ⌝ }
     ensures { λ r. ⌜ r ≡ codeOf (now (word .entry)) ⌝ }
 {
-    if is(word, b"script") {
-        return SCRIPT;
-    }
-    if is(word, b"restore") {
-        return RESTORE;
-    }
-    if is(word, b"rawrestore") {
-        return RAWRESTORE;
-    }
-    if is(word, b"lend") {
-        return LEND;
-    }
-    if is(word, b"open") {
-        return OPEN;
-    }
-    if is(word, b"cover") {
-        return COVER;
-    }
-    if is(word, b"contains") {
-        return CONTAINS;
-    }
-    if is(word, b"covers") {
-        return COVERS;
-    }
-    if is(word, b"take") {
-        return TAKE;
-    }
-    if is(word, b"statement") {
-        return STATEMENT;
-    }
-    if is(word, b"write") {
-        return WRITE;
-    }
-    if is(word, b"veil") {
-        return VEIL;
-    }
-    if is(word, b"read") {
-        return READ;
-    }
-    if is(word, b"state") {
-        return STATE;
+    let mut code = 1;
+    while code < CODES {
+        let at = code * ROW;
+        if is(word, &table[at..at + NARROW]) {
+            return code as u8;
+        }
+        code += 1;
     }
     UNKNOWN
 }
@@ -348,10 +347,12 @@ fn are_decimals(line: &[u8], narrow: usize, count: usize) -> bool
 pub fn command(line: &[u8]) -> u8
     ensures { λ r. ⌜ r ≡ commandOf (now (line .entry)) ⌝ }
 {
-    let code = code_of(word(line, b' ', 0));
-    let narrow = narrow_of(code);
-    let count = narrow + wide_of(code);
-    if marks(line, b' ') == count + others_of(code) {
+    // lent to the functions that look into it: in each of them a constant would be laid out anew
+    let table: &[u8] = &TABLE;
+    let code = code_of(table, word(line, b' ', 0));
+    let narrow = narrow_of(table, code);
+    let count = narrow + wide_of(table, code);
+    if marks(line, b' ') == count + others_of(table, code) {
         if are_decimals(line, narrow, count) {
             return code;
         }

@@ -1,322 +1,95 @@
--- `script::code_of` meets its contract: the names in their order.
+-- `script::code_of` meets its contract. The invariant: the commands from this code on say what all say. The measure is the commands left.
 -- Assumes nothing.
-use Prim.Native.Nat.{ℕ, suc}
-use mathlib.Core.List.{List, [], _∷_}
-use mathlib.Core.Bool.{Bool, true, false}
-use mathlib.Core.Path.{_≡_, refl, sym, _∙_}
-use Rattle.script.specs.Script as script
-use Rattle.script.specs.Script.{UNKNOWN, same, codeFrom}
+use Prim.Native.Nat.{ℕ, _+_, _-_, _*_, _<_}
+use mathlib.Core.Bool.{Bool}
+use mathlib.Core.List.{List}
+use mathlib.Core.Path.{_≡_, refl, sym, ap, _∙_}
+use native.Mathlib.Omega.{arith}
+use lib.ListN.{length, take, drop}
+use Rattle.cases.specs.Text.{before}
+use Rattle.script.specs.Script.{withUnknown, ofCode, same, codeFrom, codeOf}
+use Rattle.script.specs.Table.{DOT, ROW, NARROW, TABLE}
+use Rattle.script.proofs.Table.{row-in, name-of}
+use Rattle.script.proofs.Words.{other-name, this-name, no-name}
 use borrow.Author.Needs.{needs}
 use Rattle.script.proofs.code_of.Statement.{statement}
 use Rattle.script.proofs.code_of.Tie as tie
 
-module _ (k : ℕ) (n : List ℕ) (ns : List (List ℕ)) (word : List ℕ) {r : Bool} (e : r ≡ same word n) where
-  -- another name, and the name
-  pass : {code : ℕ} → r ≡ false → codeFrom (suc k) ns word ≡ code → codeFrom k (n ∷ ns) word ≡ code
-  unfolding script.codeFrom
-  pass f g = rw (sym e ∙ f) g
+abbrev Inv-loop : tie.InvT-loop
+Inv-loop table word code₀ code = codeFrom code (drop code withUnknown) word ≡ codeOf word
 
-  hit : r ≡ true → codeFrom k (n ∷ ns) word ≡ k
-  unfolding script.codeFrom
-  hit f = rw (sym e ∙ f)
+abbrev μ-loop : tie.MeasureT-loop
+μ-loop table word code₀ code = length withUnknown - code
 
-no-name : (k : ℕ) (word : List ℕ) → codeFrom k [] word ≡ UNKNOWN
-unfolding script.codeFrom
-no-name k word = refl
+-- what `is` was asked, of the part of the table that it was handed
+name-asked : (word : List ℕ) (code : ℕ) {t : List ℕ} {r : Bool} → t ≡ TABLE → code < length withUnknown
+    → r ≡ same word (before DOT (take (code * ROW + NARROW - code * ROW) (drop (code * ROW) t)))
+    → same word (ofCode code .name) ≡ r
+name-asked word code e h asked =
+    let wide : code * ROW + NARROW - code * ROW ≡ NARROW = omega arith in
+    sym (asked ∙ ap (same word) (rw wide (name-of e code h)))
 
-slice-aggregate-is : tie.Need-slice-aggregate-is
-slice-aggregate-is c = search needs
+loop-holds : tie.Need-loop-holds Inv-loop μ-loop
+loop-holds c = refl
 
-is-requires : tie.Need-is-requires
+mul-at : tie.Need-mul-at Inv-loop μ-loop
+mul-at c = search needs
+
+add-is : tie.Need-add-is Inv-loop μ-loop
+add-is c = search needs
+
+sub-is : tie.Need-sub-is Inv-loop μ-loop
+sub-is c = search needs
+
+part-is-start : tie.Need-part-is-start Inv-loop μ-loop
+part-is-start c = search needs
+
+part-is-end : tie.Need-part-is-end Inv-loop μ-loop
+part-is-end c =
+    let l = c .before in
+    omega (arith, row-in (l .before .before .before .pre) (l .loop .code) (search needs))
+
+is-requires : tie.Need-is-requires Inv-loop μ-loop
 is-requires c κs = search needs
 
-returns : tie.Need-returns
+cast-result : tie.Need-cast-result Inv-loop μ-loop
+cast-result c = search needs
+
+returns : tie.Need-returns Inv-loop μ-loop
 returns c =
-    sym (hit _ _ _ _ (c .before .is .ensures) (c .if1 .taken))
+    let l = c .before .before .before .before in
+    sym (this-name withUnknown (l .loop .code) _ (search needs) (name-asked _ (l .loop .code) (l .before .before .before .pre) (search needs) (c .before .is .ensures) ∙ c .if1 .taken)) ∙ l .loop .inv
 
-slice-aggregate-is-2 : tie.Need-slice-aggregate-is-2
-slice-aggregate-is-2 c = search needs
+add-code : tie.Need-add-code Inv-loop μ-loop
+add-code c = search needs
 
-is-requires-2 : tie.Need-is-requires-2
-is-requires-2 c κs = search needs
+loop-less : tie.Need-loop-less Inv-loop μ-loop
+loop-less c = search needs
 
-returns-2 : tie.Need-returns-2
-returns-2 c =
-    let e1 = c .before .before .before in
-    sym (pass _ _ _ _ (e1 .before .is .ensures) (e1 .if1 .left) (hit _ _ _ _ (c .before .is2 .ensures) (c .if2 .taken)))
+loop-again : tie.Need-loop-again Inv-loop μ-loop
+loop-again c =
+    let l = c .before .before .before .before in
+    sym (other-name withUnknown (l .loop .code) _ (search needs) (name-asked _ (l .loop .code) (l .before .before .before .pre) (search needs) (c .before .is .ensures) ∙ c .if1 .left)) ∙ l .loop .inv
 
-slice-aggregate-is-3 : tie.Need-slice-aggregate-is-3
-slice-aggregate-is-3 c = search needs
-
-is-requires-3 : tie.Need-is-requires-3
-is-requires-3 c κs = search needs
-
-returns-3 : tie.Need-returns-3
-returns-3 c =
-    let e2 = c .before .before .before in
-    let e1 = e2 .before .before .before in
-    sym (pass _ _ _ _ (e1 .before .is .ensures) (e1 .if1 .left) (pass _ _ _ _ (e2 .before .is2 .ensures) (e2 .if2 .left) (hit _ _ _ _ (c .before .is3 .ensures) (c .if3 .taken))))
-
-slice-aggregate-is-4 : tie.Need-slice-aggregate-is-4
-slice-aggregate-is-4 c = search needs
-
-is-requires-4 : tie.Need-is-requires-4
-is-requires-4 c κs = search needs
-
-returns-4 : tie.Need-returns-4
-returns-4 c =
-    let e3 = c .before .before .before in
-    let e2 = e3 .before .before .before in
-    let e1 = e2 .before .before .before in
-    sym (pass _ _ _ _ (e1 .before .is .ensures) (e1 .if1 .left) (pass _ _ _ _ (e2 .before .is2 .ensures) (e2 .if2 .left) (pass _ _ _ _ (e3 .before .is3 .ensures) (e3 .if3 .left) (hit _ _ _ _ (c .before .is4 .ensures) (c .if4 .taken)))))
-
-slice-aggregate-is-5 : tie.Need-slice-aggregate-is-5
-slice-aggregate-is-5 c = search needs
-
-is-requires-5 : tie.Need-is-requires-5
-is-requires-5 c κs = search needs
-
-returns-5 : tie.Need-returns-5
-returns-5 c =
-    let e4 = c .before .before .before in
-    let e3 = e4 .before .before .before in
-    let e2 = e3 .before .before .before in
-    let e1 = e2 .before .before .before in
-    sym (pass _ _ _ _ (e1 .before .is .ensures) (e1 .if1 .left) (pass _ _ _ _ (e2 .before .is2 .ensures) (e2 .if2 .left) (pass _ _ _ _ (e3 .before .is3 .ensures) (e3 .if3 .left) (pass _ _ _ _ (e4 .before .is4 .ensures) (e4 .if4 .left) (hit _ _ _ _ (c .before .is5 .ensures) (c .if5 .taken))))))
-
-slice-aggregate-is-6 : tie.Need-slice-aggregate-is-6
-slice-aggregate-is-6 c = search needs
-
-is-requires-6 : tie.Need-is-requires-6
-is-requires-6 c κs = search needs
-
-returns-6 : tie.Need-returns-6
-returns-6 c =
-    let e5 = c .before .before .before in
-    let e4 = e5 .before .before .before in
-    let e3 = e4 .before .before .before in
-    let e2 = e3 .before .before .before in
-    let e1 = e2 .before .before .before in
-    sym (pass _ _ _ _ (e1 .before .is .ensures) (e1 .if1 .left) (pass _ _ _ _ (e2 .before .is2 .ensures) (e2 .if2 .left) (pass _ _ _ _ (e3 .before .is3 .ensures) (e3 .if3 .left) (pass _ _ _ _ (e4 .before .is4 .ensures) (e4 .if4 .left) (pass _ _ _ _ (e5 .before .is5 .ensures) (e5 .if5 .left) (hit _ _ _ _ (c .before .is6 .ensures) (c .if6 .taken)))))))
-
-slice-aggregate-is-7 : tie.Need-slice-aggregate-is-7
-slice-aggregate-is-7 c = search needs
-
-is-requires-7 : tie.Need-is-requires-7
-is-requires-7 c κs = search needs
-
-returns-7 : tie.Need-returns-7
-returns-7 c =
-    let e6 = c .before .before .before in
-    let e5 = e6 .before .before .before in
-    let e4 = e5 .before .before .before in
-    let e3 = e4 .before .before .before in
-    let e2 = e3 .before .before .before in
-    let e1 = e2 .before .before .before in
-    sym (pass _ _ _ _ (e1 .before .is .ensures) (e1 .if1 .left) (pass _ _ _ _ (e2 .before .is2 .ensures) (e2 .if2 .left) (pass _ _ _ _ (e3 .before .is3 .ensures) (e3 .if3 .left) (pass _ _ _ _ (e4 .before .is4 .ensures) (e4 .if4 .left) (pass _ _ _ _ (e5 .before .is5 .ensures) (e5 .if5 .left) (pass _ _ _ _ (e6 .before .is6 .ensures) (e6 .if6 .left) (hit _ _ _ _ (c .before .is7 .ensures) (c .if7 .taken))))))))
-
-slice-aggregate-is-8 : tie.Need-slice-aggregate-is-8
-slice-aggregate-is-8 c = search needs
-
-is-requires-8 : tie.Need-is-requires-8
-is-requires-8 c κs = search needs
-
-returns-8 : tie.Need-returns-8
-returns-8 c =
-    let e7 = c .before .before .before in
-    let e6 = e7 .before .before .before in
-    let e5 = e6 .before .before .before in
-    let e4 = e5 .before .before .before in
-    let e3 = e4 .before .before .before in
-    let e2 = e3 .before .before .before in
-    let e1 = e2 .before .before .before in
-    sym (pass _ _ _ _ (e1 .before .is .ensures) (e1 .if1 .left) (pass _ _ _ _ (e2 .before .is2 .ensures) (e2 .if2 .left) (pass _ _ _ _ (e3 .before .is3 .ensures) (e3 .if3 .left) (pass _ _ _ _ (e4 .before .is4 .ensures) (e4 .if4 .left) (pass _ _ _ _ (e5 .before .is5 .ensures) (e5 .if5 .left) (pass _ _ _ _ (e6 .before .is6 .ensures) (e6 .if6 .left) (pass _ _ _ _ (e7 .before .is7 .ensures) (e7 .if7 .left) (hit _ _ _ _ (c .before .is8 .ensures) (c .if8 .taken)))))))))
-
-slice-aggregate-is-9 : tie.Need-slice-aggregate-is-9
-slice-aggregate-is-9 c = search needs
-
-is-requires-9 : tie.Need-is-requires-9
-is-requires-9 c κs = search needs
-
-returns-9 : tie.Need-returns-9
-returns-9 c =
-    let e8 = c .before .before .before in
-    let e7 = e8 .before .before .before in
-    let e6 = e7 .before .before .before in
-    let e5 = e6 .before .before .before in
-    let e4 = e5 .before .before .before in
-    let e3 = e4 .before .before .before in
-    let e2 = e3 .before .before .before in
-    let e1 = e2 .before .before .before in
-    sym (pass _ _ _ _ (e1 .before .is .ensures) (e1 .if1 .left) (pass _ _ _ _ (e2 .before .is2 .ensures) (e2 .if2 .left) (pass _ _ _ _ (e3 .before .is3 .ensures) (e3 .if3 .left) (pass _ _ _ _ (e4 .before .is4 .ensures) (e4 .if4 .left) (pass _ _ _ _ (e5 .before .is5 .ensures) (e5 .if5 .left) (pass _ _ _ _ (e6 .before .is6 .ensures) (e6 .if6 .left) (pass _ _ _ _ (e7 .before .is7 .ensures) (e7 .if7 .left) (pass _ _ _ _ (e8 .before .is8 .ensures) (e8 .if8 .left) (hit _ _ _ _ (c .before .is9 .ensures) (c .if9 .taken))))))))))
-
-slice-aggregate-is-10 : tie.Need-slice-aggregate-is-10
-slice-aggregate-is-10 c = search needs
-
-is-requires-10 : tie.Need-is-requires-10
-is-requires-10 c κs = search needs
-
-returns-10 : tie.Need-returns-10
-returns-10 c =
-    let e9 = c .before .before .before in
-    let e8 = e9 .before .before .before in
-    let e7 = e8 .before .before .before in
-    let e6 = e7 .before .before .before in
-    let e5 = e6 .before .before .before in
-    let e4 = e5 .before .before .before in
-    let e3 = e4 .before .before .before in
-    let e2 = e3 .before .before .before in
-    let e1 = e2 .before .before .before in
-    sym (pass _ _ _ _ (e1 .before .is .ensures) (e1 .if1 .left) (pass _ _ _ _ (e2 .before .is2 .ensures) (e2 .if2 .left) (pass _ _ _ _ (e3 .before .is3 .ensures) (e3 .if3 .left) (pass _ _ _ _ (e4 .before .is4 .ensures) (e4 .if4 .left) (pass _ _ _ _ (e5 .before .is5 .ensures) (e5 .if5 .left) (pass _ _ _ _ (e6 .before .is6 .ensures) (e6 .if6 .left) (pass _ _ _ _ (e7 .before .is7 .ensures) (e7 .if7 .left) (pass _ _ _ _ (e8 .before .is8 .ensures) (e8 .if8 .left) (pass _ _ _ _ (e9 .before .is9 .ensures) (e9 .if9 .left) (hit _ _ _ _ (c .before .is10 .ensures) (c .if10 .taken)))))))))))
-
-slice-aggregate-is-11 : tie.Need-slice-aggregate-is-11
-slice-aggregate-is-11 c = search needs
-
-is-requires-11 : tie.Need-is-requires-11
-is-requires-11 c κs = search needs
-
-returns-11 : tie.Need-returns-11
-returns-11 c =
-    let e10 = c .before .before .before in
-    let e9 = e10 .before .before .before in
-    let e8 = e9 .before .before .before in
-    let e7 = e8 .before .before .before in
-    let e6 = e7 .before .before .before in
-    let e5 = e6 .before .before .before in
-    let e4 = e5 .before .before .before in
-    let e3 = e4 .before .before .before in
-    let e2 = e3 .before .before .before in
-    let e1 = e2 .before .before .before in
-    sym (pass _ _ _ _ (e1 .before .is .ensures) (e1 .if1 .left) (pass _ _ _ _ (e2 .before .is2 .ensures) (e2 .if2 .left) (pass _ _ _ _ (e3 .before .is3 .ensures) (e3 .if3 .left) (pass _ _ _ _ (e4 .before .is4 .ensures) (e4 .if4 .left) (pass _ _ _ _ (e5 .before .is5 .ensures) (e5 .if5 .left) (pass _ _ _ _ (e6 .before .is6 .ensures) (e6 .if6 .left) (pass _ _ _ _ (e7 .before .is7 .ensures) (e7 .if7 .left) (pass _ _ _ _ (e8 .before .is8 .ensures) (e8 .if8 .left) (pass _ _ _ _ (e9 .before .is9 .ensures) (e9 .if9 .left) (pass _ _ _ _ (e10 .before .is10 .ensures) (e10 .if10 .left) (hit _ _ _ _ (c .before .is11 .ensures) (c .if11 .taken))))))))))))
-
-slice-aggregate-is-12 : tie.Need-slice-aggregate-is-12
-slice-aggregate-is-12 c = search needs
-
-is-requires-12 : tie.Need-is-requires-12
-is-requires-12 c κs = search needs
-
-returns-12 : tie.Need-returns-12
-returns-12 c =
-    let e11 = c .before .before .before in
-    let e10 = e11 .before .before .before in
-    let e9 = e10 .before .before .before in
-    let e8 = e9 .before .before .before in
-    let e7 = e8 .before .before .before in
-    let e6 = e7 .before .before .before in
-    let e5 = e6 .before .before .before in
-    let e4 = e5 .before .before .before in
-    let e3 = e4 .before .before .before in
-    let e2 = e3 .before .before .before in
-    let e1 = e2 .before .before .before in
-    sym (pass _ _ _ _ (e1 .before .is .ensures) (e1 .if1 .left) (pass _ _ _ _ (e2 .before .is2 .ensures) (e2 .if2 .left) (pass _ _ _ _ (e3 .before .is3 .ensures) (e3 .if3 .left) (pass _ _ _ _ (e4 .before .is4 .ensures) (e4 .if4 .left) (pass _ _ _ _ (e5 .before .is5 .ensures) (e5 .if5 .left) (pass _ _ _ _ (e6 .before .is6 .ensures) (e6 .if6 .left) (pass _ _ _ _ (e7 .before .is7 .ensures) (e7 .if7 .left) (pass _ _ _ _ (e8 .before .is8 .ensures) (e8 .if8 .left) (pass _ _ _ _ (e9 .before .is9 .ensures) (e9 .if9 .left) (pass _ _ _ _ (e10 .before .is10 .ensures) (e10 .if10 .left) (pass _ _ _ _ (e11 .before .is11 .ensures) (e11 .if11 .left) (hit _ _ _ _ (c .before .is12 .ensures) (c .if12 .taken)))))))))))))
-
-slice-aggregate-is-13 : tie.Need-slice-aggregate-is-13
-slice-aggregate-is-13 c = search needs
-
-is-requires-13 : tie.Need-is-requires-13
-is-requires-13 c κs = search needs
-
-returns-13 : tie.Need-returns-13
-returns-13 c =
-    let e12 = c .before .before .before in
-    let e11 = e12 .before .before .before in
-    let e10 = e11 .before .before .before in
-    let e9 = e10 .before .before .before in
-    let e8 = e9 .before .before .before in
-    let e7 = e8 .before .before .before in
-    let e6 = e7 .before .before .before in
-    let e5 = e6 .before .before .before in
-    let e4 = e5 .before .before .before in
-    let e3 = e4 .before .before .before in
-    let e2 = e3 .before .before .before in
-    let e1 = e2 .before .before .before in
-    sym (pass _ _ _ _ (e1 .before .is .ensures) (e1 .if1 .left) (pass _ _ _ _ (e2 .before .is2 .ensures) (e2 .if2 .left) (pass _ _ _ _ (e3 .before .is3 .ensures) (e3 .if3 .left) (pass _ _ _ _ (e4 .before .is4 .ensures) (e4 .if4 .left) (pass _ _ _ _ (e5 .before .is5 .ensures) (e5 .if5 .left) (pass _ _ _ _ (e6 .before .is6 .ensures) (e6 .if6 .left) (pass _ _ _ _ (e7 .before .is7 .ensures) (e7 .if7 .left) (pass _ _ _ _ (e8 .before .is8 .ensures) (e8 .if8 .left) (pass _ _ _ _ (e9 .before .is9 .ensures) (e9 .if9 .left) (pass _ _ _ _ (e10 .before .is10 .ensures) (e10 .if10 .left) (pass _ _ _ _ (e11 .before .is11 .ensures) (e11 .if11 .left) (pass _ _ _ _ (e12 .before .is12 .ensures) (e12 .if12 .left) (hit _ _ _ _ (c .before .is13 .ensures) (c .if13 .taken))))))))))))))
-
-slice-aggregate-is-14 : tie.Need-slice-aggregate-is-14
-slice-aggregate-is-14 c = search needs
-
-is-requires-14 : tie.Need-is-requires-14
-is-requires-14 c κs = search needs
-
-returns-14 : tie.Need-returns-14
-returns-14 c =
-    let e13 = c .before .before .before in
-    let e12 = e13 .before .before .before in
-    let e11 = e12 .before .before .before in
-    let e10 = e11 .before .before .before in
-    let e9 = e10 .before .before .before in
-    let e8 = e9 .before .before .before in
-    let e7 = e8 .before .before .before in
-    let e6 = e7 .before .before .before in
-    let e5 = e6 .before .before .before in
-    let e4 = e5 .before .before .before in
-    let e3 = e4 .before .before .before in
-    let e2 = e3 .before .before .before in
-    let e1 = e2 .before .before .before in
-    sym (pass _ _ _ _ (e1 .before .is .ensures) (e1 .if1 .left) (pass _ _ _ _ (e2 .before .is2 .ensures) (e2 .if2 .left) (pass _ _ _ _ (e3 .before .is3 .ensures) (e3 .if3 .left) (pass _ _ _ _ (e4 .before .is4 .ensures) (e4 .if4 .left) (pass _ _ _ _ (e5 .before .is5 .ensures) (e5 .if5 .left) (pass _ _ _ _ (e6 .before .is6 .ensures) (e6 .if6 .left) (pass _ _ _ _ (e7 .before .is7 .ensures) (e7 .if7 .left) (pass _ _ _ _ (e8 .before .is8 .ensures) (e8 .if8 .left) (pass _ _ _ _ (e9 .before .is9 .ensures) (e9 .if9 .left) (pass _ _ _ _ (e10 .before .is10 .ensures) (e10 .if10 .left) (pass _ _ _ _ (e11 .before .is11 .ensures) (e11 .if11 .left) (pass _ _ _ _ (e12 .before .is12 .ensures) (e12 .if12 .left) (pass _ _ _ _ (e13 .before .is13 .ensures) (e13 .if13 .left) (hit _ _ _ _ (c .before .is14 .ensures) (c .if14 .taken)))))))))))))))
-
-returns-15 : tie.Need-returns-15
-returns-15 c =
-    let e14 = c in
-    let e13 = e14 .before .before .before in
-    let e12 = e13 .before .before .before in
-    let e11 = e12 .before .before .before in
-    let e10 = e11 .before .before .before in
-    let e9 = e10 .before .before .before in
-    let e8 = e9 .before .before .before in
-    let e7 = e8 .before .before .before in
-    let e6 = e7 .before .before .before in
-    let e5 = e6 .before .before .before in
-    let e4 = e5 .before .before .before in
-    let e3 = e4 .before .before .before in
-    let e2 = e3 .before .before .before in
-    let e1 = e2 .before .before .before in
-    sym (pass _ _ _ _ (e1 .before .is .ensures) (e1 .if1 .left) (pass _ _ _ _ (e2 .before .is2 .ensures) (e2 .if2 .left) (pass _ _ _ _ (e3 .before .is3 .ensures) (e3 .if3 .left) (pass _ _ _ _ (e4 .before .is4 .ensures) (e4 .if4 .left) (pass _ _ _ _ (e5 .before .is5 .ensures) (e5 .if5 .left) (pass _ _ _ _ (e6 .before .is6 .ensures) (e6 .if6 .left) (pass _ _ _ _ (e7 .before .is7 .ensures) (e7 .if7 .left) (pass _ _ _ _ (e8 .before .is8 .ensures) (e8 .if8 .left) (pass _ _ _ _ (e9 .before .is9 .ensures) (e9 .if9 .left) (pass _ _ _ _ (e10 .before .is10 .ensures) (e10 .if10 .left) (pass _ _ _ _ (e11 .before .is11 .ensures) (e11 .if11 .left) (pass _ _ _ _ (e12 .before .is12 .ensures) (e12 .if12 .left) (pass _ _ _ _ (e13 .before .is13 .ensures) (e13 .if13 .left) (pass _ _ _ _ (e14 .before .is14 .ensures) (e14 .if14 .left) (no-name _ _)))))))))))))))
+returns-2 : tie.Need-returns-2 Inv-loop μ-loop
+returns-2 c = sym (no-name withUnknown (c .before .loop .code) _ (search needs)) ∙ c .before .loop .inv
 
 pub code-of-spec : {M : Type 1} → statement M
 code-of-spec =
     tie.close
     (tie.spec
-    slice-aggregate-is
+    Inv-loop
+    μ-loop
+    loop-holds
+    mul-at
+    add-is
+    sub-is
+    part-is-start
+    part-is-end
     is-requires
+    cast-result
     returns
-    slice-aggregate-is-2
-    is-requires-2
-    returns-2
-    slice-aggregate-is-3
-    is-requires-3
-    returns-3
-    slice-aggregate-is-4
-    is-requires-4
-    returns-4
-    slice-aggregate-is-5
-    is-requires-5
-    returns-5
-    slice-aggregate-is-6
-    is-requires-6
-    returns-6
-    slice-aggregate-is-7
-    is-requires-7
-    returns-7
-    slice-aggregate-is-8
-    is-requires-8
-    returns-8
-    slice-aggregate-is-9
-    is-requires-9
-    returns-9
-    slice-aggregate-is-10
-    is-requires-10
-    returns-10
-    slice-aggregate-is-11
-    is-requires-11
-    returns-11
-    slice-aggregate-is-12
-    is-requires-12
-    returns-12
-    slice-aggregate-is-13
-    is-requires-13
-    returns-13
-    slice-aggregate-is-14
-    is-requires-14
-    returns-14
-    returns-15)
+    add-code
+    loop-less
+    loop-again
+    returns-2)
