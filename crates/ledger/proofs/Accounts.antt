@@ -7,7 +7,7 @@ use mathlib.Core.Path.{_≡_}
 use lib.ListN.{length}
 use Rattle.store.specs.declared.Entry.{Entry}
 use Rattle.store.specs.Veiled.{VeilEqual, ContactAlike}
-use Rattle.ledger.specs.Call.{Answer, granted, truth, number, wrote, said, refused, refusedAt}
+use Rattle.ledger.specs.Call.{Answer, granted, advanced, truth, number, wrote, said, refused, refusedAt}
 use Rattle.ledger.specs.Ledger.{Open, Ledger, nothing, restored, opened, Account, plain, current}
 use Rattle.ledger.specs.Two.{RowsAlike}
 
@@ -15,6 +15,7 @@ use Rattle.ledger.specs.Two.{RowsAlike}
 abbrev pub OutputsAlike : Answer → (out out′ : List ℕ) → Type 0
 OutputsAlike (wrote n) out out′ = (n ≡ length out) × RowsAlike out out′
 OutputsAlike granted out out′ = Unit {0}
+OutputsAlike (advanced b) out out′ = Unit {0}
 OutputsAlike (truth b) out out′ = Unit {0}
 OutputsAlike (number n) out out′ = Unit {0}
 OutputsAlike (said n line) out out′ = Unit {0}
@@ -24,6 +25,7 @@ OutputsAlike (refusedAt q i) out out′ = Unit {0}
 abbrev isRow : Answer → Bool
 isRow (wrote n) = true
 isRow granted = false
+isRow (advanced b) = false
 isRow (truth b) = false
 isRow (number n) = false
 isRow (said n line) = false
@@ -32,6 +34,7 @@ isRow (refusedAt q i) = false
 
 no-row : (a : Answer) → isRow a ≡ false → (out out′ : List ℕ) → OutputsAlike a out out′
 no-row granted e out out′ = tt
+no-row (advanced b) e out out′ = tt
 no-row (truth b) e out out′ = tt
 no-row (number n) e out out′ = tt
 no-row (wrote n) e out out′ = absurd (true≢false e)

@@ -23,7 +23,7 @@ use Rattle.contact.specs.Contact.{Lists, contactOf}
 use Rattle.store.specs.declared.Entry.{Entry}
 use Rattle.store.proofs.Lasting.{opened-lasts}
 use Rattle.ledger.specs.declared.Mark.the-variants.{Opened}
-use Rattle.ledger.specs.Call.{truth, cover, Hand, Left, leaves, no, lentOf}
+use Rattle.ledger.specs.Call.{advanced, cover, Hand, Left, leaves, no, lentOf}
 use Rattle.ledger.specs.Step.{renumbered, aboveAs, relisted, coveredIn, inOrder, covering, step}
 use Rattle.ledger.specs.Step as steps
 use Rattle.ledger.specs.Ledger.{Open, Ledger, opened, refuse, fitting, covered, current, coverNow, ledger}
@@ -49,7 +49,7 @@ module _ (N : ℕ) (wide : N + 1 ≡ 256 ^ 4) (run : List ℕ) (es : List Entry)
     abbrev leftOf : Received → Left
     leftOf v =
         cond (fits v (length (ls .above)) f t)
-        (leaves (truth (changeOf v f t .moved))
+        (leaves (advanced (changeOf v f t .moved))
         (relisted (renumbered (o .n) (changeOf v f t .contiguous) (changeOf v f t .count) (contactOf (current N o))) (aboveAs (listAfter v (ls .above) f t) ls) given))
         (no «RANGES_FIT» given)
 
@@ -57,7 +57,7 @@ module _ (N : ℕ) (wide : N + 1 ≡ 256 ^ 4) (run : List ℕ) (es : List Entry)
     plan-left = go (fits (coveredIn given) (length (ls .above)) f t)
       where
         go : (b : Bool) → covering f t given (cond b (planned.Change (changeOf (coveredIn given) f t)) (planned.Refused «RANGES_FIT»))
-            ≡ cond b (leaves (truth (changeOf (coveredIn given) f t .moved))
+            ≡ cond b (leaves (advanced (changeOf (coveredIn given) f t .moved))
             (relisted (renumbered (o .n) (changeOf (coveredIn given) f t .contiguous) (changeOf (coveredIn given) f t .count) (contactOf (current N o)))
             (aboveAs (listAfter (coveredIn given) (ls .above) f t) ls) given)) (no «RANGES_FIT» given)
         go true = refl
@@ -67,7 +67,7 @@ module _ (N : ℕ) (wide : N + 1 ≡ 256 ^ 4) (run : List ℕ) (es : List Entry)
     abbrev leftAs : Received → Left
     leftAs r =
         cond (leb (length (r .above)) (limitOf (length (ls .above))))
-        (leaves (truth (not (eqb (r .contiguous) (covered N o .contiguous))))
+        (leaves (advanced (not (eqb (r .contiguous) (covered N o .contiguous))))
         (relisted (renumbered (o .n) (r .contiguous) (length (r .above)) (contactOf (current N o)))
         (aboveAs (cond (leb (length (r .above)) (limitOf (length (ls .above)))) (stored (r .above) (length (covered N o .above)) (ls .above)) (ls .above)) ls) given))
         (no «RANGES_FIT» given)
@@ -122,12 +122,12 @@ module _ (N : ℕ) (wide : N + 1 ≡ 256 ^ 4) (run : List ℕ) (es : List Entry)
           }
 
           grants : Good N here given
-              (leaves (truth (not (eqb (covered N wider .contiguous) (covered N o .contiguous))))
+              (leaves (advanced (not (eqb (covered N wider .contiguous) (covered N o .contiguous))))
               (relisted (renumbered (o .n) (covered N wider .contiguous) (length (covered N wider .above)) (contactOf (current N o)))
               (aboveAs (stored (covered N wider .above) (length (covered N o .above)) (ls .above)) ls) given))
-              (record { answer = truth (not (eqb (covered N wider .contiguous) (covered N o .contiguous))); state = opened run es wider; freed = freed; output = [] })
+              (record { answer = advanced (not (eqb (covered N wider .contiguous) (covered N o .contiguous))); state = opened run es wider; freed = freed; output = [] })
           grants = record {
-            agrees = λ i. leaves (truth (not (eqb (covered N wider .contiguous) (covered N o .contiguous))))
+            agrees = λ i. leaves (advanced (not (eqb (covered N wider .contiguous) (covered N o .contiguous))))
                 (record { mark = Opened (record { 0 = o .id }); run = run; entries = es; contact = contactOf (current N wider); lists = lists-are i; out = out });
             next = (
               sound-wider,
@@ -148,11 +148,11 @@ module _ (N : ℕ) (wide : N + 1 ≡ 256 ^ 4) (run : List ℕ) (es : List Entry)
       covers-now fit =
           either (leb (length (covered N wider .above)) (limitOf (length (ls .above))))
           (λ b. Good N here given
-          (cond b (leaves (truth (not (eqb (covered N wider .contiguous) (covered N o .contiguous))))
+          (cond b (leaves (advanced (not (eqb (covered N wider .contiguous) (covered N o .contiguous))))
           (relisted (renumbered (o .n) (covered N wider .contiguous) (length (covered N wider .above)) (contactOf (current N o)))
           (aboveAs (cond b (stored (covered N wider .above) (length (covered N o .above)) (ls .above)) (ls .above)) ls) given)) (no «RANGES_FIT» given))
           (cond b (record {
-            answer = truth (not (eqb (covered N wider .contiguous) (covered N o .contiguous)));
+            answer = advanced (not (eqb (covered N wider .contiguous) (covered N o .contiguous)));
             state = opened run es wider;
             freed = length (covered N o .above) - length (covered N wider .above);
             output = [];

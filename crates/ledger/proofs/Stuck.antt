@@ -33,7 +33,7 @@ use Rattle.store.proofs.Rounds.{some≢none}
 use Rattle.store.proofs.Tests.{is-of}
 use Rattle.store.proofs.Accepted.{going-quiet}
 use Rattle.ledger.specs.declared.Mark.the-variants.{Fresh, Restored}
-use Rattle.ledger.specs.Call.{Call, restore, opens, cover, contains, covers, take, statement, write, granted, truth, number, wrote, said, refused, refusedAt, Hand, Left, no, lentOf}
+use Rattle.ledger.specs.Call.{Call, restore, opens, cover, contains, covers, take, statement, write, granted, advanced, truth, number, wrote, said, refused, refusedAt, Hand, Left, no, lentOf}
 use Rattle.ledger.specs.Call as call
 use Rattle.ledger.specs.Step.{restoring, passes, contactIn, filling, opening, inOrder, covering, writing, step}
 use Rattle.ledger.specs.Step as steps
@@ -49,6 +49,7 @@ use Rattle.ledger.proofs.Every.{each-turn, begun}
 -- ---- answers that are 34
 abbrev is34 : call.Answer → Bool
 is34 granted = false
+is34 (advanced b) = false
 is34 (truth b) = false
 is34 (number n) = false
 is34 (wrote n) = false

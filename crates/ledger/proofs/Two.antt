@@ -9,7 +9,7 @@ use lib.Seq.{take-at}
 use Rattle.store.specs.declared.Entry.{Entry}
 use Rattle.ledger.specs.declared.Mark.{Mark}
 use Rattle.ledger.specs.declared.Mark.the-variants.{Fresh, Opened}
-use Rattle.ledger.specs.Call.{Call, Answer, granted, truth, number, wrote, said, refused, refusedAt, isGranted, Hand, Lent, Left, lentOf}
+use Rattle.ledger.specs.Call.{Call, Answer, granted, advanced, truth, number, wrote, said, refused, refusedAt, isGranted, Hand, Lent, Left, lentOf}
 use Rattle.ledger.specs.Step.{step}
 use Rattle.ledger.specs.Ledger.{Open, Ledger, nothing, restored, opened, Account, current, ledger}
 use Rattle.ledger.specs.Legal.{Turn, Legal}
@@ -28,6 +28,7 @@ written : (a : Answer) (row row′ out out′ : List ℕ) → OutputsAlike a row
 written (wrote n) row row′ out out′ h =
     subst₂ RowsAlike (sym (take-at row out n (sym (h .0)))) (sym (take-at row′ out′ n (sym (h .0 ∙ h .1 .long)))) (h .1)
 written granted row row′ out out′ h = tt
+written (advanced b) row row′ out out′ h = tt
 written (truth b) row row′ out out′ h = tt
 written (number n) row row′ out out′ h = tt
 written (said n line) row row′ out out′ h = tt

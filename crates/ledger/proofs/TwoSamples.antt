@@ -19,7 +19,7 @@ use Rattle.received.specs.Lent as received
 use Rattle.received.specs.Sets as sets
 use Rattle.contact_put.specs.Row as row
 use Rattle.store.specs.Kinds.{DEVICE, CONTACT}
-use Rattle.ledger.specs.Call.{Call, restore, opens, cover, contains, Answer, granted, truth, number, wrote, said, refused, refusedAt}
+use Rattle.ledger.specs.Call.{Call, restore, opens, cover, contains, Answer, granted, advanced, truth, number, wrote, said, refused, refusedAt}
 use Rattle.line.specs.Line as lines
 use Rattle.ledger.specs.Step as steps
 use Rattle.ledger.specs.Ledger.{nothing}
@@ -38,14 +38,14 @@ abbrev reopened : List Call
 reopened = two ∷ opens 1 ∷ cover 3 3 ∷ opens 2 ∷ contains 3 ∷ cover 1 1 ∷ opens 1 ∷ contains 3 ∷ contains 4 ∷ opens 2 ∷ contains 1 ∷ []
 
 abbrev reopenedSays : List Answer
-reopenedSays = granted ∷ granted ∷ truth true ∷ granted ∷ truth false ∷ truth true ∷ granted ∷ truth false ∷ truth true ∷ granted ∷ truth false ∷ []
+reopenedSays = granted ∷ granted ∷ advanced true ∷ granted ∷ truth false ∷ advanced true ∷ granted ∷ truth false ∷ truth true ∷ granted ∷ truth false ∷ []
 
 -- a refused restore leaves the contact open with what was covered, a granted one leaves none open
 abbrev restoredAgain : List Call
 restoredAgain = two ∷ opens 1 ∷ cover 3 3 ∷ restore [] [] ∷ contains 3 ∷ two ∷ contains 3 ∷ opens 1 ∷ contains 3 ∷ []
 
 abbrev restoredAgainSays : List Answer
-restoredAgainSays = granted ∷ granted ∷ truth true ∷ refusedAt ORDER 0 ∷ truth true ∷ granted ∷ refused STORE ∷ granted ∷ truth false ∷ []
+restoredAgainSays = granted ∷ granted ∷ advanced true ∷ refusedAt ORDER 0 ∷ truth true ∷ granted ∷ refused STORE ∷ granted ∷ truth false ∷ []
 
 two-contacts : (answers N reopened (fresh pairs2 0) ≡ reopenedSays) × (answers N restoredAgain (fresh pairs2 0) ≡ restoredAgainSays)
 unfolding steps.step layout.parse layout.print form.bigEndian form.bytesOf form.readMany form.printMany form.lebRead utf.completes
@@ -62,7 +62,7 @@ abbrev eightWith : (last : ℕ) → List Call
 eightWith last = restore (runOf (keyed last 3 2 four)) entries ∷ opens 1 ∷ six
 
 abbrev eightSays : List Answer
-eightSays = granted ∷ granted ∷ truth true ∷ truth true ∷ truth true ∷ number 4 ∷ said 16 (line 0x34 0x34 0x30) ∷ wrote 303 ∷ []
+eightSays = granted ∷ granted ∷ advanced true ∷ truth true ∷ truth true ∷ number 4 ∷ said 16 (line 0x34 0x34 0x30) ∷ wrote 303 ∷ []
 
 veiled-byte :
     (answers N (eightWith 8) (fresh pairs2 320) ≡ eightSays)

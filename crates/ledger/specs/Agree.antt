@@ -14,9 +14,8 @@ use Rattle.received.specs.Lent.{flat}
 use Rattle.contact.specs.Contact.{Lists, contactOf}
 use Rattle.ledger.specs.declared.Mark.the-variants.{Fresh, Restored, Opened}
 use Rattle.ledger.specs.Call.{Hand, Left, leaves, lentOf}
-use Rattle.ledger.specs.Step.{step}
 use Rattle.ledger.specs.Ledger.{Ledger, nothing, restored, opened, Account, current, ledger}
-use Rattle.ledger.specs.Legal.{Turn}
+use Rattle.ledger.specs.Legal.{Turn, made}
 
 -- a list with these items at its front, each w places, as far as its length goes in whole items; what stands behind them stays
 unfoldable pub laid : (w : ℕ) → (items : List ℕ) → List ℕ → List ℕ
@@ -49,9 +48,11 @@ module _ (N : ℕ) where
   abbrev pub shown : Account → Hand → Left
   shown a h = leaves (a .answer) (standing (a .state) (a .freed) (a .output ++ drop (length (a .output)) (h .out)) h)
 
+  -- what the ledger says of a turn: it is fed the call and the lent lengths
+  abbrev pub booked : Turn → Ledger → Account
+  booked t l = ledger N (t .call) (lentOf (t .hand)) l
+
   -- a list of calls agrees with the ledger, call by call: the answer, and all that stands afterwards
   abbrev pub AgreesAll : Ledger → List Turn → Type 0
   AgreesAll l [] = Unit {0}
-  AgreesAll l (t ∷ ts) =
-      let a = ledger N (t .call) (lentOf (t .hand)) l in
-      (step N (t .call) (t .hand) ≡ shown a (t .hand)) × AgreesAll (a .state) ts
+  AgreesAll l (t ∷ ts) = let a = booked t l in (made N t ≡ shown a (t .hand)) × AgreesAll (a .state) ts

@@ -5,8 +5,7 @@ use mathlib.Core.List.{List, [], _∷_}
 use mathlib.Core.Path.{_≡_}
 use Rattle.store.specs.Veiled.{blanked, Apart}
 use Rattle.ledger.specs.Call.{Call, restore, opens, cover, contains, covers, take, statement, write, Hand, lentOf}
-use Rattle.ledger.specs.Step.{step}
-use Rattle.ledger.specs.Legal.{Turn, Legal}
+use Rattle.ledger.specs.Legal.{Turn, made, Legal}
 
 -- the call, on the store with 0 for each byte that some row veils
 abbrev pub blankCall : Call → Call
@@ -37,7 +36,7 @@ module _ (N : ℕ) where
   SameAnswers [] (u ∷ us) = ⊥
   SameAnswers (t ∷ ts) [] = ⊥
   SameAnswers (t ∷ ts) (u ∷ us) =
-      (u .call ≡ blankCall (t .call)) × (lentOf (t .hand) ≡ lentOf (u .hand)) × (step N (t .call) (t .hand) .answer ≡ step N (u .call) (u .hand) .answer) × SameAnswers ts us
+      (u .call ≡ blankCall (t .call)) × (lentOf (t .hand) ≡ lentOf (u .hand)) × (made N t .answer ≡ made N u .answer) × SameAnswers ts us
 
   pub record Blanks (g : Hand) (ts : List Turn) : Type 0 where
     pub turns : List Turn

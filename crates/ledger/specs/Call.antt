@@ -20,10 +20,11 @@ pub data Call : Type 0 where
   statement : Call
   write : Call
 
--- restore and open answer yes; cover, contains and covers a truth; take the number taken; write the length written; statement the length and the line's bytes.
+-- restore and open answer yes; cover whether contiguous moved; contains and covers a truth; take the number taken; write the length written; statement the length and the line's bytes.
 -- A refusal is the question's number, restore's with the entry's index
 pub data Answer : Type 0 where
   granted : Answer
+  advanced : (moved : Bool) → Answer
   truth : Bool → Answer
   number : ℕ → Answer
   wrote : (length : ℕ) → Answer
@@ -33,6 +34,7 @@ pub data Answer : Type 0 where
 
 abbrev pub isGranted : Answer → Bool
 isGranted granted = true
+isGranted (advanced b) = true
 isGranted (truth b) = true
 isGranted (number n) = true
 isGranted (wrote n) = true

@@ -19,7 +19,7 @@ use Rattle.contact_put.specs.Row.{within}
 use Rattle.store.specs.declared.Entry.{Entry}
 use Rattle.store.specs.Store as store
 use Rattle.store.specs.Store.{storeOf, partOf, storePasses, replacedPasses}
-use Rattle.ledger.specs.Call.{Call, restore, opens, cover, contains, covers, take, statement, write, Answer, granted, truth, number, wrote, said, refused, refusedAt, Lent}
+use Rattle.ledger.specs.Call.{Call, restore, opens, cover, contains, covers, take, statement, write, Answer, granted, advanced, truth, number, wrote, said, refused, refusedAt, Lent}
 use Rattle.line.specs.Line.{lineOf, queuedOf}
 use Rattle.ledger.specs.Step.{contactIn, inOrder}
 
@@ -153,7 +153,7 @@ module _ (N : ℕ) where
       let after = recordOf N (add f t (o .S)) in
       cond (leb (length (after .above)) (limitOf (lent .above)))
       (record {
-        answer = truth (not (eqb (after .contiguous) (before .contiguous)));
+        answer = advanced (not (eqb (after .contiguous) (before .contiguous)));
         state = opened run es (record { id = o .id; fields = o .fields; n = o .n; S = add f t (o .S) });
         freed = length (before .above) - length (after .above);
         output = [];

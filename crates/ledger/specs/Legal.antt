@@ -62,6 +62,10 @@ abbrev pub lastLeft : Hand → Left → Hand
 lastLeft g l = cond (isGranted (l .answer)) (l .after) g
 
 module _ (N : ℕ) where
+  -- what a turn leaves: the call made of what it is handed
+  abbrev pub made : Turn → Left
+  made t = step N (t .call) (t .hand)
+
   -- what the arguments' types say: a run is of bytes, a message number at most N
   abbrev pub Typed : Call → Type 0
   Typed (restore run es) = Bytes run
@@ -76,4 +80,4 @@ module _ (N : ℕ) where
   -- lent lengths, outputs, and what stands behind the items vary freely from call to call
   abbrev pub Legal : Hand → List Turn → Type 0
   Legal g [] = Unit {0}
-  Legal g (t ∷ ts) = Typed (t .call) × Handed g (t .hand) × Legal (lastLeft g (step N (t .call) (t .hand))) ts
+  Legal g (t ∷ ts) = Typed (t .call) × Handed g (t .hand) × Legal (lastLeft g (made t)) ts

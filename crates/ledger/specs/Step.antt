@@ -27,7 +27,7 @@ use Rattle.store.specs.Store as store
 use Rattle.store.specs.Store.{storeOf, isOf, partOf, storePasses, replacedPasses}
 use Rattle.ledger.specs.declared.Mark.{Mark}
 use Rattle.ledger.specs.declared.Mark.the-variants.{Fresh, Restored, Opened}
-use Rattle.ledger.specs.Call.{Call, restore, opens, cover, contains, covers, take, statement, write, Answer, granted, truth, number, wrote, said, refused, refusedAt, Hand, Left, leaves, no}
+use Rattle.ledger.specs.Call.{Call, restore, opens, cover, contains, covers, take, statement, write, Answer, granted, advanced, truth, number, wrote, said, refused, refusedAt, Hand, Left, leaves, no}
 use Rattle.line.specs.Line.{lineOf, queuedOf}
 
 -- ---- restore writes to nothing lent: it leaves another store, and no contact open
@@ -121,7 +121,7 @@ inOrder f t = leb 1 f && leb f t
 -- 38. The answer is whether contiguous moved; list places that cover frees become 0
 abbrev pub covering : (from to : ℕ) → Hand → Planned → Left
 covering f t h (planned.Change c) =
-    leaves (truth (c .moved))
+    leaves (advanced (c .moved))
     (relisted (renumbered (h .contact .«sent_msgno») (c .contiguous) (c .count) (h .contact)) (aboveAs (listAfter (coveredIn h) (h .lists .above) f t) (h .lists)) h)
 covering f t h (planned.Refused q) = no q h
 

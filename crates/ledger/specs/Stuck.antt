@@ -11,8 +11,7 @@ use Rattle.contact.specs.Contact.{Lists}
 use Rattle.ledger.specs.declared.Mark.{Mark}
 use Rattle.ledger.specs.declared.Mark.the-variants.{Fresh, Restored, Opened}
 use Rattle.ledger.specs.Call.{Call, restore, opens, cover, contains, covers, take, statement, write, refused, Hand}
-use Rattle.ledger.specs.Step.{step}
-use Rattle.ledger.specs.Legal.{Turn}
+use Rattle.ledger.specs.Legal.{Turn, made}
 
 -- each list has places for as many items as are counted
 abbrev pub placesFor : Contact → Lists → Bool
@@ -46,4 +45,4 @@ Excuse statement h = Wanting (h .mark) h
 Excuse write h = Wanting (h .mark) h
 
 abbrev pub Unstuck : (N : ℕ) → Turn → Type 0
-Unstuck N t = step N (t .call) (t .hand) .answer ≡ refused STORE → Excuse (t .call) (t .hand)
+Unstuck N t = made N t .answer ≡ refused STORE → Excuse (t .call) (t .hand)

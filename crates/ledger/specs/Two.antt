@@ -13,9 +13,8 @@ use Rattle.store.specs.declared.Entry.{Entry}
 use Rattle.store.specs.Veiled.{VeilEqual, ContactAlike}
 use Rattle.ledger.specs.declared.Mark.{Mark}
 use Rattle.ledger.specs.declared.Mark.the-variants.{Fresh, Restored, Opened}
-use Rattle.ledger.specs.Call.{Call, restore, Answer, granted, truth, number, wrote, said, refused, refusedAt, Hand, Left, lentOf}
-use Rattle.ledger.specs.Step.{step}
-use Rattle.ledger.specs.Legal.{Turn}
+use Rattle.ledger.specs.Call.{Call, restore, Answer, granted, advanced, truth, number, wrote, said, refused, refusedAt, Hand, Left, lentOf}
+use Rattle.ledger.specs.Legal.{Turn, made}
 use Rattle.ledger.specs.Agree.{laidLists}
 
 -- ---- the same call; restores may be of stores that differ only in veiled bytes
@@ -39,6 +38,7 @@ pub record RowsAlike (row row′ : List ℕ) : Type 0 where
 abbrev pub WrittenAlike : Answer → (out out′ : List ℕ) → Type 0
 WrittenAlike (wrote n) out out′ = RowsAlike (take n out) (take n out′)
 WrittenAlike granted out out′ = Unit {0}
+WrittenAlike (advanced b) out out′ = Unit {0}
 WrittenAlike (truth b) out out′ = Unit {0}
 WrittenAlike (number n) out out′ = Unit {0}
 WrittenAlike (said n line) out out′ = Unit {0}
@@ -75,4 +75,4 @@ module _ (N : ℕ) where
   AlikeAll [] [] = Unit {0}
   AlikeAll [] (u ∷ us) = ⊥
   AlikeAll (t ∷ ts) [] = ⊥
-  AlikeAll (t ∷ ts) (u ∷ us) = LeftsAlike (step N (t .call) (t .hand)) (step N (u .call) (u .hand)) × AlikeAll ts us
+  AlikeAll (t ∷ ts) (u ∷ us) = LeftsAlike (made N t) (made N u) × AlikeAll ts us
