@@ -16,7 +16,8 @@ ghost use lib.Dec.{ltb, eqb};
 ghost use Rattle.rows.specs.Checks.{any};
 ghost use Rattle.store.specs.Store.{partOf};
 ghost use Rattle.across.specs.Owner.{contactSeen, ownerSeen, unackedAt, Searchable, OwnerStands};
-ghost use Rattle.across.specs.Across.{begunFrom, ownerAside, contactOf, earlier, farLimit, chosen, ownerLimit, spotOf, twinOf, pairAbove, twinBelow, twinLimit, lowIn, nextContactIn, depositorIn, deviceTurn, contactTurn, FoundTurn, courierTurn, Settled, Reusable};
+ghost use Rattle.across.specs.Across.{begunFrom, ownerAside, contactOf, earlier, farLimit, chosen, ownerLimit, spotOf, twinOf, pairAbove, twinBelow, twinLimit};
+ghost use Rattle.across.specs.Across.{lowIn, nextContactIn, depositorIn, deviceTurn, contactTurn, FoundTurn, courierTurn, Settled, Reusable};
 
 // What is asked of a queued row's contact: sent_msgno, and where in its row the unacked numbers start and how many they are.
 pub struct Owner {

@@ -6,6 +6,8 @@ use mathlib.Core.Bool.{Bool, false, cond, _&&_}
 use mathlib.Core.Option.{Option, none, some}
 use lib.ListN.{length}
 use lib.Dec.{leb}
+use denote.Ref.{RefT, now}
+use denote.Triple.Both.{Both}
 use Rattle.layout.specs.Questions.{LISTS}
 use Rattle.layout.specs.Veil.{zeros}
 use Rattle.layout.specs.Layout.{Answer, readRow, group, present}
@@ -42,6 +44,17 @@ pub record Lists : Type 0 where
 
 abbrev pub lists : (chains skipped above unacked expired : List ℕ) → Lists
 lists chains skipped above unacked expired = record { chains = chains; skipped = skipped; above = above; unacked = unacked; expired = expired }
+
+-- a slice of numbers that a function is lent, as its contract sees it: at entry and at exit
+abbrev pub Slice : Type 0
+Slice = Both (RefT (List ℕ)) (RefT (List ℕ))
+
+-- the five lists before the function ran, and after it
+abbrev pub listsBefore : (chains skipped above unacked expired : Slice) → Lists
+listsBefore c s a u e = lists (now (c .entry)) (now (s .entry)) (now (a .entry)) (now (u .entry)) (now (e .entry))
+
+abbrev pub listsAfter : (chains skipped above unacked expired : Slice) → Lists
+listsAfter c s a u e = lists (now (c .exit)) (now (s .exit)) (now (a .exit)) (now (u .exit)) (now (e .exit))
 
 -- ---- the struct of a value: 0 stands where a flag leaves something out
 abbrev pub sendOf : Option value.Send → SendChain

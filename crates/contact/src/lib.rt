@@ -27,7 +27,7 @@ ghost use Rattle.parts.specs.Places.{CardPlaces, cardIn, pendingFrom, sendFrom}
 ghost use Rattle.contact.specs.Consistent.{chainsRefusal, numbersRefusal, inconsistency, refusalIn};
 ghost use Rattle.contact.specs.Check.{contactFrom, Places, checkSays, Placed, checkRefusal};
 ghost use Rattle.contact.specs.Check.{PendingRuns, SendRuns, Filling};
-ghost use Rattle.contact.specs.Contact.{pendingKeysOf, sendPartOf, contactOf, zeroContact, lists, filled, Fillable, refusedBy, leaves, reads};
+ghost use Rattle.contact.specs.Contact.{pendingKeysOf, sendPartOf, contactOf, zeroContact, lists, listsBefore, listsAfter, filled, Fillable, refusedBy, leaves, reads};
 
 // The send chain's numbers; its key stands beside it. Absent until the first Resume.
 pub enum SendChain {
@@ -373,7 +373,8 @@ fn long_enough(
     unacked: usize,
     expired: usize,
 ) -> bool
-    ensures { λ r. ⌜ r ≡ (leb (at .chained .chains .count) (chains / 51) && leb (at .chained .skipped .count) (skipped / 46) && leb (at .numbers .above .count) (above / 2) && leb (at .numbers .unacked .count) unacked && leb (at .numbers .expired .count) (expired / 2)) ⌝ }
+    ensures { λ r. ⌜ r ≡ (leb (at .chained .chains .count) (chains / 51) && leb (at .chained .skipped .count) (skipped / 46)
+        && leb (at .numbers .above .count) (above / 2) && leb (at .numbers .unacked .count) unacked && leb (at .numbers .expired .count) (expired / 2)) ⌝ }
 {
     if chains / lent::CHAIN_PLACE < at.chained.chains.count {
         return false;
@@ -401,7 +402,7 @@ fn fill_lists(
     expired: &mut [u32],
 )
     requires { ⌜ Fillable (now row) at (lists (now chains) (now skipped) (now above) (now unacked) (now expired)) ⌝ }
-    ensures { λ _. ⌜ lists (now (chains .exit)) (now (skipped .exit)) (now (above .exit)) (now (unacked .exit)) (now (expired .exit)) ≡ filled (contactFrom (now (row .entry)) at) (lists (now (chains .entry)) (now (skipped .entry)) (now (above .entry)) (now (unacked .entry)) (now (expired .entry))) ⌝ }
+    ensures { λ _. ⌜ listsAfter chains skipped above unacked expired ≡ filled (contactFrom (now (row .entry)) at) (listsBefore chains skipped above unacked expired) ⌝ }
 {
     let chained = at.chained;
     let numbers = at.numbers;
@@ -422,7 +423,7 @@ pub fn read_contact(
     unacked: &mut [u32],
     expired: &mut [u32],
 ) -> ContactRead
-    ensures { λ r. ⌜ leaves r (lists (now (chains .exit)) (now (skipped .exit)) (now (above .exit)) (now (unacked .exit)) (now (expired .exit))) ≡ reads version (now (row .entry)) (lists (now (chains .entry)) (now (skipped .entry)) (now (above .entry)) (now (unacked .entry)) (now (expired .entry))) ⌝ }
+    ensures { λ r. ⌜ leaves r (listsAfter chains skipped above unacked expired) ≡ reads version (now (row .entry)) (listsBefore chains skipped above unacked expired) ⌝ }
 {
     let check = check_contact(version, row);
     let ContactCheck::Fields(at) = check else {

@@ -4,7 +4,7 @@ use contact::ContactCheck;
 use rows::Verdict;
 use rows::Written;
 ghost use mathlib.Core.Path.{_≡_};
-ghost use Rattle.contact.specs.Contact.{lists};
+ghost use Rattle.contact.specs.Contact.{listsBefore, listsAfter};
 ghost use Rattle.contact_face.specs.Faces.{leaves, checkNumber, rewriteContact};
 
 // Whether a contact row is accepted; nothing is copied.
@@ -30,7 +30,7 @@ pub extern "C" fn sicklestar_contact(
     expired: &mut [u32],
     out: &mut [u8],
 ) -> u32
-    ensures { λ r. ⌜ leaves r (lists (now (chains .exit)) (now (skipped .exit)) (now (above .exit)) (now (unacked .exit)) (now (expired .exit))) (now (out .exit)) ≡ rewriteContact version (now (row .entry)) (lists (now (chains .entry)) (now (skipped .entry)) (now (above .entry)) (now (unacked .entry)) (now (expired .entry))) (now (out .entry)) ⌝ }
+    ensures { λ r. ⌜ leaves r (listsAfter chains skipped above unacked expired) (now (out .exit)) ≡ rewriteContact version (now (row .entry)) (listsBefore chains skipped above unacked expired) (now (out .entry)) ⌝ }
 {
     let read = contact::read_contact(version, row, chains, skipped, above, unacked, expired);
     let verdict = read.verdict;

@@ -18,7 +18,7 @@ ghost use Rattle.parts.specs.Parts.{paired, keys, numbers};
 ghost use Rattle.received.specs.Lent.{pairs};
 ghost use Rattle.lent.specs.Lent.{Granted, chainsBytes, skippedBytes};
 ghost use Rattle.contact_put.specs.Row.{SendTyped, ContactTyped, pairedOf, keysOf, pendingOf, sendOf, numbersOf, counters, listsImage, chainedImage, image};
-ghost use Rattle.contact.specs.Contact.{lists};
+ghost use Rattle.contact.specs.Contact.{lists, listsBefore};
 ghost use Rattle.contact_put.specs.Row.{ChainsLent, NumbersLent, Writable};
 
 // What the types say, as facts.
@@ -148,7 +148,8 @@ fn put_pending(out: &mut [u8], at: usize, contact: Contact) -> usize
 // The flag, and its send chain.
 fn put_send(out: &mut [u8], at: usize, contact: Contact) -> usize
     requires { ⌜ at + length ((optional (group send)) .print (sendOf (contact .send) (contact .«send_key»))) ≤ length (now out) ⌝ }
-    ensures { λ r. ⌜ (r ≡ at + length ((optional (group send)) .print (sendOf (contact .send) (contact .«send_key»)))) × Wrote (now (out .entry)) at ((optional (group send)) .print (sendOf (contact .send) (contact .«send_key»))) (now (out .exit)) r ⌝ }
+    ensures { λ r. ⌜ (r ≡ at + length ((optional (group send)) .print (sendOf (contact .send) (contact .«send_key»))))
+        × Wrote (now (out .entry)) at ((optional (group send)) .print (sendOf (contact .send) (contact .«send_key»))) (now (out .exit)) r ⌝ }
 {
     typed(contact);
     let send = contact.send;
@@ -220,7 +221,8 @@ fn put_lists(
     expired: &[u32],
 ) -> usize
     requires { ⌜ NumbersLent contact (lists [] [] (now above) (now unacked) (now expired)) × (at + (6 + 8 * contact .above + 4 * contact .unacked + 8 * contact .expired) ≤ length (now out)) ⌝ }
-    ensures { λ r. ⌜ (r ≡ at + (6 + 8 * contact .above + 4 * contact .unacked + 8 * contact .expired)) × Wrote (now (out .entry)) at (listsImage contact (lists [] [] (now (above .entry)) (now (unacked .entry)) (now (expired .entry)))) (now (out .exit)) r ⌝ }
+    ensures { λ r. ⌜ (r ≡ at + (6 + 8 * contact .above + 4 * contact .unacked + 8 * contact .expired))
+        × Wrote (now (out .entry)) at (listsImage contact (lists [] [] (now (above .entry)) (now (unacked .entry)) (now (expired .entry)))) (now (out .exit)) r ⌝ }
 {
     let unacked_at = put_range_list(out, at, above, contact.above);
     let expired_at = put_number_list(out, unacked_at, unacked, contact.unacked);
@@ -237,7 +239,8 @@ fn put_numbers(
     expired: &[u32],
 ) -> usize
     requires { ⌜ NumbersLent contact (lists [] [] (now above) (now unacked) (now expired)) × (at + (22 + 8 * contact .above + 4 * contact .unacked + 8 * contact .expired) ≤ length (now out)) ⌝ }
-    ensures { λ r. ⌜ (r ≡ at + (22 + 8 * contact .above + 4 * contact .unacked + 8 * contact .expired)) × Wrote (now (out .entry)) at (print numbers (numbersOf contact (lists [] [] (now (above .entry)) (now (unacked .entry)) (now (expired .entry))))) (now (out .exit)) r ⌝ }
+    ensures { λ r. ⌜ (r ≡ at + (22 + 8 * contact .above + 4 * contact .unacked + 8 * contact .expired))
+        × Wrote (now (out .entry)) at (print numbers (numbersOf contact (lists [] [] (now (above .entry)) (now (unacked .entry)) (now (expired .entry))))) (now (out .exit)) r ⌝ }
 {
     let lists_at = put_counters(out, at, contact);
     put_lists(out, lists_at, contact, above, unacked, expired)
@@ -246,7 +249,8 @@ fn put_numbers(
 // What it awaits and sends, its chains and its skipped keys.
 fn put_chained(out: &mut [u8], at: usize, contact: Contact, chains: &[u8], skipped: &[u8]) -> usize
     requires { ⌜ ChainsLent contact (lists (now chains) (now skipped) [] [] []) × (at + length (chainedImage contact (lists (now chains) (now skipped) [] [] [])) ≤ length (now out)) ⌝ }
-    ensures { λ r. ⌜ (r ≡ at + length (chainedImage contact (lists (now (chains .entry)) (now (skipped .entry)) [] [] []))) × Wrote (now (out .entry)) at (chainedImage contact (lists (now (chains .entry)) (now (skipped .entry)) [] [] [])) (now (out .exit)) r ⌝ }
+    ensures { λ r. ⌜ (r ≡ at + length (chainedImage contact (lists (now (chains .entry)) (now (skipped .entry)) [] [] [])))
+        × Wrote (now (out .entry)) at (chainedImage contact (lists (now (chains .entry)) (now (skipped .entry)) [] [] [])) (now (out .exit)) r ⌝ }
 {
     let send_at = put_pending(out, at, contact);
     let chains_at = put_send(out, send_at, contact);
@@ -265,7 +269,7 @@ pub fn put_row(
     expired: &[u32],
 ) -> usize
     requires { ⌜ Writable contact (lists (now chains) (now skipped) (now above) (now unacked) (now expired)) (now out) ⌝ }
-    ensures { λ r. ⌜ (r ≡ length (image contact (lists (now (chains .entry)) (now (skipped .entry)) (now (above .entry)) (now (unacked .entry)) (now (expired .entry))))) × Wrote (now (out .entry)) 0 (image contact (lists (now (chains .entry)) (now (skipped .entry)) (now (above .entry)) (now (unacked .entry)) (now (expired .entry)))) (now (out .exit)) r ⌝ }
+    ensures { λ r. ⌜ (r ≡ length (image contact (listsBefore chains skipped above unacked expired))) × Wrote (now (out .entry)) 0 (image contact (listsBefore chains skipped above unacked expired)) (now (out .exit)) r ⌝ }
 {
     let keys_at = put_paired(out, 0, contact);
     let chained_at = put_keys(out, keys_at, contact);

@@ -14,7 +14,7 @@ ghost use Rattle.rows.specs.Answers as answers;
 ghost use Rattle.received.specs.Lent.{pairs};
 ghost use Rattle.lent.specs.Lent.{chainsOf, skippedOf};
 ghost use Rattle.contact.specs.Consistent.{chainsRefusal, numbersRefusal, inconsistency, refusalIn};
-ghost use Rattle.contact.specs.Contact.{lists};
+ghost use Rattle.contact.specs.Contact.{lists, listsBefore};
 ghost use Rattle.contact_put.specs.Row.{within, ChainsLent, NumbersLent, contactIn, askedContact, writesContact};
 ghost use Rattle.contact_row.specs.Sizes.{sendSize, rowSize};
 
@@ -87,7 +87,8 @@ fn chains_consistent(contact: Contact, chains: &[u8], skipped: &[u8]) -> Verdict
 // Questions 21 to 24, of lent numbers.
 fn numbers_consistent(contact: Contact, above: &[u32], unacked: &[u32], expired: &[u32]) -> Verdict
     requires { ⌜ NumbersLent contact (lists [] [] (now above) (now unacked) (now expired)) ⌝ }
-    ensures { λ r. ⌜ refusalIn r ≡ numbersRefusal (contact .«sent_msgno») (contact .«peer_acked») (contact .contiguous) (pairs (contact .above) (now (above .entry))) (take (contact .unacked) (now (unacked .entry))) (pairs (contact .expired) (now (expired .entry))) ⌝ }
+    ensures { λ r. ⌜ refusalIn r ≡ numbersRefusal (contact .«sent_msgno») (contact .«peer_acked») (contact .contiguous)
+        (pairs (contact .above) (now (above .entry))) (take (contact .unacked) (now (unacked .entry))) (pairs (contact .expired) (now (expired .entry))) ⌝ }
 {
     let sent = contact.sent_msgno;
     if sent < contact.peer_acked {
@@ -144,7 +145,7 @@ fn consistent_lent(
     expired: &[u32],
 ) -> Verdict
     requires { ⌜ ChainsLent contact (lists (now chains) (now skipped) [] [] []) × NumbersLent contact (lists [] [] (now above) (now unacked) (now expired)) ⌝ }
-    ensures { λ r. ⌜ refusalIn r ≡ inconsistency (contactIn contact (lists (now (chains .entry)) (now (skipped .entry)) (now (above .entry)) (now (unacked .entry)) (now (expired .entry)))) ⌝ }
+    ensures { λ r. ⌜ refusalIn r ≡ inconsistency (contactIn contact (listsBefore chains skipped above unacked expired)) ⌝ }
 {
     let first = chains_consistent(contact, chains, skipped);
     let Verdict::Accepted = first else {
@@ -162,7 +163,7 @@ pub fn contact_size(
     unacked: &[u32],
     expired: &[u32],
 ) -> Written
-    ensures { λ r. ⌜ writtenSays r ≡ askedContact contact (lists (now (chains .entry)) (now (skipped .entry)) (now (above .entry)) (now (unacked .entry)) (now (expired .entry))) ⌝ }
+    ensures { λ r. ⌜ writtenSays r ≡ askedContact contact (listsBefore chains skipped above unacked expired) ⌝ }
 {
     contact_put::typed(contact);
     if !counts_fit(
@@ -205,7 +206,7 @@ pub fn write_contact(
     expired: &[u32],
     out: &mut [u8],
 ) -> Written
-    ensures { λ r. ⌜ answers.leaves r (now (out .exit)) ≡ writesContact contact (lists (now (chains .entry)) (now (skipped .entry)) (now (above .entry)) (now (unacked .entry)) (now (expired .entry))) (now (out .entry)) ⌝ }
+    ensures { λ r. ⌜ answers.leaves r (now (out .exit)) ≡ writesContact contact (listsBefore chains skipped above unacked expired) (now (out .entry)) ⌝ }
 {
     contact_put::typed(contact);
     let size = contact_size(contact, chains, skipped, above, unacked, expired);

@@ -13,7 +13,8 @@ ghost use Rattle.line.specs.Line.{isDigit};
 ghost use Rattle.put.specs.Put.{put};
 ghost use Rattle.sheet.specs.Blob.{isHex, hexValue};
 ghost use Rattle.sheet.specs.Sheet.{U32, shapeOf, «BLOB_BYTES»};
-ghost use Rattle.sheet.specs.Machine.{atLine, waiting, stopped, begun, begunAs, highestAt, digitStep, numberStep, taken, commaStep, highStep, roomFor, bytesIn, linesIn, lowStep, lowRun, idIn, msgnoIn, six, closed, closedPlaces, endStep, endPlaces, otherStep, held, stepped, fed, answerOf};
+ghost use Rattle.sheet.specs.Machine.{atLine, waiting, stopped, begun, begunAs, highestAt, digitStep, numberStep, taken, commaStep, highStep, roomFor};
+ghost use Rattle.sheet.specs.Machine.{bytesIn, linesIn, lowStep, lowRun, idIn, msgnoIn, six, closed, closedPlaces, endStep, endPlaces, otherStep, held, stepped, fed, answerOf};
 
 const LF: u8 = b'\n';
 

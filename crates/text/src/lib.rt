@@ -307,7 +307,8 @@ fn put_entry(out: &mut [u8], at: usize, line: Line) -> usize
 // The line of the i-th entry, of n.
 fn line_at(run: &[u8], places: &[u64], n: usize, i: usize) -> Line
     requires { ⌜ (length (now run) ≤ 61440) × (i < n) × (n ≤ 512) × (6 * n ≤ length (now places)) ⌝ }
-    ensures { λ r. ⌜ Lined (entryText (now (run .entry)) (queuedOf (entryFrom (now (places .entry)) i .id) (entriesOf (now (places .entry)) n)) (entryFrom (now (places .entry)) i)) (entryCount (now (run .entry)) (entryFrom (now (places .entry)) i)) r ⌝ }
+    ensures { λ r. ⌜ Lined (entryText (now (run .entry)) (queuedOf (entryFrom (now (places .entry)) i .id) (entriesOf (now (places .entry)) n)) (entryFrom (now (places .entry)) i))
+        (entryCount (now (run .entry)) (entryFrom (now (places .entry)) i)) r ⌝ }
 {
     let e = entry_in(places, i);
     if e.kind == store::CONTACT {
@@ -358,8 +359,10 @@ pub fn write_granted(
     out: &mut [u8],
 ) -> Written
     requires { ⌜ (length (now run) ≤ 61440) × (n ≤ 512) × (6 * n ≤ length (now places)) ⌝ }
-    ensures { λ r. ⌜ leaves r (now (out .exit)) ≡ stored (linesFrom (now (run .entry)) (entriesOf (now (places .entry)) n) (entriesOf (now (places .entry)) n) ++ lastLine (countFrom (now (run .entry)) (entriesOf (now (places .entry)) n)) (entriesOf (now (places .entry)) n) «next_slot») (now (out .entry)) ⌝ }
-    ensures { λ r. ⌜ length (linesFrom (now (run .entry)) (entriesOf (now (places .entry)) n) (entriesOf (now (places .entry)) n) ++ lastLine (countFrom (now (run .entry)) (entriesOf (now (places .entry)) n)) (entriesOf (now (places .entry)) n) «next_slot») ≤ «TEXT_BYTES» ⌝ }
+    ensures { λ r. ⌜ leaves r (now (out .exit)) ≡ stored (linesFrom (now (run .entry)) (entriesOf (now (places .entry)) n) (entriesOf (now (places .entry)) n)
+        ++ lastLine (countFrom (now (run .entry)) (entriesOf (now (places .entry)) n)) (entriesOf (now (places .entry)) n) «next_slot») (now (out .entry)) ⌝ }
+    ensures { λ r. ⌜ length (linesFrom (now (run .entry)) (entriesOf (now (places .entry)) n) (entriesOf (now (places .entry)) n)
+        ++ lastLine (countFrom (now (run .entry)) (entriesOf (now (places .entry)) n)) (entriesOf (now (places .entry)) n) «next_slot») ≤ «TEXT_BYTES» ⌝ }
 {
     let measured = measure(run, places, n);
     let queued = how_many(places, n, store::QUEUED);
