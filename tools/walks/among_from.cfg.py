@@ -1,15 +1,15 @@
 crate = "sought"
 fn = "among_from"
-NUMBERS = "(take count (now unacked))"
-TURN = f"(amongNext id {NUMBERS}) (now entries) false"
-INSIDE = "inside {i} n (now entries) {less} asks"
+NEXT = "(amongNext id (take count (now unacked)))"
+TURN = f"{NEXT} (take n (now entries)) false"
+TOLD = f"({{told}} ∙ ap ({NEXT} {{s}}) (front-entry n {{i}} (now entries) {{less}}))"
 invariant = f"Folding {TURN} {{i}} {{s}}"
 start = f"begins {TURN}"
-requires = INSIDE
-next = f"goes-on {TURN} {{i}} {{s}} {{next}} ({INSIDE}) {{so}} {{told}}"
-ends = f"ends {TURN} {{i}} {{s}} (behind {{i}} n (now entries) {{over}} asks) {{so}}"
+requires = "in-all {i} n (now entries) {less} asks"
+next = f"goes-on {TURN} {{i}} {{s}} {{next}} (front-inside {{i}} n (now entries) {{less}} asks) {{so}} {TOLD}"
+ends = f"ends {TURN} {{i}} {{s}} (front-behind {{i}} n (now entries) {{over}} asks) {{so}}"
 uses = [
     "use lib.ListN.{take}",
     "use Rattle.sought.specs.Sought.{amongNext}",
-    "use Rattle.sought.proofs.Folds.{Folding, begins, goes-on, ends, inside, behind}",
+    "use Rattle.sought.proofs.Folds.{Folding, begins, goes-on, ends, front-entry, front-inside, front-behind, in-all}",
 ]

@@ -1,5 +1,11 @@
 crate = "sought"
 fn = "queued_among"
-requires = {"r": "is-n"}
-ends = "is-r ∙ among-is id (take count (now unacked)) (now entries)"
-uses = ["use lib.ListN.{take}", "use Rattle.sought.proofs.Laws.{among-is}"]
+N = "(is-n ∙ (λ i. cond (is-wanted i) (is-total i) 0))"
+requires = {"r": f"wanted-count (ltb 0 count) (length (now entries)) n {N}"}
+ends = f"is-r ∙ among-some id count n (now unacked) (now entries) {N}"
+uses = [
+    "use mathlib.Core.Bool.{cond}",
+    "use lib.ListN.{length}",
+    "use lib.Dec.{ltb}",
+    "use Rattle.sought.proofs.Laws.{wanted-count, among-some}",
+]

@@ -5,14 +5,18 @@ use native.Mathlib.Omega.{arith}
 use mathlib.Core.List.{List, [], _∷_, foldl}
 use mathlib.Core.Bool.{Bool, true, false, cond, _&&_, _||_}
 use mathlib.Core.Option.{none, some}
-use mathlib.Core.Path.{_≡_, refl, _∙_, ap}
-use lib.ListN.{length}
+use mathlib.Core.Path.{_≡_, refl, sym, _∙_, ap}
+use lib.ListN.{length, take}
+use lib.Seq.{take-length}
+use lib.Dec.{ltb}
+use borrow.Author.Tests.{lt-ltb}
 use Rattle.rows.specs.Checks.{any}
 use Rattle.store.specs.declared.Entry.{Entry}
 use Rattle.store.specs.Kinds.{CONTACT, QUEUED}
 use Rattle.store.specs.Store.{entryAt, isOf, anyBelow, before}
 use Rattle.ledger.specs.Step.{contactIn}
 use Rattle.line.specs.Line.{queuedOf}
+use Rattle.sought.specs.Sought as sought
 use Rattle.sought.specs.Sought.{soughtOf, soughtIn, queuedAmong, isQueuedFound, queuedFound, soughtNext, queuedNext, amongNext}
 use Rattle.sought.proofs.Halves.{Rises, found-rising}
 
@@ -61,6 +65,15 @@ queued-from k n (e ∷ es) = go (isOf QUEUED k e) (λ m. queued-from k m es)
 pub queued-is : (k : ℕ) (es : List Entry) → foldl (queuedNext k) 0 es ≡ queuedOf k es
 queued-is k es = let from = queued-from k 0 es in omega arith
 
+-- ... where that is wanted
+pub wanted-count : (wanted : Bool) (n count : ℕ) → count ≡ cond wanted n 0 → count ≤ n
+wanted-count true n count e = omega arith
+wanted-count false n count e = omega arith
+
+pub queued-wanted : (k : ℕ) (wanted : Bool) (count : ℕ) (es : List Entry) → count ≡ cond wanted (length es) 0 → foldl (queuedNext k) 0 (take count es) ≡ cond wanted (queuedOf k es) 0
+queued-wanted k true count es e = ap (λ n. foldl (queuedNext k) 0 (take n es)) e ∙ (ap (foldl (queuedNext k) 0) (take-length es) ∙ queued-is k es)
+queued-wanted k false count es e = ap (λ n. foldl (queuedNext k) 0 (take n es)) e
+
 pub none-queued : 0 ≤ 0
 none-queued = omega arith
 
@@ -86,6 +99,23 @@ among-is k numbers (e ∷ es) = go (isQueuedFound k numbers e) (among-is k numbe
     go : (b : Bool) → foldl (amongNext k numbers) false es ≡ queuedFound k numbers es → foldl (amongNext k numbers) b es ≡ (b || queuedFound k numbers es)
     go true later = among-stays k numbers es
     go false later = later
+
+-- of no numbers none is found
+none-found : (k : ℕ) (es : List Entry) → queuedFound k [] es ≡ false
+unfolding sought.foundIn
+none-found k [] = refl
+none-found k (e ∷ es) = go (isOf QUEUED k e) (none-found k es)
+  where
+    go : (b : Bool) → queuedFound k [] es ≡ false → ((b && false) || queuedFound k [] es) ≡ false
+    go true later = later
+    go false later = later
+
+pub among-some : (k count n : ℕ) (numbers : List ℕ) (es : List Entry) → n ≡ cond (ltb 0 count) (length es) 0
+    → foldl (amongNext k (take count numbers)) false (take n es) ≡ queuedFound k (take count numbers) es
+among-some k zero n numbers es e = ap (λ n. foldl (amongNext k []) false (take n es)) e ∙ sym (none-found k es)
+among-some k (suc count) n numbers es e =
+    let chosen = take (suc count) numbers in
+    ap (λ n. foldl (amongNext k chosen) false (take n es)) (e ∙ ap (λ b. cond b (length es) 0) (lt-ltb 0 (suc count) (omega arith))) ∙ (ap (foldl (amongNext k chosen) false) (take-length es) ∙ among-is k chosen es)
 
 -- where the numbers rise, it is a queued row with one of them
 pub among-rising : (k : ℕ) (numbers : List ℕ) → Rises numbers → (es : List Entry) → queuedFound k numbers es ≡ queuedAmong k numbers es

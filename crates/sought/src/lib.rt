@@ -1,11 +1,13 @@
-// What is looked for among lent entries: a contact's entry, and its queued ones. Each search is a loop over all entries with one call in its turn.
+// What is looked for among lent entries: a contact's entry, and its queued ones. Each search is a loop over entries with one call in its turn; where nothing is
+// to be found the loop has no turn.
 use store::Entry;
 ghost use mathlib.Core.Path.{_≡_};
 ghost use mathlib.Core.List.{foldl};
-ghost use mathlib.Core.Bool.{false};
+ghost use mathlib.Core.Bool.{false, cond};
 ghost use mathlib.Core.Option.{none};
-ghost use Prim.Native.Nat.{_-_, _^_, _<_};
+ghost use Prim.Native.Nat.{_-_, _^_, _≤_, _<_};
 ghost use lib.ListN.{length, take};
+ghost use lib.Dec.{ltb};
 ghost use Rattle.store.specs.Kinds.{QUEUED};
 ghost use Rattle.store.specs.Store.{entryAt, isOf};
 ghost use Rattle.line.specs.Line.{queuedOf};
@@ -114,9 +116,10 @@ fn queued_at(entries: &[Entry], id: u64, i: usize, queued: u64) -> u64
     queued_next(e, id, queued)
 }
 
+// ... of the first `count` entries.
 fn queued_from(entries: &[Entry], id: u64, count: usize) -> u64
-    requires { ⌜ count ≡ length (now entries) ⌝ }
-    ensures { λ r. ⌜ r ≡ foldl (queuedNext id) 0 (now (entries .entry)) ⌝ }
+    requires { ⌜ count ≤ length (now entries) ⌝ }
+    ensures { λ r. ⌜ r ≡ foldl (queuedNext id) 0 (take count (now (entries .entry))) ⌝ }
 {
     let mut i = 0;
     let mut queued = 0;
@@ -127,11 +130,20 @@ fn queued_from(entries: &[Entry], id: u64, count: usize) -> u64
     queued
 }
 
-pub fn queued_of(entries: &[Entry], id: u64) -> u64
-    ensures { λ r. ⌜ r ≡ queuedOf id (now (entries .entry)) ⌝ }
+// All n, or none.
+fn all_if(wanted: bool, n: usize) -> usize
+    ensures { λ r. ⌜ r ≡ cond wanted n 0 ⌝ }
+{
+    if wanted { n } else { 0 }
+}
+
+// How many rows of this contact are queued, counted only where that is wanted.
+pub fn queued_of(entries: &[Entry], id: u64, wanted: bool) -> u64
+    ensures { λ r. ⌜ r ≡ cond wanted (queuedOf id (now (entries .entry))) 0 ⌝ }
 {
     let n = entries::entry_count(entries);
-    queued_from(entries, id, n)
+    let count = all_if(wanted, n);
+    queued_from(entries, id, count)
 }
 
 // ---- whether a queued row of a contact has one of its unacked numbers
@@ -192,9 +204,10 @@ fn among_at(
     among_next(e, id, unacked, count, found)
 }
 
+// ... of the first n entries.
 fn among_from(entries: &[Entry], id: u64, unacked: &[u32], count: usize, n: usize) -> bool
-    requires { ⌜ n ≡ length (now entries) ⌝ }
-    ensures { λ r. ⌜ r ≡ foldl (amongNext id (take count (now (unacked .entry)))) false (now (entries .entry)) ⌝ }
+    requires { ⌜ n ≤ length (now entries) ⌝ }
+    ensures { λ r. ⌜ r ≡ foldl (amongNext id (take count (now (unacked .entry)))) false (take n (now (entries .entry))) ⌝ }
 {
     let mut i = 0;
     let mut found = false;
@@ -205,10 +218,19 @@ fn among_from(entries: &[Entry], id: u64, unacked: &[u32], count: usize, n: usiz
     found
 }
 
-// Whether a queued row of this contact has one of the first `count` unacked numbers, by halves. A count above the list's length counts as the length.
+fn is_some(count: usize) -> bool
+    ensures { λ r. ⌜ r ≡ ltb 0 count ⌝ }
+{
+    0 < count
+}
+
+// Whether a queued row of this contact has one of the first `count` unacked numbers, by halves. A count above the list's length counts as the length; of no numbers
+// none is looked for.
 pub fn queued_among(entries: &[Entry], id: u64, unacked: &[u32], count: usize) -> bool
     ensures { λ r. ⌜ r ≡ queuedFound id (take count (now (unacked .entry))) (now (entries .entry)) ⌝ }
 {
-    let n = entries::entry_count(entries);
+    let total = entries::entry_count(entries);
+    let wanted = is_some(count);
+    let n = all_if(wanted, total);
     among_from(entries, id, unacked, count, n)
 }

@@ -1,7 +1,7 @@
 -- `sought::among_from` meets its contract: a walk of its MIR, a loop with one call in its turn.
 -- Written by tools/walks/loopgen.py from tools/walks/among_from.cfg.py, and not edited: tools/walks/README.md says how. Assumes nothing.
-use mathlib.Core.Path.{_≡_, refl}
-use Prim.Native.Nat.{ℕ, _+_, _-_, _<_, _^_}
+use mathlib.Core.Path.{refl, _∙_, ap}
+use Prim.Native.Nat.{ℕ, _+_, _-_, _≤_, _<_, _^_}
 use native.Mathlib.Nat.{lt-of-le-of-lt}
 use native.Mathlib.Numerals.{add-one-le, add-one-dec}
 use mathlib.Core.WellFounded.{WellFounded, InvImage·wf}
@@ -44,7 +44,7 @@ use Rattle.walks.proofs.Walk.{untok, retok, gone, rest-of, drops, drops-go}
 use Rattle.walks.proofs.Held.{Held, number, vals, Lies, holds, empty, plus, lends, none, calls-held, into, local}
 use lib.ListN.{take}
 use Rattle.sought.specs.Sought.{amongNext}
-use Rattle.sought.proofs.Folds.{Folding, begins, goes-on, ends, inside, behind}
+use Rattle.sought.proofs.Folds.{Folding, begins, goes-on, ends, front-entry, front-inside, front-behind, in-all}
 use Rattle.store.specs.declared.Entry.{Entry}
 use Rattle.store.proofs.Entry as EntryT
 use Rattle.sought.proofs.among_at as among-at
@@ -86,7 +86,7 @@ module _ {M : Type 1} (𝓤 : URA M) (H : Heap 𝓤) (A : Atoms 𝓤) (W : Given
       (in-unacked : Is (ShrSlice (named 1) κ₁ (UInt w32)) unacked (slice-vals unacked))
       (in-count : Lies as-w64 count)
       (in-n : Lies as-w64 n)
-      (asks : n ≡ length (now entries)) where
+      (asks : n ≤ length (now entries)) where
     abbrev bound : This .Ghost
     bound = (
       (
@@ -105,10 +105,10 @@ module _ {M : Type 1} (𝓤 : URA M) (H : Heap 𝓤) (A : Atoms 𝓤) (W : Given
       found : Bool
       in-i : Lies as-w64 i
       in-found : Lies as-bool found
-      so : Folding (amongNext id (take count (now unacked))) (now entries) false i found
+      so : Folding (amongNext id (take count (now unacked))) (take n (now entries)) false i found
 
     abbrev first-turn : Turn
-    first-turn = record { i = 0; found = false; in-i = (refl, lit< tt); in-found = refl; so = begins (amongNext id (take count (now unacked))) (now entries) false }
+    first-turn = record { i = 0; found = false; in-i = (refl, lit< tt); in-found = refl; so = begins (amongNext id (take count (now unacked))) (take n (now entries)) false }
 
     abbrev far : Turn → ℕ
     far t = n - (t .i)
@@ -164,7 +164,7 @@ module _ {M : Type 1} (𝓤 : URA M) (H : Heap 𝓤) (A : Atoms 𝓤) (W : Given
             (λ less. skips ! $ exec ! C Λ En (rest-of (rest-of steps.turn-1)) (anyQ (Turned t)) $
             nothing ! $ plus ! as-bool (t .found) (t .in-found) $ plus ! as-w64 (t .i) (t .in-i) $ plus ! as-w64 count in-count $ lends ! 3 (named 1) κ₁ (UInt w32) unacked refl $
             plus ! as-w64 id in-id $ lends ! 2 (named 0) κ₀ EntryT.the-row entries refl $ move ! (1 ∷ 2 ∷ 0 ∷ []) $
-            calls-held ! fm among-at.ended (among-at.clauses 𝓤 H A mem calling) (known .among-at) (to t) (factI 𝓤 _ (emp 𝓤) (inside (t .i) n (now entries) (ltb→lt (t .i) n less) asks))
+            calls-held ! fm among-at.ended (among-at.clauses 𝓤 H A mem calling) (known .among-at) (to t) (factI 𝓤 _ (emp 𝓤) (in-all (t .i) n (now entries) (ltb→lt (t .i) n less) asks))
             as-bool (λ r ws. id⊢ 𝓤 _)
             (and-then ! (local ! (look ! 17 refl)) (and-then ! (local ! (look ! 15 refl))
             (and-then ! (local ! (look ! 13 refl)) (and-then ! (local ! (look ! 11 refl)) (and-then ! (local ! (look ! 7 refl)) (and-then ! (local ! (look ! 5 refl)) (no-more !)))))))
@@ -178,15 +178,16 @@ module _ {M : Type 1} (𝓤 : URA M) (H : Heap 𝓤) (A : Atoms 𝓤) (W : Given
               in-i = (refl, fits (ltb→lt (t .i) n less));
               in-found = in-next;
               so = goes-on
-                  (amongNext id (take count (now unacked))) (now entries) false (t .i) (t .found) next (inside (t .i) n (now entries) (ltb→lt (t .i) n less) asks) (t .so) told;
-            })
-            (add-one-dec n (t .i) (ltb→lt (t .i) n less))))
+                  (amongNext id (take count (now unacked))) (take n (now entries)) false (t .i) (t .found) next (front-inside (t .i) n (now entries) (ltb→lt (t .i) n less) asks) (t .so)
+                  (told ∙ ap ((amongNext id (take count (now unacked))) (t .found)) (front-entry n (t .i) (now entries) (ltb→lt (t .i) n less)));
+            }) (add-one-dec n (t .i) (ltb→lt (t .i) n less))))
             (λ over. jumps ! $ exec ! C Λ En steps.t-4 (atRet En (This .post bound)) $
             assigns ! (of-opd ! (local ! (look ! 6 refl))) (into !) (init ! 20 refl (as-bool .lawful .typed (t .found) _ (t .in-found) .0)) $ returns ! (look ! 20 refl) $
             gone ! 20 refl refl $ gone ! 18 refl refl $ gone ! 16 refl refl $ gone ! 14 refl refl $ gone ! 12 refl refl $ gone ! 10 refl refl $ gone ! 8 refl refl $ gone ! 6 refl refl $
             gone ! 4 refl refl $ free0 ! $
             suffices ! _ (ends-at 𝓤 H A this.ended stayed clauses W bound (as-bool .val (t .found)) (t .found) (tt, (tt, (tt, (tt, (tt, tt))))) (tt, (tt, (tt, (tt, (tt, tt)))))) $
-            says ! (ends (amongNext id (take count (now unacked))) (now entries) false (t .i) (t .found) (behind (t .i) n (now entries) (nltb→le (t .i) n over) asks) (t .so)) $
+            says ! (ends (amongNext id (take count (now unacked))) (take n (now entries)) false (t .i) (t .found) (front-behind (t .i) n (now entries) (nltb→le (t .i) n over) asks) (t .so))
+            $
             keep ! (0 ∷ 1 ∷ []) $ retok ! 2 (κ₀, (κ₁, tt)) (q₀, (q₁, tt)) $ frame ! $ nothing ! $ none ! $ none ! $ none ! $ none ! $ none ! $ frame ! $
             owned ! Boolean (Is Boolean) (as-bool .makes) (t .found) _ (t .in-found) $ done !)
           where

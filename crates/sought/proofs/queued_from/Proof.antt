@@ -1,6 +1,6 @@
 -- `sought::queued_from` meets its contract: a walk of its MIR, a loop with one call in its turn.
 -- Written by tools/walks/loopgen.py from tools/walks/queued_from.cfg.py, and not edited: tools/walks/README.md says how. Assumes nothing.
-use mathlib.Core.Path.{_≡_, refl}
+use mathlib.Core.Path.{refl, _∙_, ap}
 use Prim.Native.Nat.{ℕ, _+_, _-_, _≤_, _<_, _^_}
 use native.Mathlib.Nat.{lt-of-le-of-lt}
 use native.Mathlib.Numerals.{add-one-le, add-one-dec}
@@ -40,9 +40,10 @@ use denote.Triple.Table.{entered, cited}
 use denote.Triple.Walked.{says, needs, Stays, walkOf, Walks, ends-at, walked, walk-meets}
 use Rattle.walks.proofs.Walk.{untok, retok, gone, rest-of, drops, drops-go}
 use Rattle.walks.proofs.Held.{Held, number, vals, Lies, holds, empty, plus, lends, none, calls-held, into, local}
+use lib.ListN.{take}
 use Rattle.store.specs.Store.{entryAt}
 use Rattle.sought.specs.Sought.{queuedNext}
-use Rattle.sought.proofs.Folds.{Folding, begins, goes-on, ends, inside, behind}
+use Rattle.sought.proofs.Folds.{Folding, begins, goes-on, ends, front-entry, front-inside, front-behind, in-all}
 use Rattle.sought.proofs.Laws.{none-queued, one-fits, one-more}
 use Rattle.store.specs.declared.Entry.{Entry}
 use Rattle.store.proofs.Entry as EntryT
@@ -80,7 +81,7 @@ module _ {M : Type 1} (𝓤 : URA M) (H : Heap 𝓤) (A : Atoms 𝓤) (W : Given
       (in-entries : Is (ShrSlice (named 0) κ₀ EntryT.the-row) entries (slice-vals entries))
       (in-id : Lies as-w64 id)
       (in-count : Lies as-w64 count)
-      (asks : count ≡ length (now entries)) where
+      (asks : count ≤ length (now entries)) where
     abbrev bound : This .Ghost
     bound = (((κ₀, tt), (q₀, tt), tt, (entries, (id, (count, tt))), (slice-vals entries, (vals as-w64 id, (vals as-w64 count, tt)))), tt)
 
@@ -90,10 +91,10 @@ module _ {M : Type 1} (𝓤 : URA M) (H : Heap 𝓤) (A : Atoms 𝓤) (W : Given
       queued : ℕ
       in-i : Lies as-w64 i
       in-queued : Lies as-w64 queued
-      so : (queued ≤ i) × Folding (queuedNext id) (now entries) 0 i queued
+      so : (queued ≤ i) × Folding (queuedNext id) (take count (now entries)) 0 i queued
 
     abbrev first-turn : Turn
-    first-turn = record { i = 0; queued = 0; in-i = (refl, lit< tt); in-queued = (refl, lit< tt); so = (none-queued, begins (queuedNext id) (now entries) 0) }
+    first-turn = record { i = 0; queued = 0; in-i = (refl, lit< tt); in-queued = (refl, lit< tt); so = (none-queued, begins (queuedNext id) (take count (now entries)) 0) }
 
     abbrev far : Turn → ℕ
     far t = count - (t .i)
@@ -138,7 +139,7 @@ module _ {M : Type 1} (𝓤 : URA M) (H : Heap 𝓤) (A : Atoms 𝓤) (W : Given
             nothing ! $ plus ! as-w64 (t .queued) (t .in-queued) $ plus ! as-w64 (t .i) (t .in-i) $ plus ! as-w64 id in-id $ lends ! 1 (named 0) κ₀ EntryT.the-row entries refl $
             move ! (1 ∷ 0 ∷ []) $
             calls-held ! fm queued-at.ended (queued-at.clauses 𝓤 H A mem calling) (known .queued-at) (to t)
-            (factI 𝓤 _ (emp 𝓤) (inside (t .i) count (now entries) (ltb→lt (t .i) count less) asks, one-fits (t .i) count (t .queued) ((t .so) .0) (ltb→lt (t .i) count less) (in-count .1)))
+            (factI 𝓤 _ (emp 𝓤) (in-all (t .i) count (now entries) (ltb→lt (t .i) count less) asks, one-fits (t .i) count (t .queued) ((t .so) .0) (ltb→lt (t .i) count less) (in-count .1)))
             as-w64 (λ r ws. id⊢ 𝓤 _)
             (and-then ! (local ! (look ! 12 refl)) (and-then ! (local ! (look ! 10 refl)) (and-then ! (local ! (look ! 6 refl)) (and-then ! (local ! (look ! 4 refl)) (no-more !)))))
             (λ next told in-next.
@@ -152,15 +153,16 @@ module _ {M : Type 1} (𝓤 : URA M) (H : Heap 𝓤) (A : Atoms 𝓤) (W : Given
               in-queued = in-next;
               so = (
                 one-more id (t .i) (t .queued) next (entryAt (now entries) (t .i)) ((t .so) .0) told,
-                goes-on (queuedNext id) (now entries) 0 (t .i) (t .queued) next
-                    (inside (t .i) count (now entries) (ltb→lt (t .i) count less) asks) ((t .so) .1) told,
+                goes-on (queuedNext id) (take count (now entries)) 0 (t .i) (t .queued) next
+                    (front-inside (t .i) count (now entries) (ltb→lt (t .i) count less) asks) ((t .so) .1)
+                    (told ∙ ap (queuedNext id (t .queued)) (front-entry count (t .i) (now entries) (ltb→lt (t .i) count less))),
               );
             }) (add-one-dec count (t .i) (ltb→lt (t .i) count less))))
             (λ over. jumps ! $ exec ! C Λ En steps.t-4 (atRet En (This .post bound)) $
             assigns ! (of-opd ! (local ! (look ! 4 refl))) (into !) (init ! 14 refl (as-w64 .lawful .typed (t .queued) _ (t .in-queued) .0)) $ returns ! (look ! 14 refl) $
             gone ! 14 refl refl $ gone ! 12 refl refl $ gone ! 10 refl refl $ gone ! 8 refl refl $ gone ! 6 refl refl $ gone ! 4 refl refl $ gone ! 2 refl refl $ free0 ! $
             suffices ! _ (ends-at 𝓤 H A this.ended stayed clauses W bound (as-w64 .val (t .queued)) (t .queued) (tt, (tt, (tt, tt))) (tt, (tt, (tt, tt)))) $
-            says ! (ends (queuedNext id) (now entries) 0 (t .i) (t .queued) (behind (t .i) count (now entries) (nltb→le (t .i) count over) asks) ((t .so) .1)) $
+            says ! (ends (queuedNext id) (take count (now entries)) 0 (t .i) (t .queued) (front-behind (t .i) count (now entries) (nltb→le (t .i) count over) asks) ((t .so) .1)) $
             keep ! (0 ∷ []) $ retok ! 1 (κ₀, tt) (q₀, tt) $ frame ! $ nothing ! $ none ! $ none ! $ none ! $ frame ! $
             owned ! (UInt w64) (Is (UInt w64)) (as-w64 .makes) (t .queued) _ (t .in-queued) $ done !)
           where
