@@ -1,50 +1,26 @@
--- What the calls are handed, as one; the mark taken apart; and what restore leaves.
+-- What restore leaves, and what 34 is asked of for the other calls.
 -- Assumes nothing.
 use Prim.Native.Nat.{ℕ}
-use mathlib.Core.List.{List, []}
-use mathlib.Core.Bool.{Bool, true, false, _&&_}
+use mathlib.Core.List.{List}
 use mathlib.Core.Path.{_≡_}
 use Rattle.store.specs.declared.Entry.{Entry}
-use Rattle.contact.specs.declared.Contact.{Contact}
-use Rattle.contact.specs.Contact.{Lists}
-use Rattle.contact_put.specs.Row.{ContactTyped, ListsTyped}
+use Rattle.store.specs.Store as store
+use Rattle.store.specs.Store.{storeOf}
 use Rattle.restore.specs.declared.Restored.{Restored}
 use Rattle.restore.specs.declared.Restored.the-variants as restored
+use Rattle.restore.specs.Restored.{answered}
 use Rattle.ledger.specs.declared.Mark.{Mark}
 use Rattle.ledger.specs.declared.Mark.the-variants as mark
-use Rattle.ledger.specs.Call.{granted, refusedAt, Hand, Left, leaves}
-use Rattle.ledger.specs.Step.{passes}
+use Rattle.ledger.specs.Call.{restore, granted, refusedAt, Hand, Left, leaves}
+use Rattle.ledger.specs.Step.{step}
+use Rattle.ledger.specs.Proved.{HIGHEST}
+use Rattle.passes.specs.declared.Passed.{Passed}
+use Rattle.passes.specs.declared.Asking.{Asking}
+use Rattle.passes.specs.declared.Asking.the-variants as asking
+use Rattle.dispatch.specs.declared.Call.{Call}
+use Rattle.dispatch.specs.declared.Noted.{Noted}
+use Rattle.dispatch.specs.Dispatch.{handOf, byOpen, gateOf}
 use Rattle.calls.specs.declared.RestoreLeft.{RestoreLeft}
-
-abbrev pub handOf : Mark → (run : List ℕ) → List Entry → Contact → Lists → (out : List ℕ) → Hand
-handOf m run es c l out = record { mark = m; run = run; entries = es; contact = c; lists = l; out = out }
-
--- ---- the mark
-abbrev pub isRestored : Mark → Bool
-isRestored mark.Fresh = false
-isRestored mark.Restored = true
-isRestored (mark.Opened id) = true
-
-abbrev pub isOpened : Mark → Bool
-isOpened mark.Fresh = false
-isOpened mark.Restored = false
-isOpened (mark.Opened id) = true
-
-abbrev pub openedId : Mark → ℕ
-openedId mark.Fresh = 0
-openedId mark.Restored = 0
-openedId (mark.Opened id) = id .0
-
--- ---- 34
--- what the types say of the opened fields and their lists
-pub record Typed (c : Contact) (l : Lists) : Type 0 where
-  pub contact : ContactTyped c
-  pub lists : ListsTyped l
-
--- what is known once 34 was asked for a call on an open contact
-pub record Passed (m : Mark) (run : List ℕ) (es : List Entry) (c : Contact) (l : Lists) (r : Bool) : Type 0 where
-  pub is : r ≡ (isOpened m && passes (openedId m) (handOf m run es c l []))
-  pub typed : Typed c l
 
 -- ---- restore
 -- the mark after this answer: a refused restore leaves it
@@ -62,3 +38,28 @@ leftBy (restored.Refused q i) m run es h = leaves (refusedAt q i) (handOf m (h .
 
 abbrev pub restoredOn : RestoreLeft → (run : List ℕ) → List Entry → Hand → Left
 restoredOn r run es h = leftBy (r .answer) (r .mark) run es h
+
+-- restore answers what its definition does, and leaves the ledger's step of anything that stood before with this mark
+pub record RestoreSteps (m : Mark) (run : List ℕ) (es : List Entry) (r : RestoreLeft) : Type 0 where
+  pub answer : r .answer ≡ answered (store.restore (storeOf run es))
+  pub left : (h : Hand) → h .mark ≡ m → restoredOn r run es h ≡ step HIGHEST (restore run es) h
+
+-- ---- 34
+-- for open: a store that is restored
+abbrev pub storedFor : Mark → Asking
+storedFor mark.Fresh = asking.Nothing
+storedFor mark.Restored = asking.Stored
+storedFor (mark.Opened id) = asking.Stored
+
+-- for the calls on an open contact
+abbrev pub openedFor : Mark → Asking
+openedFor mark.Fresh = asking.Nothing
+openedFor mark.Restored = asking.Nothing
+openedFor (mark.Opened id) = asking.Opened
+
+abbrev pub askingFor : Call → Mark → Asking
+askingFor c m = byOpen (λ id. storedFor m) (openedFor m) c
+
+-- ---- what is noted of the store
+abbrev pub notedAs : Passed → (queued id : ℕ) → Noted
+notedAs p queued id = record { sought = p .sought; queued = queued; id = id; gate = gateOf (p .passed) }

@@ -1,29 +1,24 @@
 // The calls of document 01 on a store and an open contact. Each asks 34 of all that it is handed, and then what follows it; a no changes nothing.
 // A caller keeps run, entries, mark, opened fields and lent lists, and hands them to the next call as the last granted one left them.
 use contact::Contact;
-use courier::ContactId;
+use dispatch::Call;
+use dispatch::Gate;
+use dispatch::Noted;
+use layout::question;
 use ledger::Mark;
-use opened::CoverLeft;
-use opened::OpenLeft;
-use opened::TakeLeft;
-use opened::Truth;
+use opened::Left;
+use passes::Asking;
+use passes::Passed;
 use restore::Restored;
-use rows::Written;
-use sought::Sought;
 use store::Entry;
 ghost use mathlib.Core.Path.{_≡_};
-ghost use mathlib.Core.List.{[]};
-ghost use mathlib.Core.Bool.{_&&_};
-ghost use Rattle.rows.specs.Answers.{writtenSays};
-ghost use Rattle.contact.specs.Contact.{lists};
-ghost use Rattle.store.specs.Store.{partOf, storeOf, restore};
-ghost use Rattle.restore.specs.Restored.{answered};
-ghost use Rattle.ledger.specs.Call.{Hand, leaves};
-ghost use Rattle.ledger.specs.Call as call;
-ghost use Rattle.ledger.specs.Step.{wroteRow, step};
+ghost use mathlib.Core.List.{List};
+ghost use Prim.Native.Nat.{ℕ};
+ghost use Rattle.contact.specs.Contact.{listsBefore, listsAfter};
+ghost use Rattle.ledger.specs.Step.{step};
 ghost use Rattle.ledger.specs.Proved.{HIGHEST};
-ghost use Rattle.opened.specs.Calls.{truthSays, takenSays, verdictSays, lineSays, openLeft, openLeaves};
-ghost use Rattle.calls.specs.Calls.{handOf, isRestored, isOpened, openedId, Typed, Passed, restoreLeft, restoredOn};
+ghost use Rattle.dispatch.specs.Dispatch.{callOf, handOf, leftOf, gateOf, idIn, idFor, countsQueued, OfStore};
+ghost use Rattle.calls.specs.Calls.{storedFor, openedFor, askingFor, notedAs, restoreLeft, RestoreSteps};
 
 // What restore leaves: its answer, and the mark for the next call.
 pub struct RestoreLeft {
@@ -31,110 +26,7 @@ pub struct RestoreLeft {
     pub mark: Mark,
 }
 
-// ---- the mark taken apart
-
-fn is_restored(mark: Mark) -> bool
-    ensures { λ r. ⌜ r ≡ isRestored mark ⌝ }
-{
-    match mark {
-        Mark::Fresh => false,
-        Mark::Restored => true,
-        Mark::Opened(_) => true,
-    }
-}
-
-fn is_opened(mark: Mark) -> bool
-    ensures { λ r. ⌜ r ≡ isOpened mark ⌝ }
-{
-    match mark {
-        Mark::Fresh => false,
-        Mark::Restored => false,
-        Mark::Opened(_) => true,
-    }
-}
-
-fn number_of(id: ContactId) -> u64
-    ensures { λ r. ⌜ r ≡ id .0 ⌝ }
-{
-    id.0
-}
-
-// 0 where no contact is open.
-fn opened_id(mark: Mark) -> u64
-    ensures { λ r. ⌜ r ≡ openedId mark ⌝ }
-{
-    match mark {
-        Mark::Fresh => 0,
-        Mark::Restored => 0,
-        Mark::Opened(id) => id.0,
-    }
-}
-
-fn both(a: bool, b: bool) -> bool
-    ensures { λ r. ⌜ r ≡ (a && b) ⌝ }
-{
-    if a { b } else { false }
-}
-
-// ---- 34
-
-// Both; and what the types say of the opened fields and their lists, as facts.
-fn both_typed(
-    a: bool,
-    b: bool,
-    contact: Contact,
-    chains: &[u8],
-    skipped: &[u8],
-    above: &[u32],
-    unacked: &[u32],
-    expired: &[u32],
-) -> bool
-    ensures { λ r. ⌜ (r ≡ (a && b)) × Typed contact (lists (now (chains .entry)) (now (skipped .entry)) (now (above .entry)) (now (unacked .entry)) (now (expired .entry))) ⌝ }
-{
-    contact_put::typed(contact);
-    both(a, b)
-}
-
-// For the calls on an open contact: is one open, and would the store pass with the opened fields in place of its row?
-fn is_passed(
-    run: &[u8],
-    entries: &[Entry],
-    mark: Mark,
-    contact: Contact,
-    chains: &[u8],
-    skipped: &[u8],
-    above: &[u32],
-    unacked: &[u32],
-    expired: &[u32],
-) -> bool
-    ensures { λ r. ⌜ Passed mark (now (run .entry)) (now (entries .entry)) contact (lists (now (chains .entry)) (now (skipped .entry)) (now (above .entry)) (now (unacked .entry)) (now (expired .entry))) r ⌝ }
-{
-    let opened = is_opened(mark);
-    let id = opened_id(mark);
-    let still = passes::still_passes(
-        run,
-        entries,
-        id,
-        contact,
-        chains,
-        skipped,
-        above,
-        unacked,
-        expired,
-    );
-    both_typed(
-        opened,
-        still,
-        contact,
-        chains,
-        skipped,
-        above,
-        unacked,
-        expired,
-    )
-}
-
-// ---- restore, open
+// ---- restore
 
 fn restored(answer: Restored, mark: Mark) -> RestoreLeft
     ensures { λ r. ⌜ r ≡ restoreLeft answer mark ⌝ }
@@ -150,214 +42,170 @@ fn restored(answer: Restored, mark: Mark) -> RestoreLeft
 
 // It is handed the store alone: whatever stood before, the opened fields, their lists and an output stay.
 pub fn restore(run: &[u8], entries: &[Entry], mark: Mark) -> RestoreLeft
-    ensures { λ r. ⌜ (r .answer ≡ answered (restore (storeOf (now (run .entry)) (now (entries .entry))))) × ((h : Hand) → h .mark ≡ mark → restoredOn r (now (run .entry)) (now (entries .entry)) h ≡ step HIGHEST (call.restore (now (run .entry)) (now (entries .entry))) h) ⌝ }
+    ensures { λ r. ⌜ RestoreSteps mark (now (run .entry)) (now (entries .entry)) r ⌝ }
 {
     let answer = restore::restore(run, entries);
     restored(answer, mark)
 }
 
-// The contact whose entry was looked for.
-fn open_sought(
-    run: &[u8],
-    passed: bool,
-    sought: Sought,
-    id: u64,
-    mark: Mark,
-    contact: Contact,
-    chains: &mut [u8],
-    skipped: &mut [u8],
-    above: &mut [u32],
-    unacked: &mut [u32],
-    expired: &mut [u32],
-) -> OpenLeft
-    ensures { λ r. ⌜ openLeft r (lists (now (chains .exit)) (now (skipped .exit)) (now (above .exit)) (now (unacked .exit)) (now (expired .exit))) ≡ openLeaves passed (sought .found) id mark contact (sought .entry .version) (partOf (now (run .entry)) (sought .entry)) (lists (now (chains .entry)) (now (skipped .entry)) (now (above .entry)) (now (unacked .entry)) (now (expired .entry))) ⌝ }
+// ---- the other calls
+
+// What 34 is asked of for open: a store that is restored.
+fn stored_for(mark: Mark) -> Asking
+    ensures { λ r. ⌜ r ≡ storedFor mark ⌝ }
 {
-    let e = sought.entry;
-    let row = store::part_of(run, e);
-    opened::open(
-        passed,
-        sought.found,
-        id,
-        mark,
-        contact,
-        e.version,
-        row,
-        chains,
-        skipped,
-        above,
-        unacked,
-        expired,
-    )
+    match mark {
+        Mark::Fresh => Asking::Nothing,
+        Mark::Restored => Asking::Stored,
+        Mark::Opened(_) => Asking::Stored,
+    }
 }
 
-pub fn open(
-    run: &[u8],
-    entries: &[Entry],
-    mark: Mark,
-    contact: Contact,
-    chains: &mut [u8],
-    skipped: &mut [u8],
-    above: &mut [u32],
-    unacked: &mut [u32],
-    expired: &mut [u32],
-    id: ContactId,
-) -> OpenLeft
-    ensures { λ r. ⌜ leaves (verdictSays (r .answer)) (handOf (r .mark) (now (run .entry)) (now (entries .entry)) (r .contact) (lists (now (chains .exit)) (now (skipped .exit)) (now (above .exit)) (now (unacked .exit)) (now (expired .exit))) []) ≡ step HIGHEST (call.opens (id .0)) (handOf mark (now (run .entry)) (now (entries .entry)) contact (lists (now (chains .entry)) (now (skipped .entry)) (now (above .entry)) (now (unacked .entry)) (now (expired .entry))) []) ⌝ }
+// ... and for the calls on an open contact.
+fn opened_for(mark: Mark) -> Asking
+    ensures { λ r. ⌜ r ≡ openedFor mark ⌝ }
 {
-    let wanted = number_of(id);
-    let restored = is_restored(mark);
-    let passes = passes::store_passes(run, entries);
-    let passed = both(restored, passes);
-    let sought = sought::contact_in(entries, wanted);
-    open_sought(
-        run,
-        passed,
+    match mark {
+        Mark::Fresh => Asking::Nothing,
+        Mark::Restored => Asking::Nothing,
+        Mark::Opened(_) => Asking::Opened,
+    }
+}
+
+fn asking_for(call: Call, mark: Mark) -> Asking
+    ensures { λ r. ⌜ r ≡ askingFor call mark ⌝ }
+{
+    match call {
+        Call::Open(_) => stored_for(mark),
+        Call::Cover(_, _) => opened_for(mark),
+        Call::Contains(_) => opened_for(mark),
+        Call::Covers(_, _) => opened_for(mark),
+        Call::Take => opened_for(mark),
+        Call::Statement => opened_for(mark),
+        Call::Write => opened_for(mark),
+    }
+}
+
+// 0 where no contact is open.
+fn opened_id(mark: Mark) -> u64
+    ensures { λ r. ⌜ r ≡ idIn mark ⌝ }
+{
+    match mark {
+        Mark::Fresh => 0,
+        Mark::Restored => 0,
+        Mark::Opened(id) => id.0,
+    }
+}
+
+// The contact that a call is about: open names it.
+fn id_for(call: Call, mark: Mark) -> u64
+    ensures { λ r. ⌜ r ≡ idFor call mark ⌝ }
+{
+    match call {
+        Call::Open(id) => id.0,
+        Call::Cover(_, _) => opened_id(mark),
+        Call::Contains(_) => opened_id(mark),
+        Call::Covers(_, _) => opened_id(mark),
+        Call::Take => opened_id(mark),
+        Call::Statement => opened_id(mark),
+        Call::Write => opened_id(mark),
+    }
+}
+
+// Of the calls statement alone says how many rows are queued.
+fn counts_queued(call: Call) -> bool
+    ensures { λ r. ⌜ r ≡ countsQueued call ⌝ }
+{
+    match call {
+        Call::Open(_) => false,
+        Call::Cover(_, _) => false,
+        Call::Contains(_) => false,
+        Call::Covers(_, _) => false,
+        Call::Take => false,
+        Call::Statement => true,
+        Call::Write => false,
+    }
+}
+
+// Question 34's answer.
+fn gate_of(passed: bool) -> Gate
+    ensures { λ r. ⌜ r ≡ gateOf passed ⌝ }
+{
+    if passed {
+        Gate::Through
+    } else {
+        Gate::Refused(question::STORE)
+    }
+}
+
+fn noted_as(answer: Passed, queued: u64, id: u64) -> Noted
+    ensures { λ r. ⌜ r ≡ notedAs answer queued id ⌝ }
+{
+    let sought = answer.sought;
+    let gate = gate_of(answer.passed);
+    Noted {
         sought,
-        wanted,
-        mark,
+        queued,
+        id,
+        gate,
+    }
+}
+
+// What a call has to know of the store.
+fn noted_for(
+    run: &[u8],
+    entries: &[Entry],
+    call: Call,
+    mark: Mark,
+    contact: Contact,
+    chains: &[u8],
+    skipped: &[u8],
+    above: &[u32],
+    unacked: &[u32],
+    expired: &[u32],
+) -> Noted
+    ensures { λ r. ⌜ ((out : List ℕ) → OfStore call (handOf mark (now (run .entry)) (now (entries .entry)) contact (listsBefore chains skipped above unacked expired) out) r) ⌝ }
+{
+    let id = id_for(call, mark);
+    let asking = asking_for(call, mark);
+    let answer = passes::passes(
+        run,
+        entries,
+        asking,
+        id,
         contact,
         chains,
         skipped,
         above,
         unacked,
         expired,
-    )
+    );
+    let counted = counts_queued(call);
+    let queued = sought::queued_of(entries, id, counted);
+    noted_as(answer, queued, id)
 }
 
-// ---- cover, contains, covers
-
-pub fn cover(
+// Any call but restore.
+pub fn step(
     run: &[u8],
     entries: &[Entry],
+    call: Call,
     mark: Mark,
     contact: Contact,
-    chains: &[u8],
-    skipped: &[u8],
+    chains: &mut [u8],
+    skipped: &mut [u8],
     above: &mut [u32],
-    unacked: &[u32],
-    expired: &[u32],
-    from: u32,
-    to: u32,
-) -> CoverLeft
-    ensures { λ r. ⌜ leaves (truthSays (r .answer)) (handOf mark (now (run .entry)) (now (entries .entry)) (r .contact) (lists (now (chains .entry)) (now (skipped .entry)) (now (above .exit)) (now (unacked .entry)) (now (expired .entry))) []) ≡ step HIGHEST (call.cover from to) (handOf mark (now (run .entry)) (now (entries .entry)) contact (lists (now (chains .entry)) (now (skipped .entry)) (now (above .entry)) (now (unacked .entry)) (now (expired .entry))) []) ⌝ }
-{
-    let passed = is_passed(
-        run,
-        entries,
-        mark,
-        contact,
-        chains,
-        skipped,
-        above,
-        unacked,
-        expired,
-    );
-    opened::cover(passed, contact, above, from, to)
-}
-
-pub fn contains(
-    run: &[u8],
-    entries: &[Entry],
-    mark: Mark,
-    contact: Contact,
-    chains: &[u8],
-    skipped: &[u8],
-    above: &[u32],
-    unacked: &[u32],
-    expired: &[u32],
-    msgno: u32,
-) -> Truth
-    ensures { λ r. ⌜ leaves (truthSays r) (handOf mark (now (run .entry)) (now (entries .entry)) contact (lists (now (chains .entry)) (now (skipped .entry)) (now (above .entry)) (now (unacked .entry)) (now (expired .entry))) []) ≡ step HIGHEST (call.contains msgno) (handOf mark (now (run .entry)) (now (entries .entry)) contact (lists (now (chains .entry)) (now (skipped .entry)) (now (above .entry)) (now (unacked .entry)) (now (expired .entry))) []) ⌝ }
-{
-    let passed = is_passed(
-        run,
-        entries,
-        mark,
-        contact,
-        chains,
-        skipped,
-        above,
-        unacked,
-        expired,
-    );
-    opened::contains(passed, contact, above, msgno)
-}
-
-pub fn covers(
-    run: &[u8],
-    entries: &[Entry],
-    mark: Mark,
-    contact: Contact,
-    chains: &[u8],
-    skipped: &[u8],
-    above: &[u32],
-    unacked: &[u32],
-    expired: &[u32],
-    from: u32,
-    to: u32,
-) -> Truth
-    ensures { λ r. ⌜ leaves (truthSays r) (handOf mark (now (run .entry)) (now (entries .entry)) contact (lists (now (chains .entry)) (now (skipped .entry)) (now (above .entry)) (now (unacked .entry)) (now (expired .entry))) []) ≡ step HIGHEST (call.covers from to) (handOf mark (now (run .entry)) (now (entries .entry)) contact (lists (now (chains .entry)) (now (skipped .entry)) (now (above .entry)) (now (unacked .entry)) (now (expired .entry))) []) ⌝ }
-{
-    let passed = is_passed(
-        run,
-        entries,
-        mark,
-        contact,
-        chains,
-        skipped,
-        above,
-        unacked,
-        expired,
-    );
-    opened::covers(passed, contact, above, from, to)
-}
-
-// ---- take, statement, write
-
-pub fn take(
-    run: &[u8],
-    entries: &[Entry],
-    mark: Mark,
-    contact: Contact,
-    chains: &[u8],
-    skipped: &[u8],
-    above: &[u32],
-    unacked: &[u32],
-    expired: &[u32],
-) -> TakeLeft
-    ensures { λ r. ⌜ leaves (takenSays (r .answer)) (handOf mark (now (run .entry)) (now (entries .entry)) (r .contact) (lists (now (chains .entry)) (now (skipped .entry)) (now (above .entry)) (now (unacked .entry)) (now (expired .entry))) []) ≡ step HIGHEST call.take (handOf mark (now (run .entry)) (now (entries .entry)) contact (lists (now (chains .entry)) (now (skipped .entry)) (now (above .entry)) (now (unacked .entry)) (now (expired .entry))) []) ⌝ }
-{
-    let passed = is_passed(
-        run,
-        entries,
-        mark,
-        contact,
-        chains,
-        skipped,
-        above,
-        unacked,
-        expired,
-    );
-    opened::take(passed, contact)
-}
-
-pub fn statement(
-    run: &[u8],
-    entries: &[Entry],
-    mark: Mark,
-    contact: Contact,
-    chains: &[u8],
-    skipped: &[u8],
-    above: &[u32],
-    unacked: &[u32],
-    expired: &[u32],
+    unacked: &mut [u32],
+    expired: &mut [u32],
     out: &mut [u8],
-) -> Written
-    ensures { λ r. ⌜ leaves (lineSays (writtenSays r) (now (out .exit))) (handOf mark (now (run .entry)) (now (entries .entry)) contact (lists (now (chains .entry)) (now (skipped .entry)) (now (above .entry)) (now (unacked .entry)) (now (expired .entry))) (now (out .exit))) ≡ step HIGHEST call.statement (handOf mark (now (run .entry)) (now (entries .entry)) contact (lists (now (chains .entry)) (now (skipped .entry)) (now (above .entry)) (now (unacked .entry)) (now (expired .entry))) (now (out .entry))) ⌝ }
+) -> Left
+    ensures { λ r. ⌜ (let h = handOf mark (now (run .entry)) (now (entries .entry)) contact (listsBefore chains skipped above unacked expired) (now (out .entry)) in
+        leftOf r h (listsAfter chains skipped above unacked expired) (now (out .exit)) ≡ step HIGHEST (callOf call) h) ⌝ }
 {
-    let passed = is_passed(
+    let noted = noted_for(
         run,
         entries,
+        call,
         mark,
         contact,
         chains,
@@ -366,38 +214,11 @@ pub fn statement(
         unacked,
         expired,
     );
-    let id = opened_id(mark);
-    let queued = sought::queued_of(entries, id);
-    opened::statement(passed, id, contact, queued, above, expired, out)
-}
-
-pub fn write(
-    run: &[u8],
-    entries: &[Entry],
-    mark: Mark,
-    contact: Contact,
-    chains: &[u8],
-    skipped: &[u8],
-    above: &[u32],
-    unacked: &[u32],
-    expired: &[u32],
-    out: &mut [u8],
-) -> Written
-    ensures { λ r. ⌜ leaves (wroteRow (writtenSays r)) (handOf mark (now (run .entry)) (now (entries .entry)) contact (lists (now (chains .entry)) (now (skipped .entry)) (now (above .entry)) (now (unacked .entry)) (now (expired .entry))) (now (out .exit))) ≡ step HIGHEST call.write (handOf mark (now (run .entry)) (now (entries .entry)) contact (lists (now (chains .entry)) (now (skipped .entry)) (now (above .entry)) (now (unacked .entry)) (now (expired .entry))) (now (out .entry))) ⌝ }
-{
-    let passed = is_passed(
+    dispatch::step(
         run,
-        entries,
+        call,
+        noted,
         mark,
-        contact,
-        chains,
-        skipped,
-        above,
-        unacked,
-        expired,
-    );
-    opened::write(
-        passed,
         contact,
         chains,
         skipped,

@@ -1,5 +1,5 @@
-// The calls on an open contact, apart from the store. Question 34 is asked of the store elsewhere, and `passed` is its answer: where it is false a call refuses
-// by 34. What else a call asks, answers and leaves is here. A refusal changes nothing: the opened fields come back as they were handed in.
+// The calls but restore, apart from the store, each in one function: what a call asks, answers and leaves once the questions before it are a yes.
+// A refusal changes nothing: the opened fields and the mark come back as they were handed in.
 use contact::Contact;
 use contact::ContactRead;
 use courier::ContactId;
@@ -8,43 +8,43 @@ use ledger::Mark;
 use received::Planned;
 use rows::Verdict;
 use rows::Written;
+use sought::Sought;
 ghost use mathlib.Core.Path.{_≡_};
-ghost use mathlib.Core.List.{List};
-ghost use Prim.Native.Nat.{ℕ};
-ghost use Rattle.rows.specs.Answers.{leaves};
-ghost use Rattle.contact.specs.Contact.{Lists, lists};
+ghost use Rattle.rows.specs.Answers.{writtenSays};
+ghost use Rattle.contact.specs.Contact.{listsBefore, listsAfter};
+ghost use Rattle.contact_put.specs.Row.{writesContact};
 ghost use Rattle.ledger.specs.Step.{inOrder, renumbered};
-ghost use Rattle.ledger.specs.Call.{refused};
-ghost use Rattle.opened.specs.Calls.{truthSays, containsSays, coversSays, covering, coverLeft, coveredBy, coverLeaves};
-ghost use Rattle.opened.specs.Calls.{taking, takeLeft, takeLeaves, statementLeaves, writeLeaves, opening, openLeft, openedBy, openLeaves};
+ghost use Rattle.opened.specs.Calls.{left, containsSays, coversSays, coveredBy, coverLeaves, coverList, takeLeaves};
+ghost use Rattle.opened.specs.Calls.{lineSays, rowSays, WrittenBy, lineLeft, openedBy, openLeaves, openLists};
 
-// Refused: the question whose answer is no.
-pub enum Truth {
-    Is(bool),
-    Refused(u8),
-}
-
-// The number taken.
-pub enum Taken {
+// Open answers yes; cover whether contiguous moved; contains and covers a truth; take the number taken; write the length written; statement the length of
+// the line. A no is the question's number.
+pub enum Answer {
+    Yes,
+    Advanced(bool),
+    Truth(bool),
     Number(u32),
-    Refused(u8),
+    Wrote(usize),
+    Said(usize),
+    No(u8),
 }
 
-// Whether contiguous moved.
-pub struct CoverLeft {
-    pub contact: Contact,
-    pub answer: Truth,
-}
-
-pub struct TakeLeft {
-    pub contact: Contact,
-    pub answer: Taken,
-}
-
-pub struct OpenLeft {
+// What a call leaves by value. What it leaves in lent lists stands there.
+pub struct Left {
     pub contact: Contact,
     pub mark: Mark,
-    pub answer: Verdict,
+    pub answer: Answer,
+}
+
+// Fields and mark as they were handed in, and an answer.
+pub fn answered(contact: Contact, mark: Mark, answer: Answer) -> Left
+    ensures { λ r. ⌜ r ≡ left contact mark answer ⌝ }
+{
+    Left {
+        contact,
+        mark,
+        answer,
+    }
 }
 
 // Question 37.
@@ -68,115 +68,108 @@ fn renumbered(contact: Contact, sent: u32, contiguous: u32, above: usize) -> Con
     left
 }
 
+// ---- cover, contains, covers
+
 // Whether a number is covered.
-pub fn contains(passed: bool, contact: Contact, above: &[u32], msgno: u32) -> Truth
-    ensures { λ r. ⌜ truthSays r ≡ containsSays passed contact (now (above .entry)) msgno ⌝ }
+pub fn contains(contact: Contact, mark: Mark, above: &[u32], msgno: u32) -> Left
+    ensures { λ r. ⌜ r ≡ left contact mark (containsSays contact (now (above .entry)) msgno) ⌝ }
 {
-    if !passed {
-        return Truth::Refused(question::STORE);
-    }
-    Truth::Is(received::contains(contact.contiguous, above, contact.above, msgno))
+    let is = received::contains(contact.contiguous, above, contact.above, msgno);
+    answered(contact, mark, Answer::Truth(is))
 }
 
 // Whether all of from..to is covered.
-pub fn covers(passed: bool, contact: Contact, above: &[u32], from: u32, to: u32) -> Truth
-    ensures { λ r. ⌜ truthSays r ≡ coversSays passed contact (now (above .entry)) from to ⌝ }
+pub fn covers(contact: Contact, mark: Mark, above: &[u32], from: u32, to: u32) -> Left
+    ensures { λ r. ⌜ r ≡ left contact mark (coversSays contact (now (above .entry)) from to) ⌝ }
 {
-    if !passed {
-        return Truth::Refused(question::STORE);
-    }
     if !in_order(from, to) {
-        return Truth::Refused(question::RANGE);
+        return answered(contact, mark, Answer::No(question::RANGE));
     }
-    Truth::Is(received::covers(contact.contiguous, above, contact.above, from, to))
+    let are = received::covers(contact.contiguous, above, contact.above, from, to);
+    answered(contact, mark, Answer::Truth(are))
 }
 
-impl CoverLeft {
-    // What was handed in, and a no.
-    fn refused(contact: Contact, q: u8) -> CoverLeft
-        ensures { λ r. ⌜ ((above : List ℕ) → coverLeft r above ≡ covering (refused q) contact above) ⌝ }
-    {
-        CoverLeft {
-            contact,
-            answer: Truth::Refused(q),
-        }
-    }
-}
-
-// The opened fields and the answer, once a cover is planned.
-fn covered(contact: Contact, planned: Planned) -> CoverLeft
-    ensures { λ r. ⌜ ((above : List ℕ) → coverLeft r above ≡ coveredBy planned contact above) ⌝ }
+// The opened fields and whether contiguous moved, once a cover is planned.
+fn covered(contact: Contact, mark: Mark, planned: Planned) -> Left
+    ensures { λ r. ⌜ r ≡ coveredBy planned contact mark ⌝ }
 {
     match planned {
-        Planned::Change(change) => CoverLeft {
+        Planned::Change(change) => Left {
             contact: renumbered(contact, contact.sent_msgno, change.contiguous, change.count),
-            answer: Truth::Is(change.moved),
+            mark,
+            answer: Answer::Advanced(change.moved),
         },
-        Planned::Refused(q) => CoverLeft::refused(contact, q),
+        Planned::Refused(q) => Left {
+            contact,
+            mark,
+            answer: Answer::No(q),
+        },
     }
 }
 
 // Covers from..to. Places that held a range and hold none any more become 0.
-pub fn cover(passed: bool, contact: Contact, above: &mut [u32], from: u32, to: u32) -> CoverLeft
-    ensures { λ r. ⌜ coverLeft r (now (above .exit)) ≡ coverLeaves passed contact (now (above .entry)) from to ⌝ }
+pub fn cover(contact: Contact, mark: Mark, above: &mut [u32], from: u32, to: u32) -> Left
+    ensures { λ r. ⌜ (r ≡ coverLeaves contact mark (now (above .entry)) from to) × (now (above .exit) ≡ coverList contact (now (above .entry)) from to) ⌝ }
 {
-    if !passed {
-        return CoverLeft::refused(contact, question::STORE);
-    }
     if !in_order(from, to) {
-        return CoverLeft::refused(contact, question::RANGE);
+        return answered(contact, mark, Answer::No(question::RANGE));
     }
     let planned = received::insert(contact.contiguous, above, contact.above, from, to);
-    covered(contact, planned)
+    covered(contact, mark, planned)
 }
 
-impl TakeLeft {
-    // What was handed in, and a no.
-    fn refused(contact: Contact, q: u8) -> TakeLeft
-        ensures { λ r. ⌜ takeLeft r ≡ taking (refused q) contact ⌝ }
-    {
-        TakeLeft {
-            contact,
-            answer: Taken::Refused(q),
-        }
-    }
-}
+// ---- take
 
 // The number after the last one sent, which it becomes.
-pub fn take(passed: bool, contact: Contact) -> TakeLeft
-    ensures { λ r. ⌜ takeLeft r ≡ takeLeaves passed contact ⌝ }
+pub fn take(contact: Contact, mark: Mark) -> Left
+    ensures { λ r. ⌜ r ≡ takeLeaves contact mark ⌝ }
 {
-    if !passed {
-        return TakeLeft::refused(contact, question::STORE);
-    }
     if contact.sent_msgno == u32::MAX {
-        return TakeLeft::refused(contact, question::MSGNO_LEFT);
+        return answered(contact, mark, Answer::No(question::MSGNO_LEFT));
     }
     let msgno = contact.sent_msgno + 1;
-    TakeLeft {
+    Left {
         contact: renumbered(contact, msgno, contact.contiguous, contact.above),
-        answer: Taken::Number(msgno),
+        mark,
+        answer: Answer::Number(msgno),
+    }
+}
+
+// ---- statement, write
+
+fn of_line(written: Written) -> Answer
+    ensures { λ r. ⌜ r ≡ lineSays (writtenSays written) ⌝ }
+{
+    match written {
+        Written::Length(n) => Answer::Said(n),
+        Written::Refused(q) => Answer::No(q),
+    }
+}
+
+fn of_row(written: Written) -> Answer
+    ensures { λ r. ⌜ r ≡ rowSays (writtenSays written) ⌝ }
+{
+    match written {
+        Written::Length(n) => Answer::Wrote(n),
+        Written::Refused(q) => Answer::No(q),
     }
 }
 
 // Writes the open contact's line to the front of the output, if there is room. Its id and how many queued rows it has come from the store.
 pub fn statement(
-    passed: bool,
     id: u64,
     contact: Contact,
+    mark: Mark,
     queued: u64,
     above: &[u32],
     expired: &[u32],
     out: &mut [u8],
-) -> Written
-    ensures { λ r. ⌜ leaves r (now (out .exit)) ≡ statementLeaves passed id contact queued (now (above .entry)) (now (expired .entry)) (now (out .entry)) ⌝ }
+) -> Left
+    ensures { λ r. ⌜ (let line = lineLeft id contact queued (now (above .entry)) (now (expired .entry)) (now (out .entry)) in WrittenBy contact mark lineSays line r (now (out .exit))) ⌝ }
 {
-    if !passed {
-        return Written::Refused(question::STORE);
-    }
     let beyond = line::numbers_in(above, contact.above);
     let lost = line::numbers_in(expired, contact.expired);
-    line::statement_line(
+    let written = line::statement_line(
         id,
         contact.sent_msgno,
         contact.peer_acked,
@@ -185,80 +178,78 @@ pub fn statement(
         queued,
         lost,
         out,
-    )
+    );
+    answered(contact, mark, of_line(written))
 }
 
 // Writes the row of the opened fields to the front of the output, if there is room.
 pub fn write(
-    passed: bool,
     contact: Contact,
+    mark: Mark,
     chains: &[u8],
     skipped: &[u8],
     above: &[u32],
     unacked: &[u32],
     expired: &[u32],
     out: &mut [u8],
-) -> Written
-    ensures { λ r. ⌜ leaves r (now (out .exit)) ≡ writeLeaves passed contact (lists (now (chains .entry)) (now (skipped .entry)) (now (above .entry)) (now (unacked .entry)) (now (expired .entry))) (now (out .entry)) ⌝ }
+) -> Left
+    ensures { λ r. ⌜ (let row = writesContact contact (listsBefore chains skipped above unacked expired) (now (out .entry)) in WrittenBy contact mark rowSays row r (now (out .exit))) ⌝ }
 {
-    if !passed {
-        return Written::Refused(question::STORE);
-    }
-    contact_row::write_contact(contact, chains, skipped, above, unacked, expired, out)
+    let written = contact_row::write_contact(
+        contact,
+        chains,
+        skipped,
+        above,
+        unacked,
+        expired,
+        out,
+    );
+    answered(contact, mark, of_row(written))
 }
 
-impl OpenLeft {
-    // What was handed in, and a no.
-    fn refused(contact: Contact, mark: Mark, q: u8) -> OpenLeft
-        ensures { λ r. ⌜ ((l : Lists) → openLeft r l ≡ opening (refused q) mark contact l) ⌝ }
-    {
-        OpenLeft {
-            contact,
-            mark,
-            answer: Verdict::Refused(q),
-        }
-    }
-}
+// ---- open
 
 // What is open once the row was read.
-fn opened_by(id: u64, mark: Mark, contact: Contact, read: ContactRead) -> OpenLeft
-    ensures { λ r. ⌜ ((l : Lists) → openLeft r l ≡ openedBy (read .verdict) id mark contact (read .contact) l) ⌝ }
+fn opened_by(id: u64, mark: Mark, contact: Contact, read: ContactRead) -> Left
+    ensures { λ r. ⌜ r ≡ openedBy (read .verdict) id mark contact (read .contact) ⌝ }
 {
     let verdict = read.verdict;
     let Verdict::Refused(q) = verdict else {
         let its = read.contact;
-        return OpenLeft {
+        return Left {
             contact: its,
             mark: Mark::Opened(ContactId(id)),
-            answer: Verdict::Accepted,
+            answer: Answer::Yes,
         };
     };
-    OpenLeft::refused(contact, mark, q)
+    Left {
+        contact,
+        mark,
+        answer: Answer::No(q),
+    }
 }
 
-// Opens the contact of this id, whose row and version come from the store, where they were found.
+// Opens the contact of this id, whose entry was sought in the store.
 pub fn open(
-    passed: bool,
-    found: bool,
+    run: &[u8],
+    sought: Sought,
     id: u64,
     mark: Mark,
     contact: Contact,
-    version: u32,
-    row: &[u8],
     chains: &mut [u8],
     skipped: &mut [u8],
     above: &mut [u32],
     unacked: &mut [u32],
     expired: &mut [u32],
-) -> OpenLeft
-    ensures { λ r. ⌜ openLeft r (lists (now (chains .exit)) (now (skipped .exit)) (now (above .exit)) (now (unacked .exit)) (now (expired .exit))) ≡ openLeaves passed found id mark contact version (now (row .entry)) (lists (now (chains .entry)) (now (skipped .entry)) (now (above .entry)) (now (unacked .entry)) (now (expired .entry))) ⌝ }
+) -> Left
+    ensures { λ r. ⌜ r ≡ openLeaves sought id mark contact (now (run .entry)) (listsBefore chains skipped above unacked expired) ⌝ }
+    ensures { λ r. ⌜ listsAfter chains skipped above unacked expired ≡ openLists sought (now (run .entry)) (listsBefore chains skipped above unacked expired) ⌝ }
 {
-    if !passed {
-        return OpenLeft::refused(contact, mark, question::STORE);
+    if !sought.found {
+        return answered(contact, mark, Answer::No(question::CONTACT_STORED));
     }
-    if !found {
-        return OpenLeft::refused(contact, mark, question::CONTACT_STORED);
-    }
-    let read = contact::read_contact(version, row, chains, skipped, above, unacked, expired);
+    let e = sought.entry;
+    let row = store::part_of(run, e);
+    let read = contact::read_contact(e.version, row, chains, skipped, above, unacked, expired);
     opened_by(id, mark, contact, read)
 }

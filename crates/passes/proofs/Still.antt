@@ -22,19 +22,16 @@ use Rattle.contact_put.specs.Row.{counted, image, contactIn, askedContact, Cont
 use Rattle.contact_put.proofs.Counts.{all-counted}
 use Rattle.contact_laws.proofs.RoundTrip.{image-consistent}
 use Rattle.store.specs.declared.Entry.{Entry}
-use Rattle.store.specs.declared.Asked.{Asked}
-use Rattle.store.specs.declared.Asked.the-variants.{Going, Refused}
 use Rattle.store.specs.declared.Aside.{Aside}
 use Rattle.store.specs.declared.Aside.the-variants as left
 use Rattle.store.specs.Rounds.{ask}
 use Rattle.store.specs.Kinds.{CONTACT}
-use Rattle.store.specs.Store.{storeOf, isOf, before, asked, found, outcome, restore, going, storePasses, replacedPasses}
+use Rattle.store.specs.Store.{isOf, before, going, replacedPasses}
 use Rattle.store.specs.Aside.{isAside, asideSeen, askedAside}
 use Rattle.store.proofs.Tests.{all-yes}
 use Rattle.across.specs.declared.Across.{Across}
 use Rattle.across.specs.At.{askedOf}
-use Rattle.restore.specs.declared.Restored.{Restored}
-use Rattle.restore.specs.Restored.{answered, Questioned}
+use Rattle.restore.specs.Restored.{Questioned}
 use Rattle.ledger.specs.declared.Mark.the-variants.{Fresh}
 use Rattle.ledger.specs.Call.{Hand}
 use Rattle.ledger.specs.Aside.{sightOf, isLength, passesInParts}
@@ -44,16 +41,10 @@ use Rattle.sought.specs.declared.Sought.{Sought}
 use Rattle.sought.specs.Sought.{soughtIn, queuedAmong, queuedFound}
 use Rattle.sought.proofs.Halves.{Rises}
 use Rattle.sought.proofs.Laws.{found-is, among-rising}
-use Rattle.passes.specs.Passes.{isGranted, Writable}
+use Rattle.passes.specs.declared.Asking.{Asking}
+use Rattle.passes.specs.declared.Asking.the-variants.{Nothing, Stored, Opened}
+use Rattle.passes.specs.Passes.{Writable, WritableFor, asideFor, countFor, yesFor, passesFor}
 use Rattle.passes.proofs.Among.{sight, asked-apart}
-
--- ---- the store as it stands
-pub store-is : (run : List ℕ) (es : List Entry) (restored : Restored) (r : Bool) → restored ≡ answered (restore (storeOf run es)) → r ≡ isGranted restored → r ≡ storePasses run es
-store-is run es restored r is-restored is-r = is-r ∙ ap isGranted is-restored ∙ granted (asked (storeOf run es))
-  where
-    granted : (a : Asked) → isGranted (answered (outcome a (found (storeOf run es)))) ≡ going a
-    granted Going = refl
-    granted (Refused number place) = refl
 
 -- ---- fields that could be written have unacked numbers that rise
 unacked-rise : (v : value.Contact) → inconsistency v ≡ none → T (rising 1 (v .«sent_msgno») (v .unacked))
@@ -82,7 +73,7 @@ module _ (run : List ℕ) (es : List Entry) (id : ℕ) (c : Contact) (l : Lists)
   abbrev hand : Hand
   hand = record { mark = Fresh; run = run; entries = es; contact = c; lists = l; out = [] }
 
-  pub still-is : (writable : Bool) (sought : Sought) (aside : Aside) (end : Across) (count : ℕ) (among r : Bool)
+  still-is : (writable : Bool) (sought : Sought) (aside : Aside) (end : Across) (count : ℕ) (among r : Bool)
       → Writable c l writable → sought ≡ soughtIn es id → aside ≡ left.Contact id (c .«sent_msgno») → Questioned run es aside end → count ≡ c .unacked
       → among ≡ queuedFound id (take count (l .unacked)) es
       → r ≡ (writable && (sought .found && (going (askedOf end) && not among)))
@@ -109,3 +100,15 @@ module _ (run : List ℕ) (es : List Entry) (id : ℕ) (c : Contact) (l : Lists)
           (λ t. ap (λ (x : Bool). before es (length es) CONTACT id && x)
           ((λ k. going (going-is k) && not (among-is t k)) ∙ sym (asked-apart run es id (c .«sent_msgno») (take (c .unacked) (l .unacked)))))
           (λ f. refl)
+
+  -- ---- whatever it is asked of
+  pub passes-is : (asking : Asking) (writable : Bool) (sought : Sought) (aside : Aside) (end : Across) (count : ℕ) (among r : Bool)
+      → WritableFor asking c l writable → aside ≡ asideFor asking id c → Questioned run es aside end → count ≡ countFor asking c
+      → among ≡ queuedFound id (take count (l .unacked)) es
+      → r ≡ yesFor asking writable (sought .found) (going (askedOf end)) among
+      → sought ≡ soughtIn es id → r ≡ passesFor asking run es id c l
+  passes-is Nothing writable sought aside end count among r is-writable is-aside is-end is-count is-among is-r is-sought = is-r
+  passes-is Stored writable sought aside end count among r is-writable is-aside is-end is-count is-among is-r is-sought =
+      is-r ∙ ap going (subst (λ (a : Aside). askedOf end ≡ askedAside run es (isAside a) (asideSeen a)) is-aside (is-end .asked))
+  passes-is Opened writable sought aside end count among r is-writable is-aside is-end is-count is-among is-r is-sought =
+      still-is writable sought aside end count among r is-writable is-sought is-aside is-end is-count is-among is-r

@@ -1,20 +1,53 @@
--- Whether a store is granted, and whether opened fields could be written.
+-- Question 34 of what it is asked of, and the parts of its answer.
 -- Assumes nothing.
-use mathlib.Core.Bool.{Bool, true, false}
+use Prim.Native.Nat.{ℕ}
+use mathlib.Core.List.{List}
+use mathlib.Core.Bool.{Bool, false, _&&_, not}
 use mathlib.Core.Path.{_≡_}
 use Rattle.contact.specs.Contact.{Lists}
 use Rattle.contact.specs.declared.Contact.{Contact}
-use Rattle.contact_put.specs.Row.{askedContact, ContactTyped, ListsTyped}
-use Rattle.restore.specs.declared.Restored.{Restored}
-use Rattle.restore.specs.declared.Restored.the-variants.{Granted, Refused}
+use Rattle.contact_put.specs.Row.{counted, image, askedContact, ContactTyped, ListsTyped}
+use Rattle.store.specs.declared.Entry.{Entry}
+use Rattle.store.specs.declared.Aside.{Aside}
+use Rattle.store.specs.declared.Aside.the-variants as left
+use Rattle.store.specs.Store.{storePasses, replacedPasses}
 use Rattle.ledger.specs.Aside.{isLength}
+use Rattle.sought.specs.declared.Sought.{Sought}
+use Rattle.passes.specs.declared.Passed.{Passed}
+use Rattle.passes.specs.declared.Asking.{Asking}
+use Rattle.passes.specs.declared.Asking.the-variants.{Nothing, Stored, Opened}
 
-abbrev pub isGranted : Restored → Bool
-isGranted (Granted contact slot) = true
-isGranted (Refused number place) = false
+abbrev pub passesFor : Asking → (run : List ℕ) → List Entry → (id : ℕ) → Contact → Lists → Bool
+passesFor Nothing run es k c l = false
+passesFor Stored run es k c l = storePasses run es
+passesFor Opened run es k c l = counted c l && replacedPasses run es k (image c l)
 
 -- a writer would answer a length; and what the types say of the fields and their lists
 pub record Writable (c : Contact) (l : Lists) (r : Bool) : Type 0 where
   pub asked : r ≡ isLength (askedContact c l)
   pub contact : ContactTyped c
   pub lists : ListsTyped l
+
+abbrev pub passedAs : Sought → (passed : Bool) → Passed
+passedAs s passed = record { sought = s; passed = passed }
+
+-- ---- the parts
+abbrev pub WritableFor : Asking → Contact → Lists → (r : Bool) → Type 0
+WritableFor Nothing c l r = r ≡ false
+WritableFor Stored c l r = r ≡ false
+WritableFor Opened c l r = Writable c l r
+
+abbrev pub asideFor : Asking → (id : ℕ) → Contact → Aside
+asideFor Nothing k c = left.Nothing
+asideFor Stored k c = left.Nothing
+asideFor Opened k c = left.Contact k (c .«sent_msgno»)
+
+abbrev pub countFor : Asking → Contact → ℕ
+countFor Nothing c = 0
+countFor Stored c = 0
+countFor Opened c = c .unacked
+
+abbrev pub yesFor : Asking → (writable found going among : Bool) → Bool
+yesFor Nothing writable found going among = false
+yesFor Stored writable found going among = going
+yesFor Opened writable found going among = writable && (found && (going && not among))

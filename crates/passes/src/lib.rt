@@ -2,38 +2,30 @@
 // asked what a writer asks, the store with the row left aside, and the contact's queued rows 29 by the lent numbers.
 use across::Across;
 use contact::Contact;
-use restore::Restored;
 use rows::Written;
 use sought::Sought;
 use store::Aside;
 use store::Entry;
 ghost use mathlib.Core.Path.{_≡_};
 ghost use mathlib.Core.Bool.{_&&_, not};
-ghost use Rattle.contact.specs.Contact.{lists};
-ghost use Rattle.contact_put.specs.Row.{counted, image};
-ghost use Rattle.store.specs.declared.Aside.the-variants as left;
-ghost use Rattle.store.specs.Store.{going, storePasses, replacedPasses};
+ghost use Rattle.contact.specs.Contact.{lists, listsBefore};
+ghost use Rattle.store.specs.Store.{going};
 ghost use Rattle.across.specs.At.{askedOf};
-ghost use Rattle.passes.specs.Passes.{isGranted, Writable};
+ghost use Rattle.sought.specs.Sought.{soughtIn};
+ghost use Rattle.passes.specs.Passes.{Writable, WritableFor, asideFor, countFor, yesFor, passedAs, passesFor};
 
-fn is_granted(restored: Restored) -> bool
-    ensures { λ r. ⌜ r ≡ isGranted restored ⌝ }
-{
-    let Restored::Granted(_, _) = restored else {
-        return false;
-    };
-    true
+// A contact's entry, and the answer to 34.
+pub struct Passed {
+    pub sought: Sought,
+    pub passed: bool,
 }
 
-// 34 for open: the store as it stands.
-pub fn store_passes(run: &[u8], entries: &[Entry]) -> bool
-    ensures { λ r. ⌜ r ≡ storePasses (now (run .entry)) (now (entries .entry)) ⌝ }
-{
-    let restored = restore::restore(run, entries);
-    is_granted(restored)
+// What 34 is asked of: of nothing, since nothing is restored or opened; of the store as it stands; or with the opened fields in place of a contact's row.
+pub enum Asking {
+    Nothing,
+    Stored,
+    Opened,
 }
-
-// ---- opened fields in place of a contact's row
 
 fn is_going(end: Across) -> bool
     ensures { λ r. ⌜ r ≡ going (askedOf end) ⌝ }
@@ -53,7 +45,7 @@ fn is_writable(
     unacked: &[u32],
     expired: &[u32],
 ) -> bool
-    ensures { λ r. ⌜ Writable contact (lists (now (chains .entry)) (now (skipped .entry)) (now (above .entry)) (now (unacked .entry)) (now (expired .entry))) r ⌝ }
+    ensures { λ r. ⌜ Writable contact (listsBefore chains skipped above unacked expired) r ⌝ }
 {
     contact_put::typed(contact);
     let Written::Length(_) = contact_row::contact_size(
@@ -69,16 +61,43 @@ fn is_writable(
     true
 }
 
-fn left_aside(id: u64, contact: Contact) -> Aside
-    ensures { λ r. ⌜ r ≡ left.Contact id (contact .«sent_msgno») ⌝ }
+// 34 asks that of opened fields alone; of anything else the answer is no.
+fn is_writable_for(
+    asking: Asking,
+    contact: Contact,
+    chains: &[u8],
+    skipped: &[u8],
+    above: &[u32],
+    unacked: &[u32],
+    expired: &[u32],
+) -> bool
+    ensures { λ r. ⌜ WritableFor asking contact (listsBefore chains skipped above unacked expired) r ⌝ }
 {
-    Aside::Contact(id, contact.sent_msgno)
+    match asking {
+        Asking::Nothing => false,
+        Asking::Stored => false,
+        Asking::Opened => is_writable(contact, chains, skipped, above, unacked, expired),
+    }
 }
 
-fn unacked_count(contact: Contact) -> usize
-    ensures { λ r. ⌜ r ≡ contact .unacked ⌝ }
+fn left_aside(asking: Asking, id: u64, contact: Contact) -> Aside
+    ensures { λ r. ⌜ r ≡ asideFor asking id contact ⌝ }
 {
-    contact.unacked
+    match asking {
+        Asking::Nothing => Aside::Nothing,
+        Asking::Stored => Aside::Nothing,
+        Asking::Opened => Aside::Contact(id, contact.sent_msgno),
+    }
+}
+
+fn unacked_count(asking: Asking, contact: Contact) -> usize
+    ensures { λ r. ⌜ r ≡ countFor asking contact ⌝ }
+{
+    match asking {
+        Asking::Nothing => 0,
+        Asking::Stored => 0,
+        Asking::Opened => contact.unacked,
+    }
 }
 
 // The fields could be written, the contact is in the store, every question is a yes, and no queued row has an unacked number.
@@ -97,10 +116,28 @@ fn all_yes(writable: bool, sought: Sought, end: Across, among: bool) -> bool
     !among
 }
 
-// 34 for the other calls: no count is above its list's length, and the store passes with the opened fields in place of contact id's row.
-pub fn still_passes(
+fn answer(asking: Asking, writable: bool, sought: Sought, end: Across, among: bool) -> bool
+    ensures { λ r. ⌜ r ≡ yesFor asking writable (sought .found) (going (askedOf end)) among ⌝ }
+{
+    match asking {
+        Asking::Nothing => false,
+        Asking::Stored => is_going(end),
+        Asking::Opened => all_yes(writable, sought, end, among),
+    }
+}
+
+fn passed_as(sought: Sought, passed: bool) -> Passed
+    ensures { λ r. ⌜ r ≡ passedAs sought passed ⌝ }
+{
+    Passed { sought, passed }
+}
+
+// 34. For open the store passes as it stands; for the other calls no count is above its list's length, and it passes with the opened fields in place of
+// contact id's row. That contact is sought in the store.
+pub fn passes(
     run: &[u8],
     entries: &[Entry],
+    asking: Asking,
     id: u64,
     contact: Contact,
     chains: &[u8],
@@ -108,14 +145,16 @@ pub fn still_passes(
     above: &[u32],
     unacked: &[u32],
     expired: &[u32],
-) -> bool
-    ensures { λ r. ⌜ r ≡ (counted contact (lists (now (chains .entry)) (now (skipped .entry)) (now (above .entry)) (now (unacked .entry)) (now (expired .entry))) && replacedPasses (now (run .entry)) (now (entries .entry)) id (image contact (lists (now (chains .entry)) (now (skipped .entry)) (now (above .entry)) (now (unacked .entry)) (now (expired .entry))))) ⌝ }
+) -> Passed
+    ensures { λ r. ⌜ r ≡ passedAs (soughtIn (now (entries .entry)) id) (passesFor asking (now (run .entry)) (now (entries .entry)) id contact
+        (lists (now (chains .entry)) (now (skipped .entry)) (now (above .entry)) (now (unacked .entry)) (now (expired .entry)))) ⌝ }
 {
-    let writable = is_writable(contact, chains, skipped, above, unacked, expired);
     let sought = sought::contact_in(entries, id);
-    let aside = left_aside(id, contact);
+    let writable = is_writable_for(asking, contact, chains, skipped, above, unacked, expired);
+    let aside = left_aside(asking, id, contact);
     let end = restore::questions(run, entries, aside);
-    let count = unacked_count(contact);
+    let count = unacked_count(asking, contact);
     let among = sought::queued_among(entries, id, unacked, count);
-    all_yes(writable, sought, end, among)
+    let passed = answer(asking, writable, sought, end, among);
+    passed_as(sought, passed)
 }

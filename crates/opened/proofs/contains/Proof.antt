@@ -1,20 +1,23 @@
--- `opened::contains` meets its contract: 34 first, and then the covered numbers.
+-- `opened::contains` meets its contract: whether the number is covered.
 -- Assumes nothing.
-use mathlib.Core.Path.{ap}
 use borrow.Author.Needs.{needs}
-use borrow.Author.Tests.{not-true, not-false}
-use Rattle.ledger.specs.Call.{truth}
+use mathlib.Core.Path.{ap, _∙_}
+use Rattle.opened.specs.declared.Answer.the-variants.{Truth}
+use Rattle.opened.specs.Calls.{left}
 use Rattle.opened.proofs.contains.Statement.{statement}
 use Rattle.opened.proofs.contains.Tie as tie
-
-returns : tie.Need-returns
-returns c = rw (not-true (c .before .before .args .passed) (c .if1 .taken))
 
 contains-requires : tie.Need-contains-requires
 contains-requires c κs = search needs
 
-returns-2 : tie.Need-returns-2
-returns-2 c = let e = c .before in rw (not-false (e .before .before .args .passed) (e .if1 .left)) (ap truth (c .contains .ensures))
+answered-requires : tie.Need-answered-requires
+answered-requires c κs = search needs
+
+returns : tie.Need-returns
+returns c =
+    let is = c .before in
+    let a = is .before .before .args in
+    c .answered .ensures ∙ ap (λ b. left (a .contact) (a .mark) (Truth b)) (is .contains .ensures)
 
 pub contains-spec : {M : Type 1} → statement M
-contains-spec = tie.close (tie.spec returns contains-requires returns-2)
+contains-spec = tie.close (tie.spec contains-requires answered-requires returns)

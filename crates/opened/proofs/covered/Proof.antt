@@ -1,4 +1,5 @@
--- `opened::covered` meets its contract: by what was planned. Assumes nothing.
+-- `opened::covered` meets its contract: by what was planned.
+-- Assumes nothing.
 use borrow.Author.Needs.{needs}
 use Rattle.opened.proofs.covered.Statement.{statement}
 use Rattle.opened.proofs.covered.Tie as tie
@@ -12,22 +13,13 @@ renumbered-requires c κs = search needs
 enum-known-planned-2 : tie.Need-enum-known-planned-2
 enum-known-planned-2 c = search needs
 
-refused-requires : tie.Need-refused-requires
-refused-requires c κs = search needs
-
 returns : tie.Need-returns
-returns c = λ above. rw (c .before .before .planned .given .1, c .renumbered .ensures)
+returns c = rw (c .before .before .planned .given .1, c .renumbered .ensures)
 
 returns-2 : tie.Need-returns-2
-returns-2 c = λ above. rw (c .before .before .planned2 .given .1) (c .refused .ensures above)
+returns-2 c = rw (c .before .planned2 .given .1)
 
 pub covered-spec : {M : Type 1} → statement M
 covered-spec =
     tie.close
-    (tie.spec
-    enum-known-planned
-    renumbered-requires
-    enum-known-planned-2
-    refused-requires
-    returns
-    returns-2)
+    (tie.spec enum-known-planned renumbered-requires enum-known-planned-2 returns returns-2)

@@ -1,15 +1,12 @@
--- `opened::statement` meets its contract: 34, and then the line.
+-- `opened::statement` meets its contract: the line, and what its writer answers.
 -- Assumes nothing.
-use mathlib.Core.Path.{_∙_}
 use borrow.Author.Needs.{needs}
-use borrow.Author.Tests.{not-true, not-false}
-use Rattle.layout.specs.Write.{stored}
+use mathlib.Core.Path.{ap, _∙_}
+use Rattle.layout.specs.Write.{Left, stored}
 use Rattle.line.specs.Line.{lineOf}
+use Rattle.opened.specs.Calls.{left, lineSays}
 use Rattle.opened.proofs.statement.Statement.{statement}
 use Rattle.opened.proofs.statement.Tie as tie
-
-returns : tie.Need-returns
-returns c = rw (not-true (c .before .before .before .before .args .passed) (c .if1 .taken))
 
 numbers-in-requires : tie.Need-numbers-in-requires
 numbers-in-requires c κs = search needs
@@ -20,28 +17,39 @@ numbers-in-requires-2 c κs = search needs
 statement-line-requires : tie.Need-statement-line-requires
 statement-line-requires c κs = search needs
 
+of-line-requires : tie.Need-of-line-requires
+of-line-requires c κs = search needs
+
+answered-requires : tie.Need-answered-requires
+answered-requires c κs = search needs
+
 same-length : tie.Need-same-length
 same-length c = search needs
 
-returns-2 : tie.Need-returns-2
-returns-2 c =
-    let s = c .before .before in
-    let expired = s .before .before in
-    let beyond = expired .before in
-    let e = beyond .before in
-    let a = e .before .before .before .before .args in
+returns : tie.Need-returns
+returns c =
+    let said = c .before in
+    let s = said .before .before .before in
+    let lost = s .before .before in
+    let beyond = lost .before in
+    let a = beyond .before .before .before .before .args in
     let f = a .contact in
-    rw (not-false (a .passed) (e .if1 .left))
-    (s .statement-line .ensures
-    ∙ λ i. stored (lineOf (a .id) (f .«sent_msgno») (f .«peer_acked») (f .contiguous) (beyond .numbers-in .ensures .0 i) (a .queued) (expired .numbers-in2 .ensures .0 i)) (a .out .now))
+    let line =
+    s .statement-line .ensures
+    ∙ (λ i. stored (lineOf (a .id) (f .«sent_msgno») (f .«peer_acked») (f .contiguous) (beyond .numbers-in .ensures .0 i) (a .queued) (lost .numbers-in2 .ensures .0 i)) (a .out .now)) in
+    record {
+      answer = c .answered .ensures ∙ ap (left f (a .mark)) (said .of-line .ensures ∙ ap (λ (w : Left). lineSays (w .answer)) line);
+      output = ap (λ (w : Left). w .out) line;
+    }
 
 pub statement-spec : {M : Type 1} → statement M
 statement-spec =
     tie.close
     (tie.spec
-    returns
     numbers-in-requires
     numbers-in-requires-2
     statement-line-requires
+    of-line-requires
+    answered-requires
     same-length
-    returns-2)
+    returns)

@@ -1,28 +1,34 @@
--- `opened::write` meets its contract: 34, and then the row.
+-- `opened::write` meets its contract: the row, and what its writer answers.
 -- Assumes nothing.
 use borrow.Author.Needs.{needs}
-use borrow.Author.Tests.{not-true, not-false}
+use mathlib.Core.Path.{ap, _∙_}
+use Rattle.layout.specs.Write.{Left}
+use Rattle.opened.specs.Calls.{left, rowSays}
 use Rattle.opened.proofs.write.Statement.{statement}
 use Rattle.opened.proofs.write.Tie as tie
-
--- what is handed in
-abbrev start : tie.After-slice-known → tie.Start
-start c = c .before .before .before .before .before .before
-
-returns : tie.Need-returns
-returns c = rw (not-true (start (c .before) .args .passed) (c .if1 .taken))
 
 write-contact-requires : tie.Need-write-contact-requires
 write-contact-requires c κs = search needs
 
+of-row-requires : tie.Need-of-row-requires
+of-row-requires c κs = search needs
+
+answered-requires : tie.Need-answered-requires
+answered-requires c κs = search needs
+
 same-length : tie.Need-same-length
 same-length c = search needs
 
-returns-2 : tie.Need-returns-2
-returns-2 c =
-    let w = c .before .before in
-    let e = w .before .before in
-    rw (not-false (start (e .before) .args .passed) (e .if1 .left)) (w .write-contact .ensures)
+returns : tie.Need-returns
+returns c =
+    let said = c .before in
+    let made = said .before .before .before in
+    let a = made .before .before .before .before .before .before .before .before .args in
+    let row = made .write-contact .ensures in
+    record {
+      answer = c .answered .ensures ∙ ap (left (a .contact) (a .mark)) (said .of-row .ensures ∙ ap (λ (w : Left). rowSays (w .answer)) row);
+      output = ap (λ (w : Left). w .out) row;
+    }
 
 pub write-spec : {M : Type 1} → statement M
-write-spec = tie.close (tie.spec returns write-contact-requires same-length returns-2)
+write-spec = tie.close (tie.spec write-contact-requires of-row-requires answered-requires same-length returns)
