@@ -1,6 +1,4 @@
 mod Entries
 mod Texts
-mod Rows
-mod Lines
 mod Fed
 pub mod Proved

@@ -1,7 +1,6 @@
 // The text of a sheet, from what its reader leaves: the state behind the last byte, the run with the blob bytes and the places of the lines.
 // The store that was read is restored, and its text written; a refusal has a line of its own. A state that no reader left may say more lines or blob bytes than
 // the lent lists have room for: as many count as there is room for.
-use ledger::Mark;
 use restore::Restored;
 use rows::Written;
 use sheet::Answer;
@@ -45,8 +44,7 @@ fn report_store(run: &[u8], places: &[u64], n: usize, out: &mut [u8]) -> Written
     ensures { λ r. ⌜ length (textOf (now (run .entry)) (entriesOf (now (places .entry)) n)) ≤ «TEXT_BYTES» ⌝ }
 {
     let table = table::table_of(places, n);
-    let left = table::restore(run, table, n, Mark::Fresh);
-    let answer = left.answer;
+    let answer = table::restore(run, table, n);
     match answer {
         Restored::Granted(_, next_slot) => text::write_granted(run, places, n, next_slot, out),
         Restored::Refused(number, place) => {

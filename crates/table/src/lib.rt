@@ -1,31 +1,14 @@
-// The calls of document 01 for a program, which has a table of entries by value: each lends the table's first n entries and makes the call.
+// A table of entries by value, for a program: filled from a sheet's places, and its first n entries lent to restore.
 // A count above the table's length counts as that length.
-use calls::RestoreLeft;
-use contact::Contact;
-use courier::ContactId;
-use ledger::Mark;
-use opened::CoverLeft;
-use opened::OpenLeft;
-use opened::TakeLeft;
-use opened::Truth;
-use rows::Written;
+use restore::Restored;
 use sheet::PLACE;
 use store::Entry;
 ghost use mathlib.Core.Path.{_≡_};
-ghost use mathlib.Core.List.{[]};
 ghost use Prim.Native.Nat.{_*_, _<_, min};
 ghost use lib.ListN.{getD, drop, replicate};
 ghost use lib.ListN as list;
-ghost use Rattle.rows.specs.Answers.{writtenSays};
-ghost use Rattle.contact.specs.Contact.{lists};
 ghost use Rattle.store.specs.Store.{storeOf, restore, noEntry};
 ghost use Rattle.restore.specs.Restored.{answered};
-ghost use Rattle.ledger.specs.Call.{Hand, leaves};
-ghost use Rattle.ledger.specs.Call as call;
-ghost use Rattle.ledger.specs.Step.{wroteRow, step};
-ghost use Rattle.ledger.specs.Proved.{HIGHEST};
-ghost use Rattle.opened.specs.Calls.{truthSays, takenSays, verdictSays, lineSays};
-ghost use Rattle.calls.specs.Calls.{handOf, restoredOn};
 ghost use Rattle.table.specs.Table.{ENTRIES, inField, entryFrom, Filled};
 
 // How many entries a table has.
@@ -34,7 +17,8 @@ pub const ENTRIES: usize = 512;
 // The highest number of 32 bits.
 const HIGHEST_32: u64 = 0xFFFFFFFF;
 
-fn held(n: usize) -> usize
+// How many of n entries a table has.
+pub fn held(n: usize) -> usize
     ensures { λ r. ⌜ r ≡ min n ENTRIES ⌝ }
 {
     if n <= ENTRIES { n } else { ENTRIES }
@@ -125,223 +109,11 @@ pub fn table_of(places: &[u64], lines: usize) -> [Entry; ENTRIES]
     table
 }
 
-// ---- the calls
+// ---- restore
 
-pub fn restore(run: &[u8], table: [Entry; ENTRIES], n: usize, mark: Mark) -> RestoreLeft
-    ensures { λ r. ⌜ (r .answer ≡ answered (restore (storeOf (now (run .entry)) (list.take n table)))) × ((h : Hand) → h .mark ≡ mark → restoredOn r (now (run .entry)) (list.take n table) h ≡ step HIGHEST (call.restore (now (run .entry)) (list.take n table)) h) ⌝ }
+pub fn restore(run: &[u8], table: [Entry; ENTRIES], n: usize) -> Restored
+    ensures { λ r. ⌜ r ≡ answered (restore (storeOf (now (run .entry)) (list.take n table))) ⌝ }
 {
     let count = held(n);
-    calls::restore(run, &table[..count], mark)
-}
-
-pub fn open(
-    run: &[u8],
-    table: [Entry; ENTRIES],
-    n: usize,
-    mark: Mark,
-    contact: Contact,
-    chains: &mut [u8],
-    skipped: &mut [u8],
-    above: &mut [u32],
-    unacked: &mut [u32],
-    expired: &mut [u32],
-    id: ContactId,
-) -> OpenLeft
-    ensures { λ r. ⌜ leaves (verdictSays (r .answer)) (handOf (r .mark) (now (run .entry)) (list.take n table) (r .contact) (lists (now (chains .exit)) (now (skipped .exit)) (now (above .exit)) (now (unacked .exit)) (now (expired .exit))) []) ≡ step HIGHEST (call.opens (id .0)) (handOf mark (now (run .entry)) (list.take n table) contact (lists (now (chains .entry)) (now (skipped .entry)) (now (above .entry)) (now (unacked .entry)) (now (expired .entry))) []) ⌝ }
-{
-    let count = held(n);
-    calls::open(
-        run,
-        &table[..count],
-        mark,
-        contact,
-        chains,
-        skipped,
-        above,
-        unacked,
-        expired,
-        id,
-    )
-}
-
-pub fn cover(
-    run: &[u8],
-    table: [Entry; ENTRIES],
-    n: usize,
-    mark: Mark,
-    contact: Contact,
-    chains: &[u8],
-    skipped: &[u8],
-    above: &mut [u32],
-    unacked: &[u32],
-    expired: &[u32],
-    from: u32,
-    to: u32,
-) -> CoverLeft
-    ensures { λ r. ⌜ leaves (truthSays (r .answer)) (handOf mark (now (run .entry)) (list.take n table) (r .contact) (lists (now (chains .entry)) (now (skipped .entry)) (now (above .exit)) (now (unacked .entry)) (now (expired .entry))) []) ≡ step HIGHEST (call.cover from to) (handOf mark (now (run .entry)) (list.take n table) contact (lists (now (chains .entry)) (now (skipped .entry)) (now (above .entry)) (now (unacked .entry)) (now (expired .entry))) []) ⌝ }
-{
-    let count = held(n);
-    calls::cover(
-        run,
-        &table[..count],
-        mark,
-        contact,
-        chains,
-        skipped,
-        above,
-        unacked,
-        expired,
-        from,
-        to,
-    )
-}
-
-pub fn contains(
-    run: &[u8],
-    table: [Entry; ENTRIES],
-    n: usize,
-    mark: Mark,
-    contact: Contact,
-    chains: &[u8],
-    skipped: &[u8],
-    above: &[u32],
-    unacked: &[u32],
-    expired: &[u32],
-    msgno: u32,
-) -> Truth
-    ensures { λ r. ⌜ leaves (truthSays r) (handOf mark (now (run .entry)) (list.take n table) contact (lists (now (chains .entry)) (now (skipped .entry)) (now (above .entry)) (now (unacked .entry)) (now (expired .entry))) []) ≡ step HIGHEST (call.contains msgno) (handOf mark (now (run .entry)) (list.take n table) contact (lists (now (chains .entry)) (now (skipped .entry)) (now (above .entry)) (now (unacked .entry)) (now (expired .entry))) []) ⌝ }
-{
-    let count = held(n);
-    calls::contains(
-        run,
-        &table[..count],
-        mark,
-        contact,
-        chains,
-        skipped,
-        above,
-        unacked,
-        expired,
-        msgno,
-    )
-}
-
-pub fn covers(
-    run: &[u8],
-    table: [Entry; ENTRIES],
-    n: usize,
-    mark: Mark,
-    contact: Contact,
-    chains: &[u8],
-    skipped: &[u8],
-    above: &[u32],
-    unacked: &[u32],
-    expired: &[u32],
-    from: u32,
-    to: u32,
-) -> Truth
-    ensures { λ r. ⌜ leaves (truthSays r) (handOf mark (now (run .entry)) (list.take n table) contact (lists (now (chains .entry)) (now (skipped .entry)) (now (above .entry)) (now (unacked .entry)) (now (expired .entry))) []) ≡ step HIGHEST (call.covers from to) (handOf mark (now (run .entry)) (list.take n table) contact (lists (now (chains .entry)) (now (skipped .entry)) (now (above .entry)) (now (unacked .entry)) (now (expired .entry))) []) ⌝ }
-{
-    let count = held(n);
-    calls::covers(
-        run,
-        &table[..count],
-        mark,
-        contact,
-        chains,
-        skipped,
-        above,
-        unacked,
-        expired,
-        from,
-        to,
-    )
-}
-
-pub fn take(
-    run: &[u8],
-    table: [Entry; ENTRIES],
-    n: usize,
-    mark: Mark,
-    contact: Contact,
-    chains: &[u8],
-    skipped: &[u8],
-    above: &[u32],
-    unacked: &[u32],
-    expired: &[u32],
-) -> TakeLeft
-    ensures { λ r. ⌜ leaves (takenSays (r .answer)) (handOf mark (now (run .entry)) (list.take n table) (r .contact) (lists (now (chains .entry)) (now (skipped .entry)) (now (above .entry)) (now (unacked .entry)) (now (expired .entry))) []) ≡ step HIGHEST call.take (handOf mark (now (run .entry)) (list.take n table) contact (lists (now (chains .entry)) (now (skipped .entry)) (now (above .entry)) (now (unacked .entry)) (now (expired .entry))) []) ⌝ }
-{
-    let count = held(n);
-    calls::take(
-        run,
-        &table[..count],
-        mark,
-        contact,
-        chains,
-        skipped,
-        above,
-        unacked,
-        expired,
-    )
-}
-
-pub fn statement(
-    run: &[u8],
-    table: [Entry; ENTRIES],
-    n: usize,
-    mark: Mark,
-    contact: Contact,
-    chains: &[u8],
-    skipped: &[u8],
-    above: &[u32],
-    unacked: &[u32],
-    expired: &[u32],
-    out: &mut [u8],
-) -> Written
-    ensures { λ r. ⌜ leaves (lineSays (writtenSays r) (now (out .exit))) (handOf mark (now (run .entry)) (list.take n table) contact (lists (now (chains .entry)) (now (skipped .entry)) (now (above .entry)) (now (unacked .entry)) (now (expired .entry))) (now (out .exit))) ≡ step HIGHEST call.statement (handOf mark (now (run .entry)) (list.take n table) contact (lists (now (chains .entry)) (now (skipped .entry)) (now (above .entry)) (now (unacked .entry)) (now (expired .entry))) (now (out .entry))) ⌝ }
-{
-    let count = held(n);
-    calls::statement(
-        run,
-        &table[..count],
-        mark,
-        contact,
-        chains,
-        skipped,
-        above,
-        unacked,
-        expired,
-        out,
-    )
-}
-
-pub fn write(
-    run: &[u8],
-    table: [Entry; ENTRIES],
-    n: usize,
-    mark: Mark,
-    contact: Contact,
-    chains: &[u8],
-    skipped: &[u8],
-    above: &[u32],
-    unacked: &[u32],
-    expired: &[u32],
-    out: &mut [u8],
-) -> Written
-    ensures { λ r. ⌜ leaves (wroteRow (writtenSays r)) (handOf mark (now (run .entry)) (list.take n table) contact (lists (now (chains .entry)) (now (skipped .entry)) (now (above .entry)) (now (unacked .entry)) (now (expired .entry))) (now (out .exit))) ≡ step HIGHEST call.write (handOf mark (now (run .entry)) (list.take n table) contact (lists (now (chains .entry)) (now (skipped .entry)) (now (above .entry)) (now (unacked .entry)) (now (expired .entry))) (now (out .entry))) ⌝ }
-{
-    let count = held(n);
-    calls::write(
-        run,
-        &table[..count],
-        mark,
-        contact,
-        chains,
-        skipped,
-        above,
-        unacked,
-        expired,
-        out,
-    )
+    restore::restore(run, &table[..count])
 }

@@ -5,7 +5,6 @@ use cases::Number;
 use data::Leb128Field;
 use fields::U32Field;
 use fields::U64Field;
-use ledger::Mark;
 use libc::STDIN_FILENO;
 use libc::STDOUT_FILENO;
 use restore::Restored;
@@ -309,8 +308,7 @@ fn restored(case: &[u8], table: [Entry; ENTRIES], count: usize, bytes: &mut [u8]
     let Written::Length(n) = cases::bytes(cases::field(case), bytes) else {
         return false;
     };
-    let left = table::restore(cases::first(bytes, n), table, count, Mark::Fresh);
-    let answer = left.answer;
+    let answer = table::restore(cases::first(bytes, n), table, count);
     is_restored(cases::rest(case), answer)
 }
 

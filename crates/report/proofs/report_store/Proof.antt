@@ -36,7 +36,7 @@ returns c =
     let r = k .before .before in
     let s = r .before .before .before .before .before in
     let a = s .args in
-    as-text (a .out .now) (table-granted (a .run .now) (a .places .now) (a .n) (s .pre .1) (r .before .table-of .ensures) (r .restore .ensures .0) (k .answer .given .1)) (w .write-granted .ensures)
+    as-text (a .out .now) (table-granted (a .run .now) (a .places .now) (a .n) (s .pre .1) (r .before .table-of .ensures) (r .restore .ensures) (k .answer .given .1)) (w .write-granted .ensures)
 
 same-length-2 : tie.Need-same-length-2
 same-length-2 c = search needs
@@ -49,7 +49,7 @@ returns-2 c =
     let r = k .before .before in
     let s = r .before .before .before .before .before in
     let a = s .args in
-    as-text (a .out .now) (table-refused (a .run .now) (a .places .now) (a .n) (s .pre .1) (r .before .table-of .ensures) (r .restore .ensures .0) (k .answer2 .given .1) (b .wide .ensures)) (w .write-refused .ensures)
+    as-text (a .out .now) (table-refused (a .run .now) (a .places .now) (a .n) (s .pre .1) (r .before .table-of .ensures) (r .restore .ensures) (k .answer2 .given .1) (b .wide .ensures)) (w .write-refused .ensures)
 
 pub report-store-spec : {M : Type 1} → statement M
 report-store-spec =

@@ -37,8 +37,8 @@ use Rattle.ledger.proofs.Asking.{passes-now}
 use Rattle.ledger.proofs.Proved.{proved}
 use Rattle.line.specs.Line.{lineOf, queuedOf}
 use Rattle.text.specs.Text.{contactLine}
-use Rattle.report.specs.Proved.{callsOn, linesOf, LentEnough}
-use Rattle.report.proofs.Rows.{FromEntry, AllFrom, all-from, opens-it}
+use Rattle.report_laws.specs.Proved.{callsOn, linesOf, LentEnough}
+use Rattle.report_laws.proofs.Rows.{FromEntry, AllFrom, all-from, opens-it}
 
 wide : 256 ^ 4 ≤ HIGHEST + 1
 wide = omega arith

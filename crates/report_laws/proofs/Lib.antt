@@ -1,0 +1,3 @@
+mod Rows
+mod Lines
+pub mod Proved
