@@ -1,36 +1,20 @@
--- Encoded lists of calls, and their answers, by computation.
+-- A list of calls on no store, by computation.
 -- Assumes nothing.
 use mathlib.Core.List.{[], _∷_}
-use mathlib.Core.Bool.{true, false}
 use mathlib.Core.Path.{_≡_, refl}
 use Rattle.layout.specs.Questions.{ORDER, STORE}
 use Rattle.contact.specs.Contact.{lists}
-use Rattle.ledger.specs.Call.{restore, opens, cover, contains, covers, take, statement, write, granted, truth, number, wrote, said, refused, refusedAt}
 use Rattle.ledger.specs.Step as steps
 use Rattle.ledger.specs.Replay.{answers}
 use Rattle.ledger.specs.Proved.{HIGHEST}
 use Rattle.table.specs.Table as tables
-use Rattle.call_list.specs.Encoding as encoding
-use Rattle.call_list.specs.Encoding.{RESTORE, OPEN, COVER, CONTAINS, COVERS, TAKE, STATEMENT, WRITE, callsOf, numbersOf}
-use Rattle.call_list.specs.Replay.{begun, handIn}
+use Rattle.call_code.specs.Encoding as encoding
+use Rattle.call_code.specs.Encoding.{RESTORE, OPEN, TAKE, NO, «NO_AT», callsOf, numbersOf}
+use Rattle.session.specs.Session.{begun, handIn}
 
+-- a store without entries is refused, and so are calls on no store
 samples :
-    -- a store of two bytes from the byte 1 on, and one entry from the entry 1 on; the other calls; a message number wider than its field counts as the highest.
-    -- What is behind numbers that are no call is not looked at
-    (callsOf (10 ∷ 11 ∷ 12 ∷ []) (0 ∷ 0 ∷ 0 ∷ 0 ∷ 0 ∷ 0 ∷ 2 ∷ 7 ∷ 1 ∷ 1 ∷ 4294967296 ∷ 3 ∷ [])
-    (RESTORE ∷ 1 ∷ 2 ∷ 1 ∷ 1 ∷ OPEN ∷ 7 ∷ 0 ∷ 0 ∷ 0 ∷ COVER ∷ 5 ∷ 4294967296 ∷ 0 ∷ 0 ∷ CONTAINS ∷ 6 ∷ 0 ∷ 0 ∷ 0 ∷ COVERS ∷ 8 ∷ 9 ∷ 0 ∷ 0
-    ∷ TAKE ∷ 0 ∷ 0 ∷ 0 ∷ 0 ∷ STATEMENT ∷ 0 ∷ 0 ∷ 0 ∷ 0 ∷ WRITE ∷ 0 ∷ 0 ∷ 0 ∷ 0 ∷ 9 ∷ 0 ∷ 0 ∷ 0 ∷ 0 ∷ TAKE ∷ 0 ∷ 0 ∷ 0 ∷ 0 ∷ [])
-    30
-    ≡ restore (11 ∷ 12 ∷ []) (record { id = 7; start = 1; len = 1; msgno = 4294967295; version = 3; kind = 2 } ∷ [])
-    ∷ opens 7 ∷ cover 5 4294967295 ∷ contains 6 ∷ covers 8 9 ∷ take ∷ statement ∷ write ∷ [])
-    -- fewer than five numbers are no call; nor is there one without room for its answer
-    × (callsOf [] [] (TAKE ∷ 0 ∷ 0 ∷ 0 ∷ 0 ∷ TAKE ∷ 0 ∷ 0 ∷ 0 ∷ []) 6 ≡ take ∷ [])
-    × (callsOf [] [] (TAKE ∷ 0 ∷ 0 ∷ 0 ∷ 0 ∷ WRITE ∷ 0 ∷ 0 ∷ 0 ∷ 0 ∷ []) 5 ≡ take ∷ [])
-    -- each answer
-    × (numbersOf (granted ∷ truth true ∷ truth false ∷ number 4 ∷ wrote 303 ∷ said 16 (1 ∷ 2 ∷ []) ∷ refused 34 ∷ refusedAt 25 2 ∷ [])
-    ≡ 0 ∷ 0 ∷ 0 ∷ 1 ∷ 1 ∷ 0 ∷ 1 ∷ 0 ∷ 0 ∷ 2 ∷ 4 ∷ 0 ∷ 3 ∷ 303 ∷ 0 ∷ 4 ∷ 16 ∷ 0 ∷ 5 ∷ 34 ∷ 0 ∷ 6 ∷ 25 ∷ 2 ∷ [])
-    -- a store without entries is refused, and so are calls on no store
-    × (numbersOf (answers HIGHEST (callsOf [] [] (RESTORE ∷ 0 ∷ 0 ∷ 0 ∷ 0 ∷ OPEN ∷ 1 ∷ 0 ∷ 0 ∷ 0 ∷ TAKE ∷ 0 ∷ 0 ∷ 0 ∷ 0 ∷ []) 9) (handIn begun [] [] (lists [] [] [] [] []) []))
-    ≡ 6 ∷ ORDER ∷ 0 ∷ 5 ∷ STORE ∷ 0 ∷ 5 ∷ STORE ∷ 0 ∷ [])
+    (numbersOf (answers HIGHEST (callsOf [] [] (RESTORE ∷ 0 ∷ 0 ∷ 0 ∷ 0 ∷ 0 ∷ OPEN ∷ 1 ∷ 0 ∷ 0 ∷ 0 ∷ 0 ∷ TAKE ∷ 0 ∷ 0 ∷ 0 ∷ 0 ∷ 0 ∷ []) 18) (handIn begun [] [] (lists [] [] [] [] []) []))
+    ≡ «NO_AT» ∷ ORDER ∷ 0 ∷ 0 ∷ 0 ∷ 0 ∷ NO ∷ STORE ∷ 0 ∷ 0 ∷ 0 ∷ 0 ∷ NO ∷ STORE ∷ 0 ∷ 0 ∷ 0 ∷ 0 ∷ [])
 unfolding steps.step tables.entriesFrom encoding.callAs encoding.callsFrom encoding.numbersOf
-samples = (refl, refl, refl, refl, refl)
+samples = refl

@@ -18,8 +18,8 @@ use Rattle.ledger.specs.Ledger.{nothing}
 use Rattle.ledger.specs.Replay.{answers, ledgerAnswers, AllTyped}
 use Rattle.ledger.specs.Proved.{HIGHEST}
 use Rattle.ledger.proofs.Proved.{proved}
-use Rattle.call_list.specs.Encoding as encoding
-use Rattle.call_list.specs.Encoding.{RESTORE, OPEN, COVER, CONTAINS, COVERS, TAKE, STATEMENT, WRITE, callOf, followedBy, callsFrom, numbersOf}
+use Rattle.call_code.specs.Encoding as encoding
+use Rattle.call_code.specs.Encoding.{RESTORE, OPEN, COVER, CONTAINS, COVERS, TAKE, STATEMENT, WRITE, callIn, followedBy, callsFrom, numbersOf}
 
 abbrev TypedAs : Option Call → Type 0
 TypedAs none = Unit {0}
@@ -33,7 +33,7 @@ either true p q = p
 either false p q = q
 
 module _ (run places : List ℕ) (bytes : Bytes run) where
-  typed-call : (numbers : List ℕ) → TypedIf (callOf run places numbers)
+  typed-call : (numbers : List ℕ) → TypedIf (callIn run places numbers)
   unfolding encoding.callAs
   typed-call numbers =
       let code = getD numbers 0 0 in
@@ -55,7 +55,7 @@ module _ (run places : List ℕ) (bytes : Bytes run) where
   typed-calls : (most : ℕ) (numbers : List ℕ) → AllTyped HIGHEST (callsFrom most run places numbers)
   unfolding encoding.callsFrom
   typed-calls zero numbers = tt
-  typed-calls (suc most) numbers = followed (callOf run places numbers) (callsFrom most run places (drop 5 numbers)) (typed-call numbers .is) (typed-calls most (drop 5 numbers))
+  typed-calls (suc most) numbers = followed (callIn run places numbers) (callsFrom most run places (drop 6 numbers)) (typed-call numbers .is) (typed-calls most (drop 6 numbers))
 
   -- so the answers are the ledger's
   pub ledger-says : (most : ℕ) (numbers : List ℕ) (h : Hand) → h .mark ≡ Fresh

@@ -6,12 +6,12 @@ use super::STATE;
 use super::Script;
 use super::UNKNOWN;
 use super::least;
-use call_list::Session;
 use cases::first;
 use contact::Contact;
 use ledger::Mark;
 use libc::STDOUT_FILENO;
 use rows::Written;
+use session::Session;
 
 pub fn print(written: Written, line: &[u8]) {
     if let Written::Length(n) = written {
@@ -135,8 +135,8 @@ fn make_call(
     out: &mut [u8],
     line: &mut [u8],
 ) -> Session {
-    let calls = [s.code, s.a, s.b, s.c, s.d];
-    let mut answers = [0u64; 3];
+    let calls = [s.code, s.a, s.b, s.c, s.d, 0];
+    let mut answers = [0u64; call_code::ANSWER];
     let c = least(s.chains, chains.len());
     let k = least(s.skipped, skipped.len());
     let a = least(s.above, above.len());
@@ -179,7 +179,7 @@ pub fn answer(
         return session;
     }
     if s.code == BEGIN {
-        return call_list::begin();
+        return session::begin();
     }
     if s.code == UNKNOWN {
         let unknown = transcript::number_line(b"? ", s.number, line);

@@ -216,9 +216,9 @@ fn read_bytes(s: Script, line: &[u8], run: &[u8], n: usize, out: &mut [u8]) -> S
     let word = script::word(line, b' ', 3);
     let number = read_row(kind, version, word, row_in(s, run, n), out);
     if number == 0 {
-        return s.asks(SHOW, call_list::WROTE, n as u64, 0, 0);
+        return s.asks(SHOW, call_code::WROTE, n as u64, 0, 0);
     }
-    s.asks(SHOW, call_list::NO, number as u64, 0, 0)
+    s.asks(SHOW, call_code::NO, number as u64, 0, 0)
 }
 
 fn read_line(s: Script, line: &[u8], run: &mut [u8], out: &mut [u8]) -> Script {
@@ -237,27 +237,27 @@ fn narrow(n: u64) -> u32 {
 }
 
 // The code of a call that a command is; NOTHING where it is none.
-fn call_code(command: u8) -> u64 {
+fn code_of(command: u8) -> u64 {
     if command == script::OPEN {
-        return call_list::OPEN;
+        return call_code::OPEN;
     }
     if command == script::COVER {
-        return call_list::COVER;
+        return call_code::COVER;
     }
     if command == script::CONTAINS {
-        return call_list::CONTAINS;
+        return call_code::CONTAINS;
     }
     if command == script::COVERS {
-        return call_list::COVERS;
+        return call_code::COVERS;
     }
     if command == script::TAKE {
-        return call_list::TAKE;
+        return call_code::TAKE;
     }
     if command == script::STATEMENT {
-        return call_list::STATEMENT;
+        return call_code::STATEMENT;
     }
     if command == script::WRITE {
-        return call_list::WRITE;
+        return call_code::WRITE;
     }
     if command == script::STATE {
         return STATE;
@@ -290,7 +290,7 @@ fn command_line(s: Script, line: &[u8], run: &mut [u8], out: &mut [u8]) -> Scrip
     }
     let a = script::number(line, b' ', 1);
     let b = script::number(line, b' ', 2);
-    s.asks(call_code(command), a, b, 0, 0)
+    s.asks(code_of(command), a, b, 0, 0)
 }
 
 // Lines that start so are passed over.

@@ -8,9 +8,9 @@ mod window;
 use answers::answer;
 use answers::pairs_open;
 use answers::print;
-use call_list::Session;
 use commands::one_line;
 use rows::Written;
+use session::Session;
 use sheet::State;
 use window::END;
 use window::LINE;
@@ -152,7 +152,7 @@ impl Script {
 
     fn restores(self, len: usize, n: usize) -> Script {
         self.asks(
-            call_list::RESTORE,
+            call_code::RESTORE,
             self.start as u64,
             len as u64,
             self.first as u64,
@@ -173,8 +173,8 @@ impl Script {
     // A row that was written, or why it was not.
     fn shows(self, written: Written) -> Script {
         match written {
-            Written::Length(n) => self.asks(SHOW, call_list::WROTE, n as u64, 0, 0),
-            Written::Refused(number) => self.asks(SHOW, call_list::NO, number as u64, 0, 0),
+            Written::Length(n) => self.asks(SHOW, call_code::WROTE, n as u64, 0, 0),
+            Written::Refused(number) => self.asks(SHOW, call_code::NO, number as u64, 0, 0),
         }
     }
 
@@ -261,7 +261,7 @@ fn replay(
     out: &mut [u8],
     line: &mut [u8],
 ) {
-    let mut session = call_list::begin();
+    let mut session = session::begin();
     let mut s = Script::new();
     let mut w = Window::new();
     let mut turns = u64::MAX;

@@ -1,4 +1,4 @@
--- The line that `replay` prints for the answer to a call: `= `, the answer's text, LF. An answer is three numbers (call_list/specs/Encoding.antt), and what
+-- The line that `replay` prints for the answer to a call: `= `, the answer's text, LF. An answer is six numbers (call_code/specs/Encoding.antt), and what
 -- the call wrote stands at the front of the output.
 -- Assumes nothing.
 use Prim.Native.Nat.{ℕ, _-_}
@@ -9,7 +9,7 @@ use lib.Dec.{eqb}
 use Rattle.line.specs.Line.{LF, decimal}
 use Rattle.cases.specs.Text.{SPACE}
 use Rattle.script.specs.Hex.{hexOf}
-use Rattle.call_list.specs.Encoding.{YES, TRUTH, NUMBER, WROTE, SAID, NO}
+use Rattle.call_code.specs.Encoding.{YES, ADVANCED, TRUTH, NUMBER, WROTE, SAID, NO}
 
 -- `=`
 abbrev pub EQUALS : ℕ
@@ -30,6 +30,10 @@ trueText = 0x74 ∷ 0x72 ∷ 0x75 ∷ 0x65 ∷ []
 abbrev pub falseText : List ℕ
 falseText = 0x66 ∷ 0x61 ∷ 0x6C ∷ 0x73 ∷ 0x65 ∷ []
 
+-- a truth as a number
+abbrev pub truthText : ℕ → List ℕ
+truthText a = cond (eqb a 0) falseText trueText
+
 -- no, and a space
 abbrev pub noText : List ℕ
 noText = 0x6E ∷ 0x6F ∷ SPACE ∷ []
@@ -42,9 +46,10 @@ placeText question place = noText ++ (decimal question ++ (SPACE ∷ decimal pla
 unfoldable pub answerText : (tag a b : ℕ) → (out : List ℕ) → List ℕ
 answerText tag a b out =
     cond (eqb tag YES) yesText
-    (cond (eqb tag TRUTH) (cond (eqb a 0) falseText trueText)
+    (cond (eqb tag ADVANCED) (truthText a)
+    (cond (eqb tag TRUTH) (truthText a)
     (cond (eqb tag NUMBER) (decimal a)
     (cond (eqb tag WROTE) (hexOf (take a out))
     (cond (eqb tag SAID) (take (a - 1) out)
     (cond (eqb tag NO) (noText ++ decimal a)
-    (placeText a b))))))
+    (placeText a b)))))))

@@ -1,10 +1,11 @@
 // The lines that `replay` prints: `= `, a text, LF. Each is written to the front of the output, if there is room for all of it.
-use call_list::NO;
-use call_list::NUMBER;
-use call_list::SAID;
-use call_list::TRUTH;
-use call_list::WROTE;
-use call_list::YES;
+use call_code::ADVANCED;
+use call_code::NO;
+use call_code::NUMBER;
+use call_code::SAID;
+use call_code::TRUTH;
+use call_code::WROTE;
+use call_code::YES;
 use layout::question;
 use rows::Written;
 ghost use mathlib.Core.Path.{_≡_};
@@ -17,7 +18,7 @@ ghost use Rattle.put.specs.Put.{Wrote};
 ghost use Rattle.line.specs.Line.{decimal};
 ghost use Rattle.cases.specs.Text.{SPACE};
 ghost use Rattle.script.specs.Hex.{hexOf};
-ghost use Rattle.transcript.specs.Transcript.{EQUALS, lineOf, placeText, answerText};
+ghost use Rattle.transcript.specs.Transcript.{EQUALS, lineOf, truthText, placeText, answerText};
 
 const EQUALS: u8 = b'=';
 
@@ -110,6 +111,16 @@ fn less_one(n: usize) -> usize
     n - 1
 }
 
+// A truth as a number: 0 is false.
+fn truth_line(a: u64, out: &mut [u8]) -> Written
+    ensures { λ r. ⌜ leaves r (now (out .exit)) ≡ stored (lineOf (truthText a)) (now (out .entry)) ⌝ }
+{
+    if a == 0 {
+        return text_line(b"false", out);
+    }
+    text_line(b"true", out)
+}
+
 // The line of a call's answer: its tag and two numbers. What the call wrote stands at the front of the bytes.
 pub fn answer_line(tag: u64, a: u64, b: u64, bytes: &[u8], out: &mut [u8]) -> Written
     ensures { λ r. ⌜ leaves r (now (out .exit)) ≡ stored (lineOf (answerText tag a b (now (bytes .entry)))) (now (out .entry)) ⌝ }
@@ -118,11 +129,11 @@ pub fn answer_line(tag: u64, a: u64, b: u64, bytes: &[u8], out: &mut [u8]) -> Wr
     if tag == YES {
         return text_line(b"yes", out);
     }
+    if tag == ADVANCED {
+        return truth_line(a, out);
+    }
     if tag == TRUTH {
-        if a == 0 {
-            return text_line(b"false", out);
-        }
-        return text_line(b"true", out);
+        return truth_line(a, out);
     }
     if tag == NUMBER {
         return number_line(b"", a, out);

@@ -10,8 +10,8 @@ use borrow.Author.Needs.{needs}
 use Rattle.layout.specs.RowLaws.{Bytes}
 use Rattle.layout.proofs.At.{typed}
 use Rattle.contact.specs.Contact.{lists}
-use Rattle.call_list.specs.Replay.{handIn}
-use Rattle.call_list.proofs.Store.{whole-behind}
+use Rattle.session.specs.Session.{handIn}
+use Rattle.session.proofs.Store.{whole-behind}
 use Rattle.call_list.proofs.Turns.{rest, ToCome, begin, turn, stop, end, replayed}
 use Rattle.call_list.proofs.replay.Statement.{statement}
 use Rattle.call_list.proofs.replay.Tie as tie
@@ -19,8 +19,8 @@ use Rattle.call_list.proofs.replay.Tie as tie
 abbrev Inv-loop : tie.InvT-loop
 Inv-loop run places calls chains₀ skipped₀ above₀ unacked₀ expired₀ out₀ answers₀ most current₀ i₀ chains skipped above unacked expired out answers current i =
     (i ≤ most)
-    × (5 * most ≤ length calls)
-    × (3 * most ≤ length answers₀)
+    × (6 * most ≤ length calls)
+    × (6 * most ≤ length answers₀)
     × ToCome run places calls most (handIn current₀ run places (lists chains₀ skipped₀ above₀ unacked₀ expired₀) out₀) answers₀
     (rest run places calls most i) i (handIn current run places (lists chains skipped above unacked expired) out) answers
     × (length chains ≡ length chains₀)
@@ -122,7 +122,7 @@ returns c =
     let a = start m .args in
     replayed (a .run .now) (a .places .now) (a .calls .now) (length (a .answers .now)) (m .most-calls .ensures .0) (bytes m)
     (stop (a .run .now) (a .places .now) (a .calls .now) (m .most-calls .result) _ _ (at .loop .i) (in-turn .loop-test .taken) (not-true (call .one .result .known) (c .if1 .taken))
-    (whole-behind (a .calls .now) (5 * at .loop .i)) (call .one .ensures) (at .loop .inv .3))
+    (whole-behind (a .calls .now) (6 * at .loop .i)) (call .one .ensures) (at .loop .inv .3))
 
 mul-put-answer : tie.Need-mul-put-answer Inv-loop μ-loop
 mul-put-answer c =
@@ -161,7 +161,7 @@ loop-again c =
       at .loop .inv .1,
       at .loop .inv .2,
       turn (a .run .now) (a .places .now) (a .calls .now) (m .most-calls .result) _ _ (at .loop .i) (in-turn .loop-test .taken) (not-false (call .one .result .known) (left .if1 .left))
-          (whole-behind (a .calls .now) (5 * at .loop .i)) (call .one .ensures) (stored .put-answer .ensures) (at .loop .inv .3),
+          (whole-behind (a .calls .now) (6 * at .loop .i)) (call .one .ensures) (stored .put-answer .ensures) (at .loop .inv .3),
       same .0,
       same .1,
       same .2,

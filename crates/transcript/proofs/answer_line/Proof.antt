@@ -2,7 +2,7 @@
 -- Assumes nothing.
 use Rattle.transcript.specs.Transcript.{answerText}
 use Rattle.transcript.proofs.Lines.{as-line}
-use Rattle.transcript.proofs.Answers.{of-tag, is-false, is-true, is-row, is-said, is-other}
+use Rattle.transcript.proofs.Answers.{of-tag, is-row, is-said, is-other}
 use borrow.Author.Needs.{needs}
 use Rattle.transcript.proofs.answer_line.Statement.{statement}
 use Rattle.transcript.proofs.answer_line.Tie as tie
@@ -24,11 +24,8 @@ returns c =
     let s = h .before .before .before .args in
     as-line (s .out .now) (of-tag (s .a) (s .b) (s .bytes .now) (h .if1 .taken)) (t .text-line .ensures)
 
-slice-aggregate-text-line-2 : tie.Need-slice-aggregate-text-line-2
-slice-aggregate-text-line-2 c = search needs
-
-text-line-requires-2 : tie.Need-text-line-requires-2
-text-line-requires-2 c κs = search needs
+truth-line-requires : tie.Need-truth-line-requires
+truth-line-requires c κs = search needs
 
 same-length-2 : tie.Need-same-length-2
 same-length-2 c = search needs
@@ -37,15 +34,12 @@ returns-2 : tie.Need-returns-2
 unfolding answerText
 returns-2 c =
     let t = c .before .before in
-    let h = t .before .before .before in
-    let s = h .before .before .before .before .before .args in
-    as-line (s .out .now) (is-false (s .a) (s .b) (s .bytes .now) (h .before .if2 .taken) (h .if3 .taken)) (t .text-line2 .ensures)
+    let h = t .before .before in
+    let s = h .before .before .before .before .args in
+    as-line (s .out .now) (of-tag (s .a) (s .b) (s .bytes .now) (h .if2 .taken)) (t .truth-line .ensures)
 
-slice-aggregate-text-line-3 : tie.Need-slice-aggregate-text-line-3
-slice-aggregate-text-line-3 c = search needs
-
-text-line-requires-3 : tie.Need-text-line-requires-3
-text-line-requires-3 c κs = search needs
+truth-line-requires-2 : tie.Need-truth-line-requires-2
+truth-line-requires-2 c κs = search needs
 
 same-length-3 : tie.Need-same-length-3
 same-length-3 c = search needs
@@ -54,9 +48,9 @@ returns-3 : tie.Need-returns-3
 unfolding answerText
 returns-3 c =
     let t = c .before .before in
-    let h = t .before .before .before in
+    let h = t .before .before in
     let s = h .before .before .before .before .before .args in
-    as-line (s .out .now) (is-true (s .a) (s .b) (s .bytes .now) (h .before .if2 .taken) (h .if3 .left)) (t .text-line3 .ensures)
+    as-line (s .out .now) (of-tag (s .a) (s .b) (s .bytes .now) (h .if3 .taken)) (t .truth-line2 .ensures)
 
 slice-aggregate-number-line : tie.Need-slice-aggregate-number-line
 slice-aggregate-number-line c = search needs
@@ -72,7 +66,7 @@ unfolding answerText
 returns-4 c =
     let t = c .before .before in
     let h = t .before .before .before in
-    let s = h .before .before .before .before .before .args in
+    let s = h .before .before .before .before .before .before .args in
     as-line (s .out .now) (of-tag (s .a) (s .b) (s .bytes .now) (h .if4 .taken)) (t .number-line .ensures)
 
 first-requires : tie.Need-first-requires
@@ -89,7 +83,7 @@ unfolding answerText
 returns-5 c =
     let t = c .before .before in
     let f = t .before .before in
-    let s = f .before .before .before .before .before .before .before .args in
+    let s = f .before .before .before .before .before .before .before .before .args in
     as-line (s .out .now) (is-row (s .a) (s .b) (s .bytes .now) (f .before .if5 .taken) (f .first .ensures)) (t .hex-line .ensures)
 
 less-one-requires : tie.Need-less-one-requires
@@ -98,8 +92,8 @@ less-one-requires c κs = search needs
 first-requires-2 : tie.Need-first-requires-2
 first-requires-2 c κs = search needs
 
-text-line-requires-4 : tie.Need-text-line-requires-4
-text-line-requires-4 c κs = search needs
+text-line-requires-2 : tie.Need-text-line-requires-2
+text-line-requires-2 c κs = search needs
 
 same-length-6 : tie.Need-same-length-6
 same-length-6 c = search needs
@@ -110,8 +104,8 @@ returns-6 c =
     let t = c .before .before in
     let f = t .before .before in
     let o = f .before in
-    let s = o .before .before .before .before .before .before .before .before .args in
-    as-line (s .out .now) (is-said (s .a) (s .b) (s .bytes .now) (o .before .if6 .taken) (o .less-one .ensures) (f .first2 .ensures)) (t .text-line4 .ensures)
+    let s = o .before .before .before .before .before .before .before .before .before .args in
+    as-line (s .out .now) (is-said (s .a) (s .b) (s .bytes .now) (o .before .if6 .taken) (o .less-one .ensures) (f .first2 .ensures)) (t .text-line2 .ensures)
 
 slice-aggregate-number-line-2 : tie.Need-slice-aggregate-number-line-2
 slice-aggregate-number-line-2 c = search needs
@@ -127,7 +121,7 @@ unfolding answerText
 returns-7 c =
     let t = c .before .before in
     let h = t .before .before .before in
-    let s = h .before .before .before .before .before .before .before .before .args in
+    let s = h .before .before .before .before .before .before .before .before .before .args in
     as-line (s .out .now) (of-tag (s .a) (s .b) (s .bytes .now) (h .if7 .taken)) (t .number-line2 .ensures)
 
 place-line-requires : tie.Need-place-line-requires
@@ -140,14 +134,17 @@ returns-8 : tie.Need-returns-8
 unfolding answerText
 returns-8 c =
     let t = c .before .before in
-    let g = t .before .before in
-    let f = g .before in
-    let e = f .before in
-    let d = e .before in
-    let b = d .before in
-    let a = b .before in
-    let s = a .before .before .before .args in
-    as-line (s .out .now) (is-other (s .a) (s .b) (s .bytes .now) (a .if1 .left) (b .if2 .left) (d .if4 .left) (e .if5 .left) (f .if6 .left) (g .if7 .left)) (t .place-line .ensures)
+    let e7 = t .before .before in
+    let e6 = e7 .before in
+    let e5 = e6 .before in
+    let e4 = e5 .before in
+    let e3 = e4 .before in
+    let e2 = e3 .before in
+    let e1 = e2 .before in
+    let s = e1 .before .before .before .args in
+    as-line (s .out .now)
+    (is-other (s .a) (s .b) (s .bytes .now) (e1 .if1 .left) (e2 .if2 .left) (e3 .if3 .left) (e4 .if4 .left) (e5 .if5 .left) (e6 .if6 .left) (e7 .if7 .left))
+    (t .place-line .ensures)
 
 pub answer-line-spec : {M : Type 1} → statement M
 answer-line-spec =
@@ -157,12 +154,10 @@ answer-line-spec =
     text-line-requires
     same-length
     returns
-    slice-aggregate-text-line-2
-    text-line-requires-2
+    truth-line-requires
     same-length-2
     returns-2
-    slice-aggregate-text-line-3
-    text-line-requires-3
+    truth-line-requires-2
     same-length-3
     returns-3
     slice-aggregate-number-line
@@ -175,7 +170,7 @@ answer-line-spec =
     returns-5
     less-one-requires
     first-requires-2
-    text-line-requires-4
+    text-line-requires-2
     same-length-6
     returns-6
     slice-aggregate-number-line-2

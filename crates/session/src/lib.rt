@@ -1,0 +1,290 @@
+// What stands between calls, a session, and one encoded call made of it in lent memory. A store is a part of the lent run and of the lent places, six numbers
+// for each entry.
+use call_code::Decoded;
+use call_code::NO_AT;
+use call_code::Numbers;
+use call_code::YES;
+use calls::RestoreLeft;
+use card::Card;
+use contact::Contact;
+use contact::SendChain;
+use dispatch::Call;
+use ledger::Mark;
+use restore::Restored;
+use rows::PairingRole;
+use rows::Verification;
+use sheet::PLACE;
+use store::Entry;
+use table::ENTRIES;
+ghost use mathlib.Core.Path.{_≡_};
+ghost use mathlib.Core.List.{List};
+ghost use Prim.Native.Nat.{ℕ, _*_};
+ghost use lib.ListN.{drop};
+ghost use lib.ListN as list;
+ghost use Rattle.contact.specs.Contact.{Lists, listsBefore, listsAfter, zeroContact};
+ghost use Rattle.ledger.specs.Step.{step};
+ghost use Rattle.ledger.specs.Proved.{HIGHEST};
+ghost use Rattle.dispatch.specs.Dispatch.{callOf};
+ghost use Rattle.calls.specs.Calls.{leftBy};
+ghost use Rattle.call_code.specs.Encoding.{runAt, entriesAt, callIn};
+ghost use Rattle.call_code.specs.Coded.{restoreIn};
+ghost use Rattle.session.specs.Session.{begun, handIn, nextOf, unknownOf, LeftAs, Ran};
+
+// Between calls: the mark, the opened fields, and where the store of the last granted restore stands: len bytes of the lent run from start on, and n
+// entries of the lent places from the first-th on.
+pub struct Session {
+    pub contact: Contact,
+    pub mark: Mark,
+    pub start: usize,
+    pub len: usize,
+    pub first: usize,
+    pub n: usize,
+}
+
+// What a call leaves. Where the numbers are no call, it is not known, and has no answer.
+pub struct CallLeft {
+    pub session: Session,
+    pub known: bool,
+    pub answer: Numbers,
+}
+
+// ---- before the first call
+
+fn no_contact() -> Contact
+    ensures { λ r. ⌜ r ≡ zeroContact ⌝ }
+{
+    let peer = Card::zero();
+    Contact {
+        resume_index: 0,
+        chains: 0,
+        skipped: 0,
+        above: 0,
+        unacked: 0,
+        expired: 0,
+        sent_msgno: 0,
+        peer_acked: 0,
+        peer_read: 0,
+        read_marked: 0,
+        contiguous: 0,
+        send: SendChain::Absent,
+        role: PairingRole::A,
+        verification: Verification::Unverified,
+        pending: false,
+        peer,
+        pair_id: [0; 16],
+        th: [0; 48],
+        nonce_b: [0; 16],
+        door_a_to_b: [0; 32],
+        door_b_to_a: [0; 32],
+        route_key: [0; 32],
+        chain_key: [0; 32],
+        pending_chain_key: [0; 32],
+        pending_msg_seed: [0; 32],
+        send_key: [0; 32],
+    }
+}
+
+// Nothing is restored.
+pub fn begin() -> Session
+    ensures { λ r. ⌜ r ≡ begun ⌝ }
+{
+    let contact = no_contact();
+    Session {
+        contact,
+        mark: Mark::Fresh,
+        start: 0,
+        len: 0,
+        first: 0,
+        n: 0,
+    }
+}
+
+// ---- a store in the lent run and places
+
+fn run_at(run: &[u8], start: usize, len: usize) -> &[u8]
+    ensures { λ r. ⌜ now r ≡ runAt start len (now (run .entry)) ⌝ }
+{
+    if run.len() <= start {
+        return &run[..0];
+    }
+    if run.len() - start <= len {
+        return &run[start..];
+    }
+    let end = start + len;
+    &run[start..end]
+}
+
+fn places_from(places: &[u64], first: usize) -> &[u64]
+    ensures { λ r. ⌜ now r ≡ drop (6 * first) (now (places .entry)) ⌝ }
+{
+    if places.len() / PLACE < first {
+        return &places[..0];
+    }
+    let at = PLACE * first;
+    &places[at..]
+}
+
+fn table_at(places: &[u64], first: usize, n: usize) -> [Entry; ENTRIES]
+    ensures { λ r. ⌜ list.take n r ≡ entriesAt first n (now (places .entry)) ⌝ }
+{
+    let its = places_from(places, first);
+    table::table_of(its, n)
+}
+
+// ---- the calls
+
+// The session with another mark and other opened fields, and an answer.
+fn next(session: Session, mark: Mark, contact: Contact, answer: Numbers) -> CallLeft
+    ensures { λ r. ⌜ r ≡ nextOf session mark contact answer ⌝ }
+{
+    let its = Session {
+        contact,
+        mark,
+        start: session.start,
+        len: session.len,
+        first: session.first,
+        n: session.n,
+    };
+    CallLeft {
+        session: its,
+        known: true,
+        answer,
+    }
+}
+
+// A granted restore leaves its own store, a refused one the store before.
+fn restored(
+    session: Session,
+    left: RestoreLeft,
+    start: usize,
+    len: usize,
+    first: usize,
+    n: usize,
+) -> CallLeft
+    ensures { λ r. ⌜ ((run places : List ℕ) (l : Lists) (out : List ℕ) → LeftAs (leftBy (left .answer) (left .mark) (runAt start len run) (entriesAt first n places) (handIn session run places l out))
+        (handIn (r .session) run places l out) r) ⌝ }
+{
+    let contact = session.contact;
+    let mark = left.mark;
+    let answer = left.answer;
+    let Restored::Refused(q, i) = answer else {
+        let its = Session {
+            contact,
+            mark,
+            start,
+            len,
+            first,
+            n,
+        };
+        return CallLeft {
+            session: its,
+            known: true,
+            answer: call_code::tagged(YES, 0, 0),
+        };
+    };
+    let refused = call_code::tagged(NO_AT, q as u64, i as u64);
+    next(session, mark, contact, refused)
+}
+
+fn restore(session: Session, run: &[u8], places: &[u64], six: &[u64]) -> CallLeft
+    ensures { λ r. ⌜ ((l : Lists) (out : List ℕ) → LeftAs (step HIGHEST (restoreIn (now (run .entry)) (now (places .entry)) (now (six .entry))) (handIn session (now (run .entry)) (now (places .entry)) l out))
+        (handIn (r .session) (now (run .entry)) (now (places .entry)) l out) r) ⌝ }
+{
+    let start = table::number_at(six, 1) as usize;
+    let len = table::number_at(six, 2) as usize;
+    let first = table::number_at(six, 3) as usize;
+    let n = table::number_at(six, 4) as usize;
+    let mark = session.mark;
+    let left = calls_table::restore(run_at(run, start, len), table_at(places, first, n), n, mark);
+    restored(session, left, start, len, first, n)
+}
+
+// Any call but restore, on the session's store.
+fn step(
+    session: Session,
+    run: &[u8],
+    places: &[u64],
+    call: Call,
+    chains: &mut [u8],
+    skipped: &mut [u8],
+    above: &mut [u32],
+    unacked: &mut [u32],
+    expired: &mut [u32],
+    out: &mut [u8],
+) -> CallLeft
+    ensures { λ r. ⌜ LeftAs (step HIGHEST (callOf call) (handIn session (now (run .entry)) (now (places .entry)) (listsBefore chains skipped above unacked expired) (now (out .entry))))
+        (handIn (r .session) (now (run .entry)) (now (places .entry)) (listsAfter chains skipped above unacked expired) (now (out .exit))) r ⌝ }
+{
+    let mark = session.mark;
+    let contact = session.contact;
+    let left = calls_table::step(
+        run_at(run, session.start, session.len),
+        table_at(places, session.first, session.n),
+        session.n,
+        call,
+        mark,
+        contact,
+        chains,
+        skipped,
+        above,
+        unacked,
+        expired,
+        out,
+    );
+    let mark_left = left.mark;
+    let contact_left = left.contact;
+    let answer = left.answer;
+    next(
+        session,
+        mark_left,
+        contact_left,
+        call_code::numbers_of(answer),
+    )
+}
+
+// The session as it is, where numbers are no call.
+fn unknown(session: Session) -> CallLeft
+    ensures { λ r. ⌜ r ≡ unknownOf session ⌝ }
+{
+    CallLeft {
+        session,
+        known: false,
+        answer: call_code::tagged(YES, 0, 0),
+    }
+}
+
+// The call that six numbers say, made.
+pub fn one(
+    session: Session,
+    run: &[u8],
+    places: &[u64],
+    six: &[u64],
+    chains: &mut [u8],
+    skipped: &mut [u8],
+    above: &mut [u32],
+    unacked: &mut [u32],
+    expired: &mut [u32],
+    out: &mut [u8],
+) -> CallLeft
+    ensures { λ r. ⌜ Ran (callIn (now (run .entry)) (now (places .entry)) (now (six .entry)))
+        (handIn session (now (run .entry)) (now (places .entry)) (listsBefore chains skipped above unacked expired) (now (out .entry)))
+        (handIn (r .session) (now (run .entry)) (now (places .entry)) (listsAfter chains skipped above unacked expired) (now (out .exit))) r ⌝ }
+{
+    let decoded = call_code::decode(six);
+    match decoded {
+        Decoded::Restore => restore(session, run, places, six),
+        Decoded::Made(call) => step(
+            session,
+            run,
+            places,
+            call,
+            chains,
+            skipped,
+            above,
+            unacked,
+            expired,
+            out,
+        ),
+        Decoded::Nothing => unknown(session),
+    }
+}
