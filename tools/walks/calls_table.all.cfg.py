@@ -1,4 +1,8 @@
 crate = "calls_table"
-lends = {"table": ("n", "as-long n table (in-table .1 .0 .1) is-count")}
-ends = "is-r"
-uses = ["use Rattle.table.proofs.Counts.{as-long}", "use Rattle.table.proofs.Table.{of-array, first-of, lends-table, table-back}"]
+FILLED = "(record { counted = is-count .0; laid = is-count .1 })"
+lends = {"table": ("count", f"as-many {FILLED}")}
+ends = f"(rw (all-lent {FILLED}) at is-r)"
+uses = [
+    "use Rattle.table.proofs.Filled.{as-many, all-lent}",
+    "use Rattle.table.proofs.Table.{of-array, repeated, in-cells, whole-of, lends-whole, whole-back, first-of, lends-first, table-back}",
+]

@@ -19,6 +19,6 @@ ends = (
 uses = [
     "use mathlib.Core.List.{map}",
     "use Rattle.store.specs.Store.{noEntry}",
-    "use Rattle.lent_again.specs.Overlaid.{idOf}",
-    "use Rattle.lent_again.proofs.Turns.{Placed, Laid, none-placed, none-laid, placed-next, laid-there, laid-of, placed-all, laid-all, inside}",
+    "use Rattle.lent_again.specs.Ids.{idOf}",
+    "use Rattle.table.proofs.Turns.{Placed, Laid, none-placed, none-laid, placed-next, laid-there, laid-of, placed-all, laid-all, inside}",
 ]

@@ -9,6 +9,6 @@ uses = [
     "use Prim.Native.Nat.{min}",
     "use mathlib.Core.List.{map}",
     "use lib.ListN.{length-map}",
-    "use Rattle.lent_again.specs.Overlaid.{idOf}",
-    "use Rattle.lent_again.proofs.Turns.{all-there, laid-whole}",
+    "use Rattle.lent_again.specs.Ids.{idOf}",
+    "use Rattle.table.proofs.Turns.{all-there, laid-whole}",
 ]

@@ -69,12 +69,13 @@ RELENDING = [
 ]
 
 
-# ... and those where a table's first elements are lent
+# ... and those where a table is lent
 TABLES = [
-    ("mir.Syntax", "erased"),
+    ("lib.ListN", "replicate length-replicate"),
     ("base.Fml", "fat"),
     ("types.Kit", "rewrite"),
-    ("denote.Array", "Array"),
+    ("types.Part", "rep"),
+    ("denote.Array", "Array arrayVal"),
 ]
 
 
@@ -383,22 +384,62 @@ class Again(Lent):
         return f"{super().loan} {self.lender.now}"
 
 
-class First(Lent):
-    """The first elements of an array, a local, that are lent as `&` for one call, at a lifetime that is made for the call."""
+class Table(Value):
+    """A local array that is made of one value, and holds it n times until it is filled."""
 
-    def __init__(self, lender, count, local):
-        Value.__init__(self, lender.name, mir.Slice(lender.type.element, False, 0))
-        self.lender, self.count, self.local, self.array = lender, count, "l" + subscript(local), lender.type
-        self.lifetime_made, self.name_made = f"ν-{lender.name}", f"γ-{lender.name}"
-        self.name = f"(first-of {lender.name} {count} {self.local} {self.name_made})"
+    def __init__(self, label, type_, value_of):
+        self.filled = Value(label, type_)
+        self.value_of = value_of
+        element = held(type_.element)
+        proof = f"(repeated {row(type_.element)} {type_.count} {value_of.name} ({element} .val {value_of.name}) {value_of.proof})"
+        super().__init__(f"(replicate {type_.count} {value_of.name})", type_, proof)
+        self.long = f"(length-replicate {type_.count} {value_of.name})"
+
+
+class OfTable(Lent):
+    """Elements of an array, a local, that are lent for one call, at a lifetime that is made for the call."""
+
+    def __init__(self, lender, label, place, mutable):
+        Value.__init__(self, label, mir.Slice(lender.type.element, mutable, 0))
+        self.lender, self.place, self.local, self.array = lender, place, "l" + subscript(place), lender.type
+        what = "whole" if mutable else "first"
+        self.lifetime_made, self.name_made = f"ν-{what}", f"γ-{what}"
         self.lft, self.share = f"({self.lifetime_made} ∷ [])", "fullShare"
-        self.token, self.owned, self.dead, self.kept = (f"{what} first {lender.name}" for what in ("token", "own", "dead", "kept"))
-        self.cell, self.dies = f"_{local}", f"dies {local}"
-        self.long = f"({lender.proof} .1 .0 .1)"
+        self.token, self.owned, self.dead, self.kept = (f"{part} {what} {label}" for part in ("token", "own", "dead", "kept"))
+        self.cells, self.cell, self.dies = f"cells {place}", f"_{place}", f"dies {place}"
+        self.room = f"{self.element} (named 0) {self.array.count} (lit< tt, lit< tt) {self.lifetime_made} {lender.name}"
 
     @property
     def made(self):
         return [*super().made, (self.local, "ℕ")]
+
+
+class Whole(OfTable):
+    """All its elements, as `&mut`."""
+
+    def __init__(self, lender, place):
+        super().__init__(lender, lender.filled.name, place, True)
+        self.filled, self.named = lender.filled, lender.filled.name
+        self.name = f"(whole-of {lender.name} {self.local} {self.name_made})"
+        self.lends = f"lends-whole ! tt {self.room} {self.local} {lender.long}"
+
+    @property
+    def label(self):
+        return self.named
+
+
+class First(OfTable):
+    """Its first elements, as `&`, once it is filled."""
+
+    def __init__(self, lender, count, place):
+        super().__init__(lender, lender.name, place, False)
+        self.count, self.long = count, f"long-{lender.name}"
+        self.name = f"(first-of {lender.name} {count} {self.local} {self.name_made})"
+        self.lends = f"lends-first ! tt {self.room} {count} {self.local} {self.long}"
+
+    @property
+    def made(self):
+        return [*super().made, (self.lender.name, denoted(self.array))]
 
 
 class Callee:

@@ -1,31 +1,33 @@
-// The calls of document 01 for a program, which has a table of entries by value: each lends the table's first n entries and makes the call.
+// The calls of document 01 for a program, which has its entries as places: each fills a table, lends its first entries and makes the call.
 // A count above the table's length counts as that length.
 use calls::RestoreLeft;
 use contact::Contact;
 use dispatch::Call;
 use ledger::Mark;
 use opened::Left;
-use store::Entry;
 use table::ENTRIES;
 ghost use mathlib.Core.Path.{_≡_};
-ghost use lib.ListN as list;
+ghost use Prim.Native.Nat.{min};
 ghost use Rattle.contact.specs.Contact.{listsBefore, listsAfter};
 ghost use Rattle.ledger.specs.Step.{step};
 ghost use Rattle.ledger.specs.Proved.{HIGHEST};
 ghost use Rattle.dispatch.specs.Dispatch.{callOf, handOf, leftOf};
 ghost use Rattle.calls.specs.Calls.{RestoreSteps};
+ghost use Rattle.table.specs.Table.{ENTRIES, entriesFrom};
 
-pub fn restore(run: &[u8], table: [Entry; ENTRIES], n: usize, mark: Mark) -> RestoreLeft
-    ensures { λ r. ⌜ RestoreSteps mark (now (run .entry)) (list.take n table) r ⌝ }
+pub fn restore(run: &[u8], places: &[u64], n: usize, mark: Mark) -> RestoreLeft
+    ensures { λ r. ⌜ RestoreSteps mark (now (run .entry)) (entriesFrom (min n ENTRIES) (now (places .entry))) r ⌝ }
 {
-    let count = table::held(n);
+    let blank = table::no_entry();
+    let mut table = [blank; ENTRIES];
+    let count = table::fill(places, n, &mut table[..]);
     calls::restore(run, &table[..count], mark)
 }
 
 // Any call but restore.
 pub fn step(
     run: &[u8],
-    table: [Entry; ENTRIES],
+    places: &[u64],
     n: usize,
     call: Call,
     mark: Mark,
@@ -37,10 +39,12 @@ pub fn step(
     expired: &mut [u32],
     out: &mut [u8],
 ) -> Left
-    ensures { λ r. ⌜ (let h = handOf mark (now (run .entry)) (list.take n table) contact (listsBefore chains skipped above unacked expired) (now (out .entry)) in
+    ensures { λ r. ⌜ (let h = handOf mark (now (run .entry)) (entriesFrom (min n ENTRIES) (now (places .entry))) contact (listsBefore chains skipped above unacked expired) (now (out .entry)) in
         leftOf r h (listsAfter chains skipped above unacked expired) (now (out .exit)) ≡ step HIGHEST (callOf call) h) ⌝ }
 {
-    let count = table::held(n);
+    let blank = table::no_entry();
+    let mut table = [blank; ENTRIES];
+    let count = table::fill(places, n, &mut table[..]);
     calls::step(
         run,
         &table[..count],

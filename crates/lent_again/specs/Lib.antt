@@ -1,1 +1,1 @@
-pub mod Overlaid
+pub mod Ids

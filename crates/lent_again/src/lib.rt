@@ -1,4 +1,4 @@
-// The shapes of loops that lend `&mut` slices again in each turn, as tools/walks writes their proofs, until the product has functions of these shapes.
+// A loop that lends two `&mut` slices again in each turn, as tools/walks writes its proof, until the product has one. `table::fill_from` lends one.
 use store::Entry;
 ghost use mathlib.Core.Path.{_≡_};
 ghost use mathlib.Core.List.{map};
@@ -6,40 +6,8 @@ ghost use Prim.Native.Nat.{_≤_, _<_, min};
 ghost use lib.ListN.{length, set, take};
 ghost use Rattle.store.specs.Store.{entryAt};
 ghost use Rattle.entries.specs.Next.{nextIn};
-ghost use Rattle.lent_again.specs.Overlaid.{overlaid, idOf};
-
-// ---- one slice is lent again
-
-fn copy_at(entries: &[Entry], copy: &mut [Entry], i: usize, place: usize) -> usize
-    requires { ⌜ i < length (now entries) ⌝ }
-    ensures { λ r. ⌜ (r ≡ nextIn (now (copy .entry)) place) × (now (copy .exit) ≡ set (now (copy .entry)) place (entryAt (now (entries .entry)) i)) ⌝ }
-{
-    let e = entries::entry_at(entries, i);
-    entries::set_entry(copy, place, e)
-}
-
-fn copy_from(entries: &[Entry], copy: &mut [Entry], n: usize) -> usize
-    requires { ⌜ n ≤ length (now entries) ⌝ }
-    ensures { λ r. ⌜ (r ≡ min n (length (now (copy .entry)))) × (now (copy .exit) ≡ overlaid (now (copy .entry)) (take n (now (entries .entry)))) ⌝ }
-{
-    let mut i = 0;
-    let mut place = 0;
-    while i < n {
-        place = copy_at(entries, copy, i, place);
-        i = i + 1;
-    }
-    place
-}
-
-// Copies the entries one by one, as many as there is room for, and answers how many.
-pub fn copy_entries(entries: &[Entry], copy: &mut [Entry]) -> usize
-    ensures { λ r. ⌜ (r ≡ min (length (now (entries .entry))) (length (now (copy .entry)))) × (now (copy .exit) ≡ overlaid (now (copy .entry)) (now (entries .entry))) ⌝ }
-{
-    let n = entries::entry_count(entries);
-    copy_from(entries, copy, n)
-}
-
-// ---- two slices are lent again
+ghost use Rattle.table.specs.Table.{overlaid};
+ghost use Rattle.lent_again.specs.Ids.{idOf};
 
 // Stores the entry's id, and answers the entry; an index past the end changes nothing.
 fn put_id(e: Entry, ids: &mut [u64], i: usize) -> Entry

@@ -1,16 +1,15 @@
--- The entries that a table is filled with are those that the text is written from.
+-- The entries that restore is asked of are those that the text is written from.
 -- Assumes nothing.
-use Prim.Native.Nat.{ℕ, zero, suc, _+_, _*_, _≤_}
+use Prim.Native.Nat.{ℕ, zero, suc, _+_, _*_, _≤_, min}
 use mathlib.Core.List.{List, _∷_}
 use mathlib.Core.Path.{_≡_, refl, sym, ap, ap₂, _∙_}
 use native.Mathlib.Omega.{arith}
 use native.Mathlib.Nat.{add-zero, min-eq-left}
-use lib.ListN.{take, drop}
+use lib.ListN.{drop}
 use lib.Seq.{drop-drop, getD-drop}
 use Rattle.store.specs.declared.Entry.{Entry}
 use Rattle.table.specs.Table as table
-use Rattle.table.specs.Table.{ENTRIES, Filled, tableOf}
-use Rattle.table.proofs.Filled.{firsts}
+use Rattle.table.specs.Table.{ENTRIES}
 use Rattle.text.specs.Lines as text
 
 same-entry : (places : List ℕ) (i : ℕ) → text.entryFrom places i ≡ table.entryFrom (drop (6 * i) places)
@@ -25,6 +24,5 @@ same-entries places i (suc n) =
     ap₂ (λ (e : Entry) (es : List Entry). e ∷ es) (same-entry places i)
     (same-entries places (suc i) n ∙ ap (λ (k : ℕ). table.entriesFrom n (drop k places)) (sym next) ∙ ap (table.entriesFrom n) (sym (drop-drop 6 (6 * i) places)))
 
-pub first-entries : (places : List ℕ) (n : ℕ) → n ≤ ENTRIES → {t : List Entry} → Filled n places t → take n t ≡ text.entriesOf places n
-first-entries places n few filled =
-    ap (take n) (filled .is ∙ ap (λ (m : ℕ). tableOf m places) (min-eq-left few)) ∙ firsts n places ∙ sym (same-entries places 0 n)
+pub its-entries : (places : List ℕ) (n : ℕ) → n ≤ ENTRIES → table.entriesFrom (min n ENTRIES) places ≡ text.entriesOf places n
+its-entries places n few = ap (λ (m : ℕ). table.entriesFrom m places) (min-eq-left few) ∙ sym (same-entries places 0 n)

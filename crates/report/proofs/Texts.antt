@@ -16,12 +16,12 @@ use Rattle.text.specs.Text.{lastLine, textOf, «LETTER_R», «LETTER_X»}
 use Rattle.sheet.specs.declared.Answer.{Answer}
 use Rattle.sheet.specs.declared.Answer.the-variants as answer
 use Rattle.sheet.specs.Machine.{bytesIn, linesIn}
-use Rattle.table.specs.Table.{ENTRIES, Filled}
+use Rattle.table.specs.Table.{ENTRIES, entriesFrom}
 use Rattle.text.specs.Lines.{entriesOf, linesFrom, countFrom, «TEXT_BYTES»}
 use Rattle.text.proofs.Text.{text-granted, text-refused}
 use Rattle.report.specs.Report as report
 use Rattle.report.specs.Report.{readText, reportOf}
-use Rattle.report.proofs.Entries.{first-entries}
+use Rattle.report.proofs.Entries.{its-entries}
 
 module _ (run : List ℕ) (es : List Entry) where
   granted-text : {next slot : ℕ} → answered (restore (storeOf run es)) ≡ Granted next slot → textOf run es ≡ linesFrom run es es ++ lastLine (countFrom run es) es slot
@@ -43,10 +43,10 @@ module _ (run : List ℕ) (es : List Entry) where
           let place-is : p ≡ place = cc in
           text-refused run es r ∙ (λ i. «LETTER_R» ∷ fieldsText (number-is i ∷ place-is i ∷ []))
 
--- ---- what restore answered of the first n entries of a table
-module _ (run places : List ℕ) (n : ℕ) (few : n ≤ ENTRIES) {t : List Entry} {r : Restored} (filled : Filled n places t) (is : r ≡ answered (restore (storeOf run (take n t)))) where
+-- ---- what restore answered of the entries of n lines
+module _ (run places : List ℕ) (n : ℕ) (few : n ≤ ENTRIES) {r : Restored} (is : r ≡ answered (restore (storeOf run (entriesFrom (min n ENTRIES) places)))) where
   restored : r ≡ answered (restore (storeOf run (entriesOf places n)))
-  restored = is ∙ ap (λ (es : List Entry). answered (restore (storeOf run es))) (first-entries places n few filled)
+  restored = is ∙ ap (λ (es : List Entry). answered (restore (storeOf run es))) (its-entries places n few)
 
   pub table-granted : {next slot : ℕ} → r ≡ Granted next slot
       → textOf run (entriesOf places n) ≡ linesFrom run (entriesOf places n) (entriesOf places n) ++ lastLine (countFrom run (entriesOf places n)) (entriesOf places n) slot

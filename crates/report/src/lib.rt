@@ -43,8 +43,7 @@ fn report_store(run: &[u8], places: &[u64], n: usize, out: &mut [u8]) -> Written
     ensures { λ r. ⌜ leaves r (now (out .exit)) ≡ stored (textOf (now (run .entry)) (entriesOf (now (places .entry)) n)) (now (out .entry)) ⌝ }
     ensures { λ r. ⌜ length (textOf (now (run .entry)) (entriesOf (now (places .entry)) n)) ≤ «TEXT_BYTES» ⌝ }
 {
-    let table = table::table_of(places, n);
-    let answer = table::restore(run, table, n);
+    let answer = table::restore(run, places, n);
     match answer {
         Restored::Granted(_, next_slot) => text::write_granted(run, places, n, next_slot, out),
         Restored::Refused(number, place) => {

@@ -1,17 +1,13 @@
--- A store within the lent run and places: its parts, and the table that holds its entries.
+-- A store within the lent run and places: its parts, and its entries.
 -- Assumes nothing.
-use Prim.Native.Nat.{ℕ, zero, suc, _+_, _-_, _*_, _/_, _≤_, _<_, min}
-use mathlib.Core.List.{List, [], append-nil}
-use mathlib.Core.Path.{_≡_, refl, sym, ap, _∙_}
-use native.Mathlib.Decide.{decLe}
-use native.Mathlib.Nat.{min-eq-left, min-eq-right}
+use Prim.Native.Nat.{ℕ, _+_, _-_, _*_, _/_, _≤_, _<_, min}
+use mathlib.Core.List.{List, []}
+use mathlib.Core.Path.{_≡_, sym, ap, _∙_}
 use native.Mathlib.Omega.{arith}
-use lib.ListN.{length, take, drop, replicate, length-drop, drop-of-length-le}
-use lib.Seq.{take-at, take-all, take-nil}
-use Rattle.store.specs.declared.Entry.{Entry}
-use Rattle.store.specs.Store.{noEntry}
-use Rattle.table.specs.Table as tables
-use Rattle.table.specs.Table.{ENTRIES, entriesFrom, tableOf, Filled}
+use lib.ListN.{length, take, drop, length-drop, drop-of-length-le}
+use lib.Seq.{take-all, take-nil}
+use Rattle.table.specs.Table.{ENTRIES, entriesFrom}
+use Rattle.call_code.specs.Encoding.{entriesAt}
 
 -- ---- a part of a list
 module _ {X : Type 0} (l : List X) where
@@ -40,23 +36,6 @@ module _ {X : Type 0} (l : List X) where
   pub no-place : (first : ℕ) → length l / 6 < first → [] ≡ drop (6 * first) l
   no-place first h = let out : length l ≤ 6 * first = omega arith in sym (drop-of-length-le l out)
 
--- ---- the entries in a table
-long : (lines : ℕ) (places : List ℕ) → length (entriesFrom lines places) ≡ lines
-unfolding tables.entriesFrom
-long zero places = refl
-long (suc lines) places = ap suc (long lines (drop 6 places))
-
--- all lines are held
-few : (n : ℕ) (places : List ℕ) → take n (tableOf n places) ≡ entriesFrom n places
-few n places = take-at (entriesFrom n places) (replicate (ENTRIES - n) noEntry) n (long n places)
-
--- as many as the table has
-many : (n : ℕ) (places : List ℕ) → ENTRIES ≤ n → take n (tableOf ENTRIES places) ≡ entriesFrom ENTRIES places
-many n places h = ap (take n) (append-nil (entriesFrom ENTRIES places)) ∙ take-all n (entriesFrom ENTRIES places) (omega (arith, h, long ENTRIES places))
-
-pub first-entries : (n : ℕ) (places : List ℕ) {table : List Entry} → Filled n places table → take n table ≡ entriesFrom (min n ENTRIES) places
-first-entries n places f = ap (take n) (f .is) ∙ go (decLe n ENTRIES)
-  where
-    go : Dec (n ≤ ENTRIES) → take n (tableOf (min n ENTRIES) places) ≡ entriesFrom (min n ENTRIES) places
-    go (yes h) = rw (min-eq-left h) (few n places)
-    go (no h) = let above : ENTRIES ≤ n = omega arith in rw (min-eq-right above) (many n places above)
+-- ---- the entries of so many places
+pub its-entries : (first n : ℕ) (places : List ℕ) {its : List ℕ} → its ≡ drop (6 * first) places → entriesFrom (min n ENTRIES) its ≡ entriesAt first n places
+its-entries first n places e = ap (entriesFrom (min n ENTRIES)) e

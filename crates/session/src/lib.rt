@@ -14,13 +14,10 @@ use restore::Restored;
 use rows::PairingRole;
 use rows::Verification;
 use sheet::PLACE;
-use store::Entry;
-use table::ENTRIES;
 ghost use mathlib.Core.Path.{_≡_};
 ghost use mathlib.Core.List.{List};
 ghost use Prim.Native.Nat.{ℕ, _*_};
 ghost use lib.ListN.{drop};
-ghost use lib.ListN as list;
 ghost use Rattle.contact.specs.Contact.{Lists, listsBefore, listsAfter, zeroContact};
 ghost use Rattle.ledger.specs.Step.{step};
 ghost use Rattle.ledger.specs.Proved.{HIGHEST};
@@ -124,13 +121,6 @@ fn places_from(places: &[u64], first: usize) -> &[u64]
     &places[at..]
 }
 
-fn table_at(places: &[u64], first: usize, n: usize) -> [Entry; ENTRIES]
-    ensures { λ r. ⌜ list.take n r ≡ entriesAt first n (now (places .entry)) ⌝ }
-{
-    let its = places_from(places, first);
-    table::table_of(its, n)
-}
-
 // ---- the calls
 
 // The session with another mark and other opened fields, and an answer.
@@ -195,7 +185,7 @@ fn restore(session: Session, run: &[u8], places: &[u64], six: &[u64]) -> CallLef
     let first = table::number_at(six, 3) as usize;
     let n = table::number_at(six, 4) as usize;
     let mark = session.mark;
-    let left = calls_table::restore(run_at(run, start, len), table_at(places, first, n), n, mark);
+    let left = calls_table::restore(run_at(run, start, len), places_from(places, first), n, mark);
     restored(session, left, start, len, first, n)
 }
 
@@ -219,7 +209,7 @@ fn step(
     let contact = session.contact;
     let left = calls_table::step(
         run_at(run, session.start, session.len),
-        table_at(places, session.first, session.n),
+        places_from(places, session.first),
         session.n,
         call,
         mark,

@@ -1,54 +1,28 @@
--- A table filled line by line, and that it holds the entries of a sheet.
+-- A table that is filled line by line: the entries of the lines, one turn, and what is lent of the filled table.
 -- Assumes nothing.
 use mathlib.Core.Path.{_≡_, refl, sym, _∙_, ap}
-use Prim.Native.Nat.{ℕ, zero, suc, _+_, _-_, _*_, _≤_, _<_, min}
-use native.Mathlib.Nat.{min-eq-left}
+use Prim.Native.Nat.{ℕ, zero, suc, _+_, _*_, _≤_, _<_, min}
+use native.Mathlib.Nat.{min-eq-left, not-suc-le-zero, le-of-suc-le-suc}
 use native.Mathlib.Omega.{arith}
-use mathlib.Core.List.{List, _∷_, _++_}
-use lib.ListN.{length, getD, take, drop, set, replicate}
-use lib.Seq.{set-at, take-append-seam, drop-drop, getD-drop}
+use mathlib.Core.List.{List, [], _∷_}
+use lib.ListN.{length, getD, take, drop, set, replicate, length-replicate}
+use lib.Seq.{drop-drop, getD-drop}
 use Rattle.store.specs.declared.Entry.{Entry}
 use Rattle.store.specs.Store.{noEntry}
 use Rattle.sheet.specs.Sheet as sheet
 use Rattle.sheet.specs.Sheet.{U32, entryIn, entriesIn}
 use Rattle.sheet.specs.Proved.{EntryFits, AllFit}
 use Rattle.table.specs.Table as table
-use Rattle.table.specs.Table.{ENTRIES, inField, entryFrom, entriesFrom, tableOf, Filled}
+use Rattle.table.specs.Table.{ENTRIES, inField, entryFrom, entriesFrom, overlaid, AsRead}
+use Rattle.table.proofs.Turns.{Placed, Laid, laid-there, laid-all, laid-whole}
 
 abbrev entry : (id start len msgno version kind : ℕ) → Entry
 entry id start len msgno version kind = record { id = id; start = start; len = len; msgno = msgno; version = version; kind = kind }
 
-long : (lines : ℕ) (places : List ℕ) → length (entriesFrom lines places) ≡ lines
+pub long : (lines : ℕ) (places : List ℕ) → length (entriesFrom lines places) ≡ lines
 unfolding table.entriesFrom
 long zero places = refl
 long (suc lines) places = ap suc (long lines (drop 6 places))
-
--- ---- one line more
-behind : (i : ℕ) (places : List ℕ) → drop (6 * i) (drop 6 places) ≡ drop (6 * suc i) places
-behind i places = drop-drop (6 * i) 6 places ∙ ap (λ (m : ℕ). drop m places) next
-  where
-    next : 6 + 6 * i ≡ 6 * suc i
-    next = omega arith
-
-one-more : (i : ℕ) (places : List ℕ) (es : List Entry) → entriesFrom i places ++ entryFrom (drop (6 * i) places) ∷ es ≡ entriesFrom (suc i) places ++ es
-unfolding table.entriesFrom
-one-more zero places es = refl
-one-more (suc i) places es =
-    ap (λ (p : List ℕ). entryFrom places ∷ (entriesFrom i (drop 6 places) ++ entryFrom p ∷ es)) (sym (behind i places))
-    ∙ ap (λ (l : List Entry). entryFrom places ∷ l) (one-more i (drop 6 places) es)
-
-turn : (i : ℕ) (places : List ℕ) → i < ENTRIES → set (tableOf i places) i (entryFrom (drop (6 * i) places)) ≡ tableOf (i + 1) places
-turn i places h =
-    ap (λ (m : ℕ). set (entriesFrom i places ++ replicate m noEntry) i (entryFrom (drop (6 * i) places))) room
-    ∙ set-at (entriesFrom i places) noEntry (replicate (ENTRIES - suc i) noEntry) (entryFrom (drop (6 * i) places)) i (long i places)
-    ∙ one-more i places (replicate (ENTRIES - suc i) noEntry)
-    ∙ ap (λ (m : ℕ). tableOf m places) next
-  where
-    room : ENTRIES - i ≡ suc (ENTRIES - suc i)
-    room = omega (arith, h)
-
-    next : suc i ≡ i + 1
-    next = omega arith
 
 -- ---- six numbers
 pub entry-is : (places : List ℕ) (at : ℕ) {id start len msgno version kind : ℕ} → kind ≡ inField (getD places at 0) → id ≡ getD places (at + 1) 0 → start ≡ getD places (at + 2) 0
@@ -63,6 +37,64 @@ entry-is places at k i s l m v =
     first : getD (drop at places) 0 0 ≡ getD places at 0
     first = getD-drop at places 0 0 ∙ ap (λ (j : ℕ). getD places j 0) here
 
+-- ---- the i-th line
+behind : (i : ℕ) (places : List ℕ) → drop (6 * i) (drop 6 places) ≡ drop (6 * suc i) places
+behind i places = drop-drop (6 * i) 6 places ∙ ap (λ (m : ℕ). drop m places) next
+  where
+    next : 6 + 6 * i ≡ 6 * suc i
+    next = omega arith
+
+line-at : (n i : ℕ) (places : List ℕ) → i < n → getD (entriesFrom n places) i noEntry ≡ entryFrom (drop (6 * i) places)
+unfolding table.entriesFrom
+line-at zero i places h = absurd (not-suc-le-zero h)
+line-at (suc n) zero places h = refl
+line-at (suc n) (suc i) places h = line-at n i (drop 6 places) (le-of-suc-le-suc h) ∙ ap entryFrom (behind i places)
+
+-- ---- the loop: one turn, and behind it
+module _ (n : ℕ) (places : List ℕ) (l : List Entry) (i place : ℕ) (held : List Entry) where
+  pub line-laid : (after : List Entry) → i < n → length held ≡ length l → Placed n (length l) i place → Laid l (entriesFrom n places) i held
+      → after ≡ set held place (entryFrom (drop (6 * i) places)) → Laid l (entriesFrom n places) (i + 1) after
+  line-laid after h same p so e =
+      laid-there noEntry n l (entriesFrom n places) i place held after (let m = long n places in omega (arith, h, m)) same p so
+      (e ∙ ap (set held place) (sym (line-at n i places h)))
+
+  pub lines-laid : n ≤ i → Placed n (length l) i place → Laid l (entriesFrom n places) i held → held ≡ overlaid l (entriesFrom n places)
+  lines-laid over p so = laid-all n (length l) i place l (entriesFrom n places) held over p so ∙ laid-whole n l (entriesFrom n places) (sym (long n places))
+
+pub as-held : (n lines : ℕ) → n ≡ min lines ENTRIES → n ≤ ENTRIES
+as-held n lines is = omega (arith, is)
+
+-- ---- what is lent of a filled table
+take-overlaid : {A : Type 0} (l xs : List A) → length xs ≤ length l → take (length xs) (overlaid l xs) ≡ xs
+unfolding table.overlaid
+take-overlaid [] [] h = refl
+take-overlaid [] (x ∷ xs) h = absurd (not-suc-le-zero h)
+take-overlaid (y ∷ l) [] h = refl
+take-overlaid (y ∷ l) (x ∷ xs) h = ap (λ (m : List _). x ∷ m) (take-overlaid l xs (le-of-suc-le-suc h))
+
+pub record Filled (lines : ℕ) (places : List ℕ) (none : Entry) (count : ℕ) (table : List Entry) : Type 0 where
+  pub counted : count ≡ min (min lines ENTRIES) (length (replicate ENTRIES none))
+  pub laid : table ≡ overlaid (replicate ENTRIES none) (entriesFrom (min lines ENTRIES) places)
+
+module _ {lines : ℕ} {places : List ℕ} {none : Entry} {count : ℕ} {table : List Entry} (f : Filled lines places none count table) where
+  count-is : count ≡ length (entriesFrom (min lines ENTRIES) places)
+  count-is =
+      let c = f .counted in
+      let r = length-replicate ENTRIES none in
+      let m = long (min lines ENTRIES) places in
+      omega (arith, c, r, m)
+
+  pub all-lent : take count table ≡ entriesFrom (min lines ENTRIES) places
+  all-lent =
+      ap (take count) (f .laid) ∙ ap (λ (k : ℕ). take k (overlaid (replicate ENTRIES none) (entriesFrom (min lines ENTRIES) places))) count-is
+      ∙ take-overlaid (replicate ENTRIES none) (entriesFrom (min lines ENTRIES) places) room
+    where
+      room : length (entriesFrom (min lines ENTRIES) places) ≤ length (replicate ENTRIES none)
+      room = let r = length-replicate ENTRIES none in let m = long (min lines ENTRIES) places in omega (arith, r, m)
+
+  pub as-many : count ≡ length (take count table)
+  as-many = count-is ∙ sym (ap length all-lent)
+
 -- ---- the entries of a sheet
 same : (size : ℕ) (six : List ℕ) → EntryFits size (entryIn six) → entryFrom six ≡ entryIn six
 same size six f = rw (min-eq-left (f .msgno-fits), min-eq-left (f .version-fits), min-eq-left kind)
@@ -70,32 +102,9 @@ same size six f = rw (min-eq-left (f .msgno-fits), min-eq-left (f .version-fits)
     kind : getD six 0 0 ≤ U32
     kind = omega (arith, f .kind-known)
 
-all-same : (lines size : ℕ) (places : List ℕ) → AllFit size (entriesIn lines places) → entriesFrom lines places ≡ entriesIn lines places
+pub as-read : AsRead
 unfolding table.entriesFrom sheet.entriesIn
-all-same zero size places f = refl
-all-same (suc lines) size places f =
+as-read zero size places f = refl
+as-read (suc lines) size places f =
     ap (λ (e : Entry). e ∷ entriesFrom lines (drop 6 places)) (same size places (f .0))
-    ∙ ap (λ (l : List Entry). entryIn places ∷ l) (all-same lines size (drop 6 places) (f .1))
-
-pub firsts : (lines : ℕ) (places : List ℕ) → take lines (tableOf lines places) ≡ entriesFrom lines places
-firsts lines places = ap (λ (m : ℕ). take m (tableOf lines places)) (sym (long lines places)) ∙ take-append-seam (entriesFrom lines places) (replicate (ENTRIES - lines) noEntry)
-
--- ---- the loop: before it, one turn, and behind it
-pub begins : (places : List ℕ) {table : List Entry} → table ≡ replicate ENTRIES noEntry → table ≡ tableOf 0 places
-unfolding table.entriesFrom
-begins places is = is
-
-pub turns : (i : ℕ) (places : List ℕ) {table : List Entry} {e : Entry} → i < ENTRIES → table ≡ tableOf i places → e ≡ entryFrom (drop (6 * i) places) → set table i e ≡ tableOf (i + 1) places
-turns i places {table} {e} h is at = ap (λ (t : List Entry). set t i e) is ∙ ap (λ (x : Entry). set (tableOf i places) i x) at ∙ turn i places h
-
-pub ends : (i lines : ℕ) (places : List ℕ) {count : ℕ} {table : List Entry} → i ≤ count → count ≤ i → count ≡ min lines ENTRIES → table ≡ tableOf i places → Filled lines places table
-ends i lines places {count} {table} h k c is = record {
-  is = filled;
-  holds = λ size few fit. ap (take lines) (filled ∙ ap (λ (m : ℕ). tableOf m places) (min-eq-left few)) ∙ firsts lines places ∙ all-same lines size places fit;
-}
-  where
-    all : i ≡ count
-    all = omega (arith, h, k)
-
-    filled : table ≡ tableOf (min lines ENTRIES) places
-    filled = is ∙ ap (λ (m : ℕ). tableOf m places) (all ∙ c)
+    ∙ ap (λ (l : List Entry). entryIn places ∷ l) (as-read lines size (drop 6 places) (f .1))

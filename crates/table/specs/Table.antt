@@ -1,11 +1,10 @@
--- A table of entries by value, of which the first are a store's, and how it is filled from a sheet's places.
+-- A table of entries, and how it is filled from a sheet's places: the entries are laid over its front.
 -- Assumes nothing.
-use Prim.Native.Nat.{ℕ, zero, suc, _-_, _≤_, min}
+use Prim.Native.Nat.{ℕ, zero, suc, min}
 use mathlib.Core.Path.{_≡_}
-use mathlib.Core.List.{List, [], _∷_, _++_}
-use lib.ListN.{getD, take, drop, replicate}
+use mathlib.Core.List.{List, [], _∷_}
+use lib.ListN.{getD, drop}
 use Rattle.store.specs.declared.Entry.{Entry}
-use Rattle.store.specs.Store.{noEntry}
 use Rattle.sheet.specs.Sheet.{U32, entriesIn}
 use Rattle.sheet.specs.Proved.{AllFit}
 
@@ -28,15 +27,17 @@ entryFrom six = record {
   kind = inField (getD six 0 0);
 }
 
+-- the entries of so many lines, six numbers each
 unfoldable pub entriesFrom : (lines : ℕ) → (places : List ℕ) → List Entry
 entriesFrom zero places = []
 entriesFrom (suc lines) places = entryFrom places ∷ entriesFrom lines (drop 6 places)
 
--- the table that so many lines give: nothing stands behind their entries
-abbrev pub tableOf : (lines : ℕ) → (places : List ℕ) → List Entry
-tableOf lines places = entriesFrom lines places ++ replicate (ENTRIES - lines) noEntry
+-- where no number is wider than its field, as behind a sheet that was read, these are the sheet's entries
+abbrev pub AsRead : Type 0
+AsRead = (lines size : ℕ) (places : List ℕ) → AllFit size (entriesIn lines places) → entriesFrom lines places ≡ entriesIn lines places
 
-pub record Filled (lines : ℕ) (places : List ℕ) (table : List Entry) : Type 0 where
-  pub is : table ≡ tableOf (min lines ENTRIES) places
-  -- where no number is wider than its field, as behind a sheet that was read, the first are the sheet's entries
-  pub holds : (size : ℕ) → lines ≤ ENTRIES → AllFit size (entriesIn lines places) → take lines table ≡ entriesIn lines places
+-- a list laid over the front of another, as far as both go
+unfoldable pub overlaid : {A : Type 0} → List A → List A → List A
+overlaid [] xs = []
+overlaid (y ∷ l) [] = y ∷ l
+overlaid (y ∷ l) (x ∷ xs) = x ∷ overlaid l xs

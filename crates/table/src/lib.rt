@@ -1,15 +1,15 @@
-// A table of entries by value, for a program: filled from a sheet's places, and its first n entries lent to restore.
-// A count above the table's length counts as that length.
+// A table of entries for a program: a local array that is filled from a sheet's places, and whose first entries are lent. It is made where it is lent, since an
+// array by value is copied whole on its way. A count above the table's length counts as that length.
 use restore::Restored;
 use sheet::PLACE;
 use store::Entry;
 ghost use mathlib.Core.Path.{_≡_};
-ghost use Prim.Native.Nat.{_*_, _<_, min};
-ghost use lib.ListN.{getD, drop, replicate};
-ghost use lib.ListN as list;
+ghost use Prim.Native.Nat.{_*_, _≤_, _<_, min};
+ghost use lib.ListN.{length, getD, set, drop};
 ghost use Rattle.store.specs.Store.{storeOf, restore, noEntry};
+ghost use Rattle.entries.specs.Next.{nextIn};
 ghost use Rattle.restore.specs.Restored.{answered};
-ghost use Rattle.table.specs.Table.{ENTRIES, inField, entryFrom, Filled};
+ghost use Rattle.table.specs.Table.{ENTRIES, inField, entryFrom, entriesFrom, overlaid};
 
 // How many entries a table has.
 pub const ENTRIES: usize = 512;
@@ -18,13 +18,13 @@ pub const ENTRIES: usize = 512;
 const HIGHEST_32: u64 = 0xFFFFFFFF;
 
 // How many of n entries a table has.
-pub fn held(n: usize) -> usize
+fn held(n: usize) -> usize
     ensures { λ r. ⌜ r ≡ min n ENTRIES ⌝ }
 {
     if n <= ENTRIES { n } else { ENTRIES }
 }
 
-// ---- a table filled from a sheet's places
+// ---- the entry of a line
 
 // The i-th number, 0 where there is none.
 pub fn number_at(places: &[u64], i: usize) -> u64
@@ -53,11 +53,13 @@ pub fn field_at(places: &[u64], i: usize) -> u32
     in_field(number)
 }
 
-// The entry whose six numbers start here.
-fn entry_from(places: &[u64], at: usize) -> Entry
-    requires { ⌜ at < 6 * ENTRIES ⌝ }
-    ensures { λ r. ⌜ r ≡ entryFrom (drop at (now (places .entry))) ⌝ }
+// The entry of the i-th line, from the six numbers that a sheet's reader left of it. A number that is wider than its field counts as the field's highest: a
+// sheet that was read leaves none.
+fn entry_from(places: &[u64], i: usize) -> Entry
+    requires { ⌜ i < ENTRIES ⌝ }
+    ensures { λ r. ⌜ r ≡ entryFrom (drop (6 * i) (now (places .entry))) ⌝ }
 {
+    let at = PLACE * i;
     let kind = field_at(places, at);
     let id = number_at(places, at + 1);
     let start = number_at(places, at + 2) as usize;
@@ -74,7 +76,8 @@ fn entry_from(places: &[u64], at: usize) -> Entry
     }
 }
 
-fn no_entry() -> Entry
+// What a table holds before it is filled.
+pub fn no_entry() -> Entry
     ensures { λ r. ⌜ r ≡ noEntry ⌝ }
 {
     Entry {
@@ -87,33 +90,46 @@ fn no_entry() -> Entry
     }
 }
 
-fn no_entries() -> [Entry; ENTRIES]
-    ensures { λ r. ⌜ r ≡ replicate ENTRIES noEntry ⌝ }
+// ---- a table is filled
+
+fn fill_at(places: &[u64], table: &mut [Entry], i: usize, place: usize) -> usize
+    requires { ⌜ i < ENTRIES ⌝ }
+    ensures { λ r. ⌜ (r ≡ nextIn (now (table .entry)) place) × (now (table .exit) ≡ set (now (table .entry)) place (entryFrom (drop (6 * i) (now (places .entry))))) ⌝ }
 {
-    let none = no_entry();
-    [none; ENTRIES]
+    let e = entry_from(places, i);
+    entries::set_entry(table, place, e)
 }
 
-// The entries of so many lines, from the six numbers that a sheet's reader left of each. A number that is wider than its field counts as the field's
-// highest: a sheet that was read leaves none.
-pub fn table_of(places: &[u64], lines: usize) -> [Entry; ENTRIES]
-    ensures { λ r. ⌜ Filled lines (now (places .entry)) r ⌝ }
+fn fill_from(places: &[u64], table: &mut [Entry], n: usize) -> usize
+    requires { ⌜ n ≤ ENTRIES ⌝ }
+    ensures { λ r. ⌜ (r ≡ min n (length (now (table .entry)))) × (now (table .exit) ≡ overlaid (now (table .entry)) (entriesFrom n (now (places .entry)))) ⌝ }
 {
-    let count = held(lines);
-    let mut table = no_entries();
     let mut i = 0;
-    while i < count {
-        table[i] = entry_from(places, PLACE * i);
-        i += 1;
+    let mut place = 0;
+    while i < n {
+        place = fill_at(places, table, i, place);
+        i = i + 1;
     }
-    table
+    place
+}
+
+// Stores the entries of so many lines to the front of the table, as many as there is room for, and answers how many.
+pub fn fill(places: &[u64], lines: usize, table: &mut [Entry]) -> usize
+    ensures { λ r. ⌜ (r ≡ min (min lines ENTRIES) (length (now (table .entry))))
+        × (now (table .exit) ≡ overlaid (now (table .entry)) (entriesFrom (min lines ENTRIES) (now (places .entry)))) ⌝ }
+{
+    let n = held(lines);
+    fill_from(places, table, n)
 }
 
 // ---- restore
 
-pub fn restore(run: &[u8], table: [Entry; ENTRIES], n: usize) -> Restored
-    ensures { λ r. ⌜ r ≡ answered (restore (storeOf (now (run .entry)) (list.take n table))) ⌝ }
+// What restore answers of the entries of so many lines.
+pub fn restore(run: &[u8], places: &[u64], lines: usize) -> Restored
+    ensures { λ r. ⌜ r ≡ answered (restore (storeOf (now (run .entry)) (entriesFrom (min lines ENTRIES) (now (places .entry))))) ⌝ }
 {
-    let count = held(n);
+    let blank = no_entry();
+    let mut table = [blank; ENTRIES];
+    let count = fill(places, lines, &mut table[..]);
     restore::restore(run, &table[..count])
 }

@@ -10,10 +10,10 @@ use libc::STDOUT_FILENO;
 use restore::Restored;
 use rows::Verdict;
 use rows::Written;
-use store::Entry;
+use sheet::PLACE;
 use table::ENTRIES;
 ghost use mathlib.Core.Path.{_≡_};
-ghost use Prim.Native.Nat.{_+_, _*_, _≤_, min};
+ghost use Prim.Native.Nat.{_+_, _*_, _≤_, _<_, min};
 ghost use lib.ListN.{length};
 ghost use Rattle.table.specs.Table.{ENTRIES};
 
@@ -240,6 +240,9 @@ fn row(letter: u8, case: &[u8], bytes: &mut [u8], again: &mut [u8]) -> bool {
 // How many bytes an entry has in a case.
 const ENTRY: usize = 36;
 
+// How many numbers the places of a full table are.
+const PLACES: usize = 3072;
+
 // A big-endian number of four bytes; 0 where they are not all there.
 fn number_32(bytes: &[u8], at: usize) -> u32 {
     match fields::u32_at(bytes, at) {
@@ -256,32 +259,33 @@ fn number_64(bytes: &[u8], at: usize) -> u64 {
     }
 }
 
-// The entry whose bytes start here: kind, contact or slot, msgno, version, start, length.
-fn entry(bytes: &[u8], at: usize) -> Entry
-    requires { ⌜ at ≤ 36 * ENTRIES ⌝ }
+// The k-th place of the entries, six to each: kind, contact or slot, start, length, msgno, version. In bytes msgno and version stand before start and length.
+fn place(bytes: &[u8], k: usize) -> u64
+    requires { ⌜ k < 6 * ENTRIES ⌝ }
 {
-    Entry {
-        id: number_64(bytes, at + 4),
-        start: number_64(bytes, at + 20) as usize,
-        len: number_64(bytes, at + 28) as usize,
-        msgno: number_32(bytes, at + 12),
-        version: number_32(bytes, at + 16),
-        kind: number_32(bytes, at),
+    let at = ENTRY * (k / PLACE);
+    match k % PLACE {
+        0 => number_32(bytes, at) as u64,
+        1 => number_64(bytes, at + 4),
+        2 => number_64(bytes, at + 20),
+        3 => number_64(bytes, at + 28),
+        4 => number_32(bytes, at + 12) as u64,
+        _ => number_32(bytes, at + 16) as u64,
     }
 }
 
-// A table with so many entries; every place behind them holds the first entry.
-fn entries(bytes: &[u8], count: usize) -> [Entry; ENTRIES]
+// The places of so many entries.
+fn places_of(bytes: &[u8], count: usize) -> [u64; PLACES]
     requires { ⌜ count ≤ ENTRIES ⌝ }
 {
-    let first = entry(bytes, 0);
-    let mut table = [first; ENTRIES];
-    let mut i = 0;
-    while i < count {
-        table[i] = entry(bytes, ENTRY * i);
-        i += 1;
+    let mut places = [0u64; PLACES];
+    let n = PLACE * count;
+    let mut k = 0;
+    while k < n {
+        places[k] = place(bytes, k);
+        k += 1;
     }
-    table
+    places
 }
 
 // Whether the text is these two numbers, of eight bytes each.
@@ -304,11 +308,11 @@ fn is_restored(text: &[u8], answer: Restored) -> bool {
 }
 
 // `RUN ANSWER`: the run of a store with these entries, and what restore answers.
-fn restored(case: &[u8], table: [Entry; ENTRIES], count: usize, bytes: &mut [u8]) -> bool {
+fn restored(case: &[u8], places: &[u64], count: usize, bytes: &mut [u8]) -> bool {
     let Written::Length(n) = cases::bytes(cases::field(case), bytes) else {
         return false;
     };
-    let answer = table::restore(cases::first(bytes, n), table, count);
+    let answer = table::restore(cases::first(bytes, n), places, count);
     is_restored(cases::rest(case), answer)
 }
 
@@ -322,8 +326,8 @@ fn store(case: &[u8], bytes: &mut [u8], again: &mut [u8]) -> bool {
         return false;
     }
     if n % ENTRY == 0 {
-        let table = entries(cases::first(bytes, n), count);
-        return restored(cases::rest(case), table, count, again);
+        let places = places_of(cases::first(bytes, n), count);
+        return restored(cases::rest(case), &places, count, again);
     }
     false
 }

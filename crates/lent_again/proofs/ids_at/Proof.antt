@@ -38,7 +38,7 @@ use Rattle.walks.proofs.Held.{Held, number, of-struct, vals, Lies, plus, lends,
 use types.Run.{stop, hop, fld, from, load, addr}
 use types.Part.{agg, whole, sub, look-in}
 use lib.ListN.{set}
-use Rattle.lent_again.specs.Overlaid.{idOf}
+use Rattle.lent_again.specs.Ids.{idOf}
 use Rattle.store.specs.declared.Entry.{Entry}
 use Rattle.store.proofs.Entry as EntryT
 use Rattle.store.proofs.Entry.Laws as EntryL

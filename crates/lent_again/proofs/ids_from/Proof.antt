@@ -49,8 +49,8 @@ use base.Fml.{GName}
 use Rattle.walks.proofs.Again.{lent-at, at-list, lends-again, comes-back}
 use mathlib.Core.List.{map}
 use Rattle.store.specs.Store.{noEntry}
-use Rattle.lent_again.specs.Overlaid.{idOf}
-use Rattle.lent_again.proofs.Turns.{Placed, Laid, none-placed, none-laid, placed-next, laid-there, laid-of, placed-all, laid-all, inside}
+use Rattle.lent_again.specs.Ids.{idOf}
+use Rattle.table.proofs.Turns.{Placed, Laid, none-placed, none-laid, placed-next, laid-there, laid-of, placed-all, laid-all, inside}
 use Rattle.store.specs.declared.Entry.{Entry}
 use Rattle.store.proofs.Entry as EntryT
 use Rattle.lent_again.proofs.ids_at as ids-at

@@ -40,8 +40,8 @@ use types.Part.{agg, whole, sub, look-in}
 use Prim.Native.Nat.{min}
 use mathlib.Core.List.{map}
 use lib.ListN.{length-map}
-use Rattle.lent_again.specs.Overlaid.{idOf}
-use Rattle.lent_again.proofs.Turns.{all-there, laid-whole}
+use Rattle.lent_again.specs.Ids.{idOf}
+use Rattle.table.proofs.Turns.{all-there, laid-whole}
 use Rattle.store.specs.declared.Entry.{Entry}
 use Rattle.store.proofs.Entry as EntryT
 use Rattle.entries.proofs.entry_count as entries-entry-count

@@ -5,9 +5,6 @@ use Rattle.report.proofs.Texts.{table-granted, table-refused, as-text}
 use Rattle.report.proofs.report_store.Statement.{statement}
 use Rattle.report.proofs.report_store.Tie as tie
 
-table-of-requires : tie.Need-table-of-requires
-table-of-requires c κs = search needs
-
 restore-requires : tie.Need-restore-requires
 restore-requires c κs = search needs
 
@@ -34,9 +31,9 @@ returns c =
     let w = c .before .before in
     let k = w .before .before .before in
     let r = k .before .before in
-    let s = r .before .before .before .before .before in
+    let s = r .before .before .before .before in
     let a = s .args in
-    as-text (a .out .now) (table-granted (a .run .now) (a .places .now) (a .n) (s .pre .1) (r .before .table-of .ensures) (r .restore .ensures) (k .answer .given .1)) (w .write-granted .ensures)
+    as-text (a .out .now) (table-granted (a .run .now) (a .places .now) (a .n) (s .pre .1) (r .restore .ensures) (k .answer .given .1)) (w .write-granted .ensures)
 
 same-length-2 : tie.Need-same-length-2
 same-length-2 c = search needs
@@ -47,15 +44,14 @@ returns-2 c =
     let b = w .before .before in
     let k = b .before .before in
     let r = k .before .before in
-    let s = r .before .before .before .before .before in
+    let s = r .before .before .before .before in
     let a = s .args in
-    as-text (a .out .now) (table-refused (a .run .now) (a .places .now) (a .n) (s .pre .1) (r .before .table-of .ensures) (r .restore .ensures) (k .answer2 .given .1) (b .wide .ensures)) (w .write-refused .ensures)
+    as-text (a .out .now) (table-refused (a .run .now) (a .places .now) (a .n) (s .pre .1) (r .restore .ensures) (k .answer2 .given .1) (b .wide .ensures)) (w .write-refused .ensures)
 
 pub report-store-spec : {M : Type 1} → statement M
 report-store-spec =
     tie.close
     (tie.spec
-    table-of-requires
     restore-requires
     enum-known-answer
     write-granted-requires

@@ -3,6 +3,7 @@
 use mathlib.Core.Path.{refl}
 use borrow.Author.Needs.{needs}
 use Rattle.session.specs.Session.{handIn}
+use Rattle.session.proofs.Store.{its-entries}
 use Rattle.session.proofs.Steps.{restore-left}
 use Rattle.session.proofs.restore.Statement.{statement}
 use Rattle.session.proofs.restore.Tie as tie
@@ -22,8 +23,8 @@ number-at-requires-4 c κs = search needs
 run-at-requires : tie.Need-run-at-requires
 run-at-requires c κs = search needs
 
-table-at-requires : tie.Need-table-at-requires
-table-at-requires c κs = search needs
+places-from-requires : tie.Need-places-from-requires
+places-from-requires c κs = search needs
 
 restore-requires : tie.Need-restore-requires
 restore-requires c κs = search needs
@@ -34,8 +35,8 @@ restored-requires c κs = search needs
 returns : tie.Need-returns
 returns c =
     let made = c .before in
-    let table = made .before in
-    let part = table .before in
+    let its = made .before in
+    let part = its .before in
     let n = part .before in
     let first = n .before in
     let len = first .before in
@@ -43,7 +44,7 @@ returns c =
     let a = start .before .before .before .before .args in
     λ l out.
     restore-left (a .run .now) (a .places .now) (made .restore .result) (handIn (a .session) (a .run .now) (a .places .now) l out) _ (start .number-at .ensures) (len .number-at2 .ensures)
-    (first .number-at3 .ensures) (n .number-at4 .ensures) (part .run-at .ensures) (table .table-at .ensures) (made .restore .ensures .left _ refl) (c .restored .ensures _ _ l out)
+    (first .number-at3 .ensures) (n .number-at4 .ensures) (part .run-at .ensures) (its-entries (first .number-at3 .result) (n .number-at4 .result) (a .places .now) (its .places-from .ensures)) (made .restore .ensures .left _ refl) (c .restored .ensures _ _ l out)
 
 pub restore-spec : {M : Type 1} → statement M
 restore-spec =
@@ -54,7 +55,7 @@ restore-spec =
     number-at-requires-3
     number-at-requires-4
     run-at-requires
-    table-at-requires
+    places-from-requires
     restore-requires
     restored-requires
     returns)

@@ -4,6 +4,7 @@ use native.Mathlib.Omega.{arith}
 use borrow.Author.Needs.{needs}
 use Rattle.contact.specs.Contact.{lists}
 use Rattle.dispatch.specs.Dispatch.{callOf}
+use Rattle.session.proofs.Store.{its-entries}
 use Rattle.session.proofs.Steps.{step-left}
 use Rattle.session.proofs.step.Statement.{statement}
 use Rattle.session.proofs.step.Tie as tie
@@ -15,8 +16,8 @@ made c = c .before .before .before .before .before .before .before .before .befo
 run-at-requires : tie.Need-run-at-requires
 run-at-requires c κs = search needs
 
-table-at-requires : tie.Need-table-at-requires
-table-at-requires c κs = search needs
+places-from-requires : tie.Need-places-from-requires
+places-from-requires c κs = search needs
 
 step-requires : tie.Need-step-requires
 step-requires c κs = search needs
@@ -47,10 +48,10 @@ same-length-6 c = search needs
 
 returns : tie.Need-returns
 returns c =
-    let table = made c .before .before .before .before .before .before .before in
-    let part = table .before in
+    let its = made c .before .before .before .before .before .before .before in
+    let part = its .before in
     let a = part .before .before .before .before .before .before .before .before .before .before .args in
-    step-left (a .session) (a .run .now) (a .places .now) (part .run-at .ensures) (table .table-at .ensures)
+    step-left (a .session) (a .run .now) (a .places .now) (part .run-at .ensures) (its-entries (a .session .first) (a .session .n) (a .places .now) (its .places-from .ensures))
     (callOf (a .call))
     (lists (a .chains .now) (a .skipped .now) (a .above .now) (a .unacked .now) (a .expired .now))
     (a .out .now)
@@ -63,7 +64,7 @@ step-spec =
     tie.close
     (tie.spec
     run-at-requires
-    table-at-requires
+    places-from-requires
     step-requires
     numbers-of-requires
     next-requires

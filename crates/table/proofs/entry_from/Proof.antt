@@ -1,9 +1,14 @@
 -- `table::entry_from` meets its contract.
 -- Assumes nothing.
+use Prim.Native.Nat.{_*_}
+use native.Mathlib.Omega.{arith}
 use borrow.Author.Needs.{needs}
 use Rattle.table.proofs.Filled.{entry-is}
 use Rattle.table.proofs.entry_from.Statement.{statement}
 use Rattle.table.proofs.entry_from.Tie as tie
+
+mul-at : tie.Need-mul-at
+mul-at c = record { fits = omega (arith, c .before .pre) }
 
 field-at-requires : tie.Need-field-at-requires
 field-at-requires c κs = search needs
@@ -46,12 +51,13 @@ returns c =
     let first = second .before in
     let begun = first .before in
     let args = begun .before .before .args in
-    entry-is (args .places .now) (args .at) (begun .field-at .ensures) (first .number-at .ensures) (second .number-at2 .ensures) (third .number-at3 .ensures) (last .field-at2 .ensures) (c .field-at3 .ensures)
+    entry-is (args .places .now) (6 * args .i) (begun .field-at .ensures) (first .number-at .ensures) (second .number-at2 .ensures) (third .number-at3 .ensures) (last .field-at2 .ensures) (c .field-at3 .ensures)
 
 pub entry-from-spec : {M : Type 1} → statement M
 entry-from-spec =
     tie.close
     (tie.spec
+    mul-at
     field-at-requires
     add-number-at
     number-at-requires

@@ -1,4 +1,5 @@
--- What holds before each turn of the two loops: the lists hold the first i of what is laid over them, and the place is the first that is still free, or the end.
+-- What holds before each turn of a loop that lays lists over others: these hold the first i of what is laid over them, and the place is the first that is still
+-- free, or the end.
 -- Assumes nothing.
 use Prim.Native.Nat.{ℕ, zero, suc, _+_, _≤_, _<_, min}
 use native.Mathlib.Omega.{arith}
@@ -13,8 +14,8 @@ use lib.Seq.{take-length}
 use borrow.Author.Tests.{ltb-true, ltb-false}
 use Rattle.entries.specs.Next.{nextIn}
 use Rattle.entries.proofs.Storing.{set-past}
-use Rattle.lent_again.specs.Overlaid as over
-use Rattle.lent_again.specs.Overlaid.{overlaid}
+use Rattle.table.specs.Table as over
+use Rattle.table.specs.Table.{overlaid}
 
 -- the loop goes up to n, and a list of the length m is stored to at the place
 pub record Placed (n m i place : ℕ) : Type 0 where
