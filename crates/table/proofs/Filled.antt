@@ -11,7 +11,7 @@ use Rattle.store.specs.declared.Entry.{Entry}
 use Rattle.store.specs.Store.{noEntry}
 use Rattle.sheet.specs.Sheet as sheet
 use Rattle.sheet.specs.Sheet.{U32, entryIn, entriesIn}
-use Rattle.sheet.specs.Proved.{EntryFits, AllFit}
+use Rattle.sheet.specs.Proved.{EntryFits}
 use Rattle.table.specs.Table as table
 use Rattle.table.specs.Table.{ENTRIES, inField, entryFrom, entriesFrom, overlaid, AsRead}
 use Rattle.table.proofs.Turns.{Placed, Laid, laid-there, laid-all, laid-whole}
