@@ -1,3 +1,4 @@
 pub mod Typed
 pub mod Turns
 pub mod Samples
+pub mod Two

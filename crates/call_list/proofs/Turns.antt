@@ -2,7 +2,7 @@
 -- Assumes nothing.
 use Prim.Native.Nat.{ℕ, suc, _+_, _-_, _*_, _≤_, _<_}
 use mathlib.Core.List.{List, [], _∷_}
-use mathlib.Core.Bool.{Bool, true, false, cond, true≢false}
+use mathlib.Core.Bool.{true, false, true≢false}
 use mathlib.Core.Option.{Option, none, some}
 use mathlib.Core.Path.{_≡_, refl, sym, ap, ap₂, _∙_, subst}
 use native.Mathlib.Omega.{arith}
@@ -12,27 +12,21 @@ use Rattle.layout.specs.RowLaws.{Bytes}
 use Rattle.put.specs.Put as storing
 use Rattle.put.specs.Put.{put}
 use Rattle.put.proofs.Put.{put-append}
-use Rattle.ledger.specs.Call.{Call, Answer, granted, advanced, truth, number, wrote, said, refused, refusedAt, isGranted, Hand}
+use Rattle.ledger.specs.Call.{Call, Answer, granted, advanced, truth, number, wrote, said, refused, refusedAt, Hand}
 use Rattle.ledger.specs.Step.{step}
 use Rattle.ledger.specs.Legal.{lastLeft}
 use Rattle.ledger.specs.Replay.{answers, left}
 use Rattle.ledger.specs.Proved.{HIGHEST}
 use Rattle.ledger.proofs.Proved.{proved}
+use Rattle.ledger.proofs.Replay.{last-left}
 use Rattle.call_code.specs.Coded.{six}
+use Rattle.session.specs.declared.Session.{Session}
 use Rattle.session.specs.declared.CallLeft.{CallLeft}
-use Rattle.session.specs.Session.{LeftAs, Ran}
+use Rattle.session.specs.Session.{storeAt, movedBy, LeftAs, Ran}
 use Rattle.call_code.specs.Encoding as encoding
 use Rattle.call_code.specs.Encoding.{callIn, followedBy, callsFrom, mostCalls, callsOf, sixOf, numbersOf}
-use Rattle.call_list.specs.Replay.{Replayed}
-use Rattle.call_list.proofs.Typed.{ledger-says}
-
--- a no changes nothing, so what was left last is what a call leaves
-last-left : (c : Call) (h : Hand) → lastLeft h (step HIGHEST c h) ≡ step HIGHEST c h .after
-last-left c h = go (isGranted (step HIGHEST c h .answer)) refl
-  where
-    go : (b : Bool) → isGranted (step HIGHEST c h .answer) ≡ b → lastLeft h (step HIGHEST c h) ≡ step HIGHEST c h .after
-    go true e = ap (λ (x : Bool). cond x (step HIGHEST c h .after) h) e
-    go false e = ap (λ (x : Bool). cond x (step HIGHEST c h .after) h) e ∙ sym (proved .calls .refused-keeps c h e)
+use Rattle.call_list.specs.Replay.{placedBy, Replayed}
+use Rattle.call_list.proofs.Typed.{typed-calls}
 
 six-long : (a : Answer) → length (sixOf a) ≡ 6
 six-long granted = refl
@@ -52,17 +46,20 @@ module _ (run places numbers : List ℕ) (most : ℕ) where
   abbrev pub callAt : ℕ → Option Call
   callAt i = callIn run places (drop (6 * i) numbers)
 
+  six-behind : (i : ℕ) → drop 6 (drop (6 * i) numbers) ≡ drop (6 * (i + 1)) numbers
+  six-behind i = drop-drop 6 (6 * i) numbers ∙ ap (λ (n : ℕ). drop n numbers) behind
+    where
+      behind : 6 * i + 6 ≡ 6 * (i + 1)
+      behind = omega arith
+
   next-rest : (i : ℕ) → i < most → rest i ≡ followedBy (callAt i) (rest (i + 1))
   unfolding encoding.callsFrom
   next-rest i h =
       ap (λ (n : ℕ). callsFrom n run places (drop (6 * i) numbers)) more
-      ∙ ap (λ (l : List ℕ). followedBy (callAt i) (callsFrom (most - (i + 1)) run places l)) (drop-drop 6 (6 * i) numbers ∙ ap (λ (n : ℕ). drop n numbers) behind)
+      ∙ ap (λ (l : List ℕ). followedBy (callAt i) (callsFrom (most - (i + 1)) run places l)) (six-behind i)
     where
       more : most - i ≡ suc (most - (i + 1))
       more = omega (arith, h)
-
-      behind : 6 * i + 6 ≡ 6 * (i + 1)
-      behind = omega arith
 
   no-rest : (i : ℕ) → most ≤ i → rest i ≡ []
   unfolding encoding.callsFrom
@@ -71,35 +68,46 @@ module _ (run places numbers : List ℕ) (most : ℕ) where
       none-left : most - i ≡ 0
       none-left = omega (arith, h)
 
-  -- ---- what is still to come: h₀ and the answers' list before were there at first
-  module _ (h₀ : Hand) (before : List ℕ) where
-    pub record ToCome (cs : List Call) (i : ℕ) (h : Hand) (now : List ℕ) : Type 0 where
-      pub leaves : left HIGHEST cs h ≡ left HIGHEST (callsFrom most run places numbers) h₀
-      pub says : put now (6 * i) (numbersOf (answers HIGHEST cs h)) ≡ put before 0 (numbersOf (answers HIGHEST (callsFrom most run places numbers) h₀))
+  -- ---- what is still to come: h₀, the store's place at₀ and the answers' list before were there at first
+  module _ (h₀ : Hand) (at₀ before : List ℕ) where
+    abbrev all : List Call
+    all = callsFrom most run places numbers
+
+    pub record ToCome (cs : List Call) (i : ℕ) (h : Hand) (at now : List ℕ) : Type 0 where
+      pub leaves : left HIGHEST cs h ≡ left HIGHEST all h₀
+      pub moves : placedBy cs (drop (6 * i) numbers) h at ≡ placedBy all numbers h₀ at₀
+      pub says : put now (6 * i) (numbersOf (answers HIGHEST cs h)) ≡ put before 0 (numbersOf (answers HIGHEST all h₀))
 
     -- nothing is
-    pub record Came (h : Hand) (now : List ℕ) : Type 0 where
-      pub leaves : h ≡ left HIGHEST (callsFrom most run places numbers) h₀
-      pub says : now ≡ put before 0 (numbersOf (answers HIGHEST (callsFrom most run places numbers) h₀))
+    pub record Came (h : Hand) (at now : List ℕ) : Type 0 where
+      pub leaves : h ≡ left HIGHEST all h₀
+      pub moves : at ≡ placedBy all numbers h₀ at₀
+      pub says : now ≡ put before 0 (numbersOf (answers HIGHEST all h₀))
 
-    ended : {cs : List Call} (i : ℕ) {h : Hand} {now : List ℕ} → cs ≡ [] → ToCome cs i h now → Came h now
+    ended : {cs : List Call} (i : ℕ) {h : Hand} {at now : List ℕ} → cs ≡ [] → ToCome cs i h at now → Came h at now
     unfolding encoding.numbersOf storing.put
-    ended i {h} {now} e t = record {
+    ended i {h} {at} {now} e t = record {
       leaves = ap (λ (l : List Call). left HIGHEST l h) (sym e) ∙ t .leaves;
+      moves = ap (λ (l : List Call). placedBy l (drop (6 * i) numbers) h at) (sym e) ∙ t .moves;
       says = ap (λ (l : List Call). put now (6 * i) (numbersOf (answers HIGHEST l h))) (sym e) ∙ t .says;
     }
 
     module _ (i : ℕ) {h after : Hand} {now : List ℕ} {r : CallLeft} where
       -- one call of these is made
-      made : (c : Call) (cs : List Call) → LeftAs (step HIGHEST c h) after r → ToCome (c ∷ cs) i h now → ToCome cs (i + 1) after (put now (6 * i) (six (r .answer)))
+      made : (at : List ℕ) (c : Call) (cs : List Call) → LeftAs (step HIGHEST c h) (movedBy c (step HIGHEST c h .answer) (drop (6 * i) numbers) at) after r
+          → ToCome (c ∷ cs) i h at now → ToCome cs (i + 1) after (storeAt (r .session)) (put now (6 * i) (six (r .answer)))
       unfolding encoding.numbersOf
-      made c cs l t =
+      made at c cs l t =
           let last = lastLeft h (step HIGHEST c h) in
           let six-numbers = sixOf (step HIGHEST c h .answer) in
-          let same : after ≡ last = l .stands ∙ sym (last-left c h) in
+          let same : after ≡ last = l .stands ∙ sym (last-left HIGHEST c h) in
           let behind : 6 * (i + 1) ≡ 6 * i + length six-numbers = omega (arith, six-long (step HIGHEST c h .answer)) in
           record {
             leaves = ap (left HIGHEST cs) same ∙ t .leaves;
+            moves =
+                ap₂ (λ (x : Hand) (a : List ℕ). placedBy cs (drop (6 * (i + 1)) numbers) x a) same (l .placed)
+                ∙ ap (λ (ns : List ℕ). placedBy cs ns last (movedBy c (step HIGHEST c h .answer) (drop (6 * i) numbers) at)) (sym (six-behind i))
+                ∙ t .moves;
             says =
                 ap₂ (λ (a : List ℕ) (x : Hand). put (put now (6 * i) a) (6 * (i + 1)) (numbersOf (answers HIGHEST cs x))) (l .said) same
                 ∙ ap (λ (n : ℕ). put (put now (6 * i) six-numbers) n (numbersOf (answers HIGHEST cs last))) behind
@@ -107,34 +115,44 @@ module _ (run places numbers : List ℕ) (most : ℕ) where
                 ∙ t .says;
           }
 
-      ran : (x : Option Call) (cs : List Call) → r .known ≡ true → Ran x h after r → ToCome (followedBy x cs) i h now → ToCome cs (i + 1) after (put now (6 * i) (six (r .answer)))
-      ran none cs known l t = absurd (true≢false (sym known ∙ l .is .0))
-      ran (some c) cs known l t = made c cs (l .is) t
+      ran : (s : Session) (x : Option Call) (cs : List Call) → r .known ≡ true → Ran x (drop (6 * i) numbers) s h after r → ToCome (followedBy x cs) i h (storeAt s) now → ToCome cs (i + 1) after (storeAt (r .session)) (put now (6 * i) (six (r .answer)))
+      ran s none cs known l t = absurd (true≢false (sym known ∙ ap (λ (y : CallLeft). y .known) (l .is .0)))
+      ran s (some c) cs known l t = made (storeAt s) c cs (l .is) t
 
-      stopped : (x : Option Call) (cs : List Call) → r .known ≡ false → Ran x h after r → ToCome (followedBy x cs) i h now → Came after now
-      stopped none cs known l t = let came = ended i refl t in record { leaves = l .is .2 ∙ came .leaves; says = came .says }
-      stopped (some c) cs known l t = absurd (true≢false (sym (l .is .known) ∙ known))
+      stopped : (s : Session) (x : Option Call) (cs : List Call) → r .known ≡ false → Ran x (drop (6 * i) numbers) s h after r → ToCome (followedBy x cs) i h (storeAt s) now → Came after (storeAt (r .session)) now
+      stopped s none cs known l t =
+          let came = ended i refl t in
+          record { leaves = l .is .1 ∙ came .leaves; moves = ap (λ (y : CallLeft). storeAt (y .session)) (l .is .0) ∙ came .moves; says = came .says }
+      stopped s (some c) cs known l t = absurd (true≢false (sym (l .is .known) ∙ known))
 
       -- ---- the loop: a turn, a turn whose numbers are no call, and behind the last
-      pub turn : {these now′ : List ℕ} → i < most → r .known ≡ true → these ≡ drop (6 * i) numbers → Ran (callIn run places these) h after r → now′ ≡ put now (6 * i) (six (r .answer))
-          → ToCome (rest i) i h now → ToCome (rest (i + 1)) (i + 1) after now′
-      turn lt known here l stored t = rw stored (ran (callAt i) (rest (i + 1)) known (rw here at l) (rw (next-rest i lt) at t))
+      pub turn : {s : Session} {these now′ : List ℕ} → i < most → r .known ≡ true → these ≡ drop (6 * i) numbers → Ran (callIn run places these) these s h after r → now′ ≡ put now (6 * i) (six (r .answer))
+          → ToCome (rest i) i h (storeAt s) now → ToCome (rest (i + 1)) (i + 1) after (storeAt (r .session)) now′
+      turn lt known at-here l stored t = rw stored (ran _ (callAt i) (rest (i + 1)) known (rw at-here at l) (rw (next-rest i lt) at t))
 
-      pub stop : {these : List ℕ} → i < most → r .known ≡ false → these ≡ drop (6 * i) numbers → Ran (callIn run places these) h after r → ToCome (rest i) i h now → Came after now
-      stop lt known here l t = stopped (callAt i) (rest (i + 1)) known (rw here at l) (rw (next-rest i lt) at t)
+      pub stop : {s : Session} {these : List ℕ} → i < most → r .known ≡ false → these ≡ drop (6 * i) numbers → Ran (callIn run places these) these s h after r → ToCome (rest i) i h (storeAt s) now
+          → Came after (storeAt (r .session)) now
+      stop lt known at-here l t = stopped _ (callAt i) (rest (i + 1)) known (rw at-here at l) (rw (next-rest i lt) at t)
 
-    pub end : (i : ℕ) {h : Hand} {now : List ℕ} → most ≤ i → ToCome (rest i) i h now → Came h now
+    pub end : (i : ℕ) {h : Hand} {at now : List ℕ} → most ≤ i → ToCome (rest i) i h at now → Came h at now
     end i le t = ended i (no-rest i le) t
 
-    pub begin : ToCome (rest 0) 0 h₀ before
-    begin = rw whole (record { leaves = refl; says = refl })
+    pub begin : ToCome (rest 0) 0 h₀ at₀ before
+    begin = rw whole (record { leaves = refl; moves = refl; says = refl })
       where
         whole : most - 0 ≡ most
         whole = omega arith
 
--- what stands at the end is what all calls leave, and their answers are the ledger's
-pub replayed : (run places numbers : List ℕ) (room : ℕ) {most : ℕ} {h₀ h : Hand} {before now : List ℕ} → most ≡ mostCalls (length numbers) room → Bytes run
-    → Came run places numbers most h₀ before h now → Replayed (callsOf run places numbers room) h₀ h before now
-replayed run places numbers room {h₀ = h₀} {h = h} {before = before} {now = now} e bytes came =
-    subst (λ (m : ℕ). Replayed (callsFrom m run places numbers) h₀ h before now) e
-    (record { left = came .leaves; said = came .says; ledger = ledger-says run places bytes _ numbers h₀ })
+-- what stands at the end is what all calls leave, and they agree with the ledger
+pub replayed : (run places numbers : List ℕ) (room : ℕ) {most : ℕ} {s r : Session} {h₀ h : Hand} {before now : List ℕ} → most ≡ mostCalls (length numbers) room → Bytes run
+    → Came run places numbers most h₀ (storeAt s) before h (storeAt r) now → Replayed (callsOf run places numbers room) numbers s r h₀ h before now
+replayed run places numbers room {most} {s} {r} {h₀} {h} {before} {now} e bytes came =
+    let typed = typed-calls run places bytes most numbers in
+    subst (λ (m : ℕ). Replayed (callsFrom m run places numbers) numbers s r h₀ h before now) e
+    (record {
+      left = came .leaves;
+      placed = came .moves;
+      said = came .says;
+      typed = typed;
+      agreed = λ l sound stands. proved .lists .replayed l sound h₀ stands (callsFrom most run places numbers) typed;
+    })

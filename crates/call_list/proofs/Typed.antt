@@ -4,22 +4,18 @@ use Prim.Native.Nat.{ℕ, zero, suc}
 use mathlib.Core.List.{List}
 use mathlib.Core.Bool.{Bool, true, false, cond}
 use mathlib.Core.Option.{Option, none, some}
-use mathlib.Core.Path.{_≡_, ap}
 use native.Mathlib.Nat.{min-le-right}
 use lib.ListN.{getD, drop}
 use lib.Dec.{eqb}
 use Rattle.layout.specs.RowLaws.{Bytes}
 use Rattle.layout.proofs.At.{bytes-drop}
 use Rattle.layout.proofs.Front.{bytes-take}
-use Rattle.ledger.specs.declared.Mark.the-variants.{Fresh}
-use Rattle.ledger.specs.Call.{Call, Hand, lentOf}
+use Rattle.ledger.specs.Call.{Call}
 use Rattle.ledger.specs.Legal.{Typed}
-use Rattle.ledger.specs.Ledger.{nothing}
-use Rattle.ledger.specs.Replay.{answers, ledgerAnswers, AllTyped}
+use Rattle.ledger.specs.Replay.{AllTyped}
 use Rattle.ledger.specs.Proved.{HIGHEST}
-use Rattle.ledger.proofs.Proved.{proved}
 use Rattle.call_code.specs.Encoding as encoding
-use Rattle.call_code.specs.Encoding.{RESTORE, OPEN, COVER, CONTAINS, COVERS, TAKE, STATEMENT, WRITE, callIn, followedBy, callsFrom, numbersOf}
+use Rattle.call_code.specs.Encoding.{RESTORE, OPEN, COVER, CONTAINS, COVERS, TAKE, STATEMENT, WRITE, callIn, followedBy, callsFrom}
 
 abbrev TypedAs : Option Call → Type 0
 TypedAs none = Unit {0}
@@ -52,12 +48,7 @@ module _ (run places : List ℕ) (bytes : Bytes run) where
   followed none cs t ts = tt
   followed (some c) cs t ts = (t, ts)
 
-  typed-calls : (most : ℕ) (numbers : List ℕ) → AllTyped HIGHEST (callsFrom most run places numbers)
+  pub typed-calls : (most : ℕ) (numbers : List ℕ) → AllTyped HIGHEST (callsFrom most run places numbers)
   unfolding encoding.callsFrom
   typed-calls zero numbers = tt
   typed-calls (suc most) numbers = followed (callIn run places numbers) (callsFrom most run places (drop 6 numbers)) (typed-call numbers .is) (typed-calls most (drop 6 numbers))
-
-  -- so the answers are the ledger's
-  pub ledger-says : (most : ℕ) (numbers : List ℕ) (h : Hand) → h .mark ≡ Fresh
-      → numbersOf (answers HIGHEST (callsFrom most run places numbers) h) ≡ numbersOf (ledgerAnswers HIGHEST (callsFrom most run places numbers) (lentOf h) nothing)
-  ledger-says most numbers h fresh = ap numbersOf (proved .lists .replayed h fresh (callsFrom most run places numbers) (typed-calls most numbers))

@@ -48,7 +48,7 @@ pub fn replay(
     out: &mut [u8],
     answers: &mut [u64],
 ) -> Session
-    ensures { λ r. ⌜ Replayed (callsOf (now (run .entry)) (now (places .entry)) (now (calls .entry)) (length (now (answers .entry))))
+    ensures { λ r. ⌜ Replayed (callsOf (now (run .entry)) (now (places .entry)) (now (calls .entry)) (length (now (answers .entry)))) (now (calls .entry)) session r
         (handIn session (now (run .entry)) (now (places .entry)) (listsBefore chains skipped above unacked expired) (now (out .entry)))
         (handIn r (now (run .entry)) (now (places .entry)) (listsAfter chains skipped above unacked expired) (now (out .exit)))
         (now (answers .entry)) (now (answers .exit)) ⌝ }

@@ -9,7 +9,7 @@ use Rattle.store.specs.declared.Entry.{Entry}
 use Rattle.store.specs.Veiled.{VeilEqual, ContactAlike}
 use Rattle.ledger.specs.Call.{Answer, granted, advanced, truth, number, wrote, said, refused, refusedAt}
 use Rattle.ledger.specs.Ledger.{Open, Ledger, nothing, restored, opened, Account, plain, current}
-use Rattle.ledger.specs.Two.{RowsAlike}
+use Rattle.ledger.specs.Two.{RowsAlike, LedgersAlike}
 
 -- a row is written where the answer is a length
 abbrev pub OutputsAlike : Answer → (out out′ : List ℕ) → Type 0
@@ -43,24 +43,12 @@ no-row (refused q) e out out′ = tt
 no-row (refusedAt q i) e out out′ = tt
 
 module _ (N : ℕ) where
-  -- one contact is open in both: the same numbers sent and covered, fields alike outside veiled ones
-  pub record OpenAlike (o o′ : Open) : Type 0 where
-    pub id : o .id ≡ o′ .id
-    pub n : o .n ≡ o′ .n
-    pub S : o .S ≡ o′ .S
-    pub fields : ContactAlike (current N o) (current N o′)
-
-  pub data LedgersAlike : Ledger → Ledger → Type 0 where
-    nothings : LedgersAlike nothing nothing
-    restoreds : (run run′ : List ℕ) (es : List Entry) → VeilEqual run run′ es → LedgersAlike (restored run es) (restored run′ es)
-    openeds : (run run′ : List ℕ) (es : List Entry) (o o′ : Open) → VeilEqual run run′ es → OpenAlike o o′ → LedgersAlike (opened run es o) (opened run′ es o′)
-
   pub record AccountsAlike (a a′ : Account) : Type 0 where
     pub answer : a .answer ≡ a′ .answer
-    pub state : LedgersAlike (a .state) (a′ .state)
+    pub state : LedgersAlike N (a .state) (a′ .state)
     pub output : OutputsAlike (a .answer) (a .output) (a′ .output)
 
-  pub plain-alike : {a a′ : Answer} {l l′ : Ledger} → a ≡ a′ → isRow a ≡ false → LedgersAlike l l′ → AccountsAlike (plain a l) (plain a′ l′)
+  pub plain-alike : {a a′ : Answer} {l l′ : Ledger} → a ≡ a′ → isRow a ≡ false → LedgersAlike N l l′ → AccountsAlike (plain a l) (plain a′ l′)
   plain-alike {a = a} e r s = record { answer = e; state = s; output = no-row a r [] [] }
 
   pub cond-alike : (b : Bool) {a a′ x x′ : Account} → AccountsAlike a a′ → AccountsAlike x x′ → AccountsAlike (cond b a x) (cond b a′ x′)

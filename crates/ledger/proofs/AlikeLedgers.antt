@@ -12,8 +12,9 @@ use Rattle.ledger.specs.Step.{inOrder}
 use Rattle.ledger.specs.Ledger.{Open, Ledger, nothing, restored, opened, current, ledger}
 use Rattle.ledger.specs.Ledger as ledgers
 use Rattle.ledger.specs.Two.{CallsAlike, stores, same}
-use Rattle.ledger.proofs.Accounts.{OpenAlike, LedgersAlike, nothings, restoreds, openeds, AccountsAlike, plain-alike, cond-alike}
-use Rattle.ledger.proofs.Stands.{Sound, SoundLedger}
+use Rattle.ledger.specs.Two.{OpenAlike, LedgersAlike, nothings, restoreds, openeds}
+use Rattle.ledger.proofs.Accounts.{AccountsAlike, plain-alike, cond-alike}
+use Rattle.ledger.specs.Stands.{Sound, SoundLedger}
 use Rattle.ledger.proofs.AlikeStores.{veil-same, restore-alike, open-alike}
 use Rattle.ledger.proofs.AlikeCalls.{other, stay, asked-alike, cover-alike, take-alike, statement-alike, write-alike}
 

@@ -23,8 +23,9 @@ use Rattle.store.proofs.Proved.{store-laws}
 use Rattle.ledger.specs.Call.{restore, granted, refused, refusedAt, Lent}
 use Rattle.ledger.specs.Step.{contactIn}
 use Rattle.ledger.specs.Ledger.{Ledger, opened, plain, refuse, enough, restores, openOf, fills, finds, openIn, covered}
-use Rattle.ledger.proofs.Accounts.{LedgersAlike, restoreds, openeds, AccountsAlike, plain-alike, cond-alike}
-use Rattle.ledger.proofs.Stands.{SoundStore}
+use Rattle.ledger.specs.Two.{LedgersAlike, restoreds, openeds}
+use Rattle.ledger.proofs.Accounts.{AccountsAlike, plain-alike, cond-alike}
+use Rattle.ledger.specs.Stands.{SoundStore}
 use Rattle.ledger.proofs.Opening.{found-at, is-three, now}
 use Rattle.ledger.proofs.Alike.{sent-alike, covered-alike, enough-alike}
 

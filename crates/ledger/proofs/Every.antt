@@ -17,7 +17,8 @@ use Rattle.ledger.specs.Ledger.{Open, Ledger, nothing, restored, opened,
 use Rattle.ledger.specs.Ledger as ledgers
 use Rattle.ledger.specs.Legal.{Turn, Each, Typed, lastLeft, Legal}
 use Rattle.ledger.specs.Agree.{laidLists, AgreesAll}
-use Rattle.ledger.proofs.Stands.{SoundStore, Sound, SoundLedger, StandsFor, LastLeft, handed-stands}
+use Rattle.ledger.specs.Stands.{SoundStore, Sound, SoundLedger, StandsFor, LastLeft}
+use Rattle.ledger.proofs.Stands.{handed-stands}
 use Rattle.ledger.proofs.Good.{after, Next, Good, refuse-good, restore-good}
 use Rattle.ledger.proofs.Opening.{open-good}
 use Rattle.ledger.proofs.Asking.{hand, stands}

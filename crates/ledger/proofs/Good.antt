@@ -15,7 +15,7 @@ use Rattle.ledger.specs.Call.{Answer, isGranted, refused, refusedAt, Han
 use Rattle.ledger.specs.Step.{restoring}
 use Rattle.ledger.specs.Ledger.{Ledger, Account, plain, refuse, restores}
 use Rattle.ledger.specs.Agree.{standing, shown}
-use Rattle.ledger.proofs.Stands.{SoundLedger, StandsFor, LastLeft}
+use Rattle.ledger.specs.Stands.{SoundLedger, StandsFor, LastLeft}
 
 module _ (N : ℕ) where
   abbrev pub after : Account → Hand → Hand

@@ -28,6 +28,7 @@ use Rattle.contact.proofs.Counts.{Five, five}
 use Rattle.contact_laws.proofs.Back.{fits-of}
 use Rattle.ledger.specs.Step.{aboveAs}
 use Rattle.ledger.specs.Ledger.{withNumbers}
+use Rattle.ledger.specs.Stands.{Holds, HoldsAll}
 use Rattle.ledger.specs.Legal.{SameLists}
 use Rattle.ledger.specs.Agree.{laid, laidLists}
 
@@ -48,11 +49,6 @@ put-items a b items l room long e =
     (λ h. let m : min a b ≡ b = omega arith in
     let f : take b l ≡ take b items = rw m at e in
     rw (← f) (put-again b l room))
-
--- n items of w places each stand at the front of l
-pub record Holds (w n : ℕ) (items l : List ℕ) : Type 0 where
-  pub long : length items ≡ w * n
-  pub front : take (w * n) l ≡ items
 
 -- handed in again: w and the number m of whole items in the list are such that products are as they should be
 same-items : (w n m : ℕ) (items left lent : List ℕ) → w * min n m ≡ min (w * n) (w * m) → w * m ≤ length lent → Holds w n items left
@@ -83,14 +79,6 @@ long v valid =
       chains = chains-filled (v .chains) [] (k .chains .post) (k .chains .items) .long;
       skipped = skipped-filled (v .skipped) [] (k .skipped .post) (k .skipped .items) .long;
     }
-
--- the lists hold a contact's items
-pub record HoldsAll (v : Contact) (l : Lists) : Type 0 where
-  pub chains : Holds 51 (length (v .chains)) (printPlaces 51 (group chain) (v .chains)) (l .chains)
-  pub skipped : Holds 46 (length (v .skipped)) (printPlaces 46 (group skipped) (v .skipped)) (l .skipped)
-  pub above : Holds 2 (length (v .above)) (flat (v .above)) (l .above)
-  pub unacked : Holds 1 (length (v .unacked)) (v .unacked) (l .unacked)
-  pub expired : Holds 2 (length (v .expired)) (flat (v .expired)) (l .expired)
 
 -- other numbers, and the ranges of them in `above`
 pub holds-with : (v : Contact) (n : ℕ) (r : Received) (l : Lists) (above : List ℕ) → HoldsAll v l

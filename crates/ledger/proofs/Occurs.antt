@@ -17,8 +17,9 @@ use Rattle.ledger.specs.Step.{step}
 use Rattle.ledger.specs.Ledger.{Ledger, nothing, restored, opened, current, ledger}
 use Rattle.ledger.specs.Legal.{SameItems, SameLists, StoreAgain, FieldsAgain, Handed, lastLeft}
 use Rattle.ledger.specs.Wish.{Wish, WishesTyped, Served}
-use Rattle.ledger.proofs.Laid.{Holds, HoldsAll}
-use Rattle.ledger.proofs.Stands.{LastLeft, handed-stands}
+use Rattle.ledger.specs.Stands.{Holds, HoldsAll}
+use Rattle.ledger.specs.Stands.{LastLeft}
+use Rattle.ledger.proofs.Stands.{handed-stands}
 use Rattle.ledger.proofs.Every.{Kept, begun, call-good, kept-next}
 
 -- ---- a list of n places, with those of l as far as it goes

@@ -31,8 +31,10 @@ use Rattle.ledger.specs.Call.{granted, Hand, leaves, no, lentOf}
 use Rattle.ledger.specs.Step.{contactIn, filling, opening}
 use Rattle.ledger.specs.Ledger.{Ledger, opened, plain, refuse, openOf, fills, finds, openIn, current}
 use Rattle.ledger.specs.Agree.{laidLists}
-use Rattle.ledger.proofs.Laid.{HoldsAll, laid-filled, holds-filled}
-use Rattle.ledger.proofs.Stands.{SoundStore, Sound, StandsFor, LeftFields, current-open, records-open}
+use Rattle.ledger.specs.Stands.{HoldsAll}
+use Rattle.ledger.proofs.Laid.{laid-filled, holds-filled}
+use Rattle.ledger.specs.Stands.{SoundStore, Sound, StandsFor, LeftFields}
+use Rattle.ledger.proofs.Stands.{current-open, records-open}
 use Rattle.ledger.proofs.Good.{Good, refuse-good}
 
 -- ---- where the contact's entry stands
@@ -89,7 +91,7 @@ module _ (N : ℕ) (wide : 256 ^ 4 ≤ N + 1) (run : List ℕ) (es : List Entry)
       going = subst (λ (c : Contact). asked (openedIn run es k c) ≡ Going) (sym now) passes;
     }
 
-    left-fields : (h : Hand) → longEnough v (h .lists) ≡ true → (m : Mark) → LeftFields N (current N (openOf k v))
+    left-fields : (h : Hand) → longEnough v (h .lists) ≡ true → (m : Mark) → LeftFields (current N (openOf k v))
         (record { mark = m; run = run; entries = es; contact = contactOf (current N (openOf k v)); lists = laidLists (current N (openOf k v)) 0 (h .lists); out = h .out })
     left-fields h enough m = record {
       contact = refl;

@@ -12,7 +12,8 @@ use Rattle.ledger.proofs.Every.{every-list}
 use Rattle.ledger.proofs.Two.{two-runs}
 use Rattle.ledger.proofs.Occurs.{occurs}
 use Rattle.ledger.proofs.Stuck.{never-stuck}
-use Rattle.ledger.proofs.Replay.{replay-answers}
+use Rattle.ledger.proofs.Stands.{handed-stands}
+use Rattle.ledger.proofs.Replay.{fresh-stands, replayed, replay-answers, two-replays}
 use Rattle.ledger.proofs.Blank.{blanked-list}
 
 -- numbers of four bytes
@@ -23,7 +24,11 @@ laws N wide = record {
   occurs = occurs N wide;
   never-stuck = never-stuck N wide;
   blanked-list = blanked-list N wide;
-  replayed = λ h m cs t. replay-answers N wide cs h m t;
+  begins = fresh-stands N;
+  goes-on = handed-stands N;
+  replayed = λ l s h st cs t. replayed N wide cs t l s h st;
+  answered = λ h m cs t. replay-answers N wide cs h m t;
+  two-replays = λ l m ls s s′ h i st st′ e cs ds a t t′. two-replays N wide cs ds a t t′ l m ls s s′ h i st st′ e;
 }
 
 step-laws : (N : ℕ) → StepLaws N

@@ -37,7 +37,8 @@ use Rattle.ledger.specs.Ledger as ledgers
 use Rattle.ledger.specs.Legal.{Legal}
 use Rattle.ledger.specs.Replay.{replay, answers, left, ledgerAnswers, AllTyped}
 use Rattle.ledger.proofs.Bytes.{bytes-tested}
-use Rattle.ledger.proofs.Replay.{replay-legal, replay-answers}
+use Rattle.ledger.proofs.Again.{handed-again}
+use Rattle.ledger.proofs.Replay.{fresh-stands, replayed, replay-answers}
 
 abbrev pub N : ℕ
 N = 4294967295
@@ -212,7 +213,7 @@ typed : AllTyped N allEight
 typed = (run-bytes, (tt, (omega arith, (tt, (tt, (tt, (tt, (tt, tt))))))))
 
 sample-legal : Legal N (fresh pairs2 320) (replay N allEight (fresh pairs2 320))
-sample-legal = replay-legal N refl allEight (fresh pairs2 320) typed
+sample-legal = replayed N refl allEight typed nothing tt (fresh pairs2 320) (fresh-stands N (fresh pairs2 320) refl) .legal (fresh pairs2 320) (handed-again (fresh pairs2 320))
 
 sample-agrees : answers N allEight (fresh pairs2 320) ≡ ledgerAnswers N allEight (lent 4 320) nothing
 sample-agrees = replay-answers N refl allEight (fresh pairs2 320) refl typed

@@ -41,7 +41,7 @@ use Rattle.ledger.specs.Ledger.{Open, Ledger, nothing, restored, opened,
 use Rattle.ledger.specs.Legal.{Turn, Each, Typed, Legal}
 use Rattle.ledger.specs.Agree.{laidLists}
 use Rattle.ledger.specs.Stuck.{placesFor, Unstuck}
-use Rattle.ledger.proofs.Stands.{SoundStore, Sound, SoundLedger, StandsFor}
+use Rattle.ledger.specs.Stands.{SoundStore, Sound, SoundLedger, StandsFor}
 use Rattle.ledger.proofs.Opening.{found-at}
 use Rattle.ledger.proofs.Asking.{hand, passes-is}
 use Rattle.ledger.proofs.Every.{each-turn, begun}

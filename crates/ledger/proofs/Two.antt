@@ -14,13 +14,15 @@ use Rattle.ledger.specs.Step.{step}
 use Rattle.ledger.specs.Ledger.{Open, Ledger, nothing, restored, opened, Account, current, ledger}
 use Rattle.ledger.specs.Legal.{Turn, Legal}
 use Rattle.ledger.specs.Agree.{standing, shown}
-use Rattle.ledger.specs.Two.{Paired, RowsAlike, WrittenAlike, FieldsOf, OpenedAlike, AlikeAll}
+use Rattle.ledger.specs.Two.{CallsAlike, Paired, RowsAlike, WrittenAlike, FieldsOf, OpenedAlike, LeftsAlike, AlikeAll}
 use Rattle.ledger.proofs.Again.{handed-again}
-use Rattle.ledger.proofs.Stands.{StandsFor, handed-stands}
+use Rattle.ledger.specs.Stands.{SoundLedger, StandsFor}
+use Rattle.ledger.proofs.Stands.{handed-stands}
 use Rattle.ledger.proofs.Good.{after, Next, Good}
 use Rattle.ledger.proofs.Refused.{step-keeps}
 use Rattle.ledger.proofs.Every.{Kept, begun, call-good, kept-next}
-use Rattle.ledger.proofs.Accounts.{OutputsAlike, LedgersAlike, nothings, restoreds, openeds, AccountsAlike}
+use Rattle.ledger.specs.Two.{LedgersAlike, nothings, restoreds, openeds}
+use Rattle.ledger.proofs.Accounts.{OutputsAlike, AccountsAlike}
 use Rattle.ledger.proofs.AlikeLedgers.{ledger-alike}
 
 -- ---- what was written stands at the front of the output
@@ -37,7 +39,7 @@ written (refusedAt q i) row row′ out out′ h = tt
 
 module _ (N : ℕ) (wide : N + 1 ≡ 256 ^ 4) where
   -- what stands after a call stands for the ledger's next state
-  after-stands : (c : Call) (l : Ledger) (h : Hand) (a : Account) → StandsFor N l h → Good N l h (step N c h) a → StandsFor N (a .state) (step N c h .after)
+  pub after-stands : (c : Call) (l : Ledger) (h : Hand) (a : Account) → StandsFor N l h → Good N l h (step N c h) a → StandsFor N (a .state) (step N c h .after)
   after-stands c l h a st good = go (isGranted (a .answer)) refl (good .next)
     where
       go : (b : Bool) → isGranted (a .answer) ≡ b → Next N b l h a → StandsFor N (a .state) (step N c h .after)
@@ -84,6 +86,24 @@ module _ (N : ℕ) (wide : N + 1 ≡ 256 ^ 4) where
       shown-alike (opened run es o) (restored run′ es′) = rows
       shown-alike (opened run es o) (opened run′ es′ o′) = rows
 
+  -- ---- one turn of both: the calls agree with ledgers that are alike
+  pub turns-alike : (c d : Call) (h i : Hand) (l m : Ledger) (a b : Account) → StandsFor N l h → StandsFor N m i → Good N l h (step N c h) a → Good N m i (step N d i) b → AccountsAlike N a b
+      → LeftsAlike (step N c h) (step N d i)
+  turns-alike c d h i l m a b st st′ good good′ accounts =
+      let after = after-stands c l h a st good in
+      let after′ = after-stands d m i b st′ good′ in
+      record {
+        answer = ap (λ (x : Left). x .answer) (good .agrees) ∙ accounts .answer ∙ sym (ap (λ (x : Left). x .answer) (good′ .agrees));
+        mark = marks-alike _ _ (accounts .state) _ _ after after′;
+        fields = fields-alike _ _ (accounts .state) _ _ after after′;
+        written = outs-alike a b accounts h i _ _ (good .agrees) (good′ .agrees);
+      }
+
+  pub accounts-alike : (c d : Call) → CallsAlike c d → (h i : Hand) → lentOf h ≡ lentOf i → (l m : Ledger) → LedgersAlike N l m → SoundLedger N l → SoundLedger N m
+      → AccountsAlike N (ledger N c (lentOf h) l) (ledger N d (lentOf i) m)
+  accounts-alike c d alike h i e l m ls s s′ =
+      subst (λ (x : Lent). AccountsAlike N (ledger N c (lentOf h) l) (ledger N d x m)) e (ledger-alike N wide c d alike (lentOf h) l m ls s s′)
+
   -- ---- the lists
   all-alike : (ts us : List Turn) → Paired ts us → (l l′ : Ledger) (g g′ : Hand) → Kept N wide l g → Kept N wide l′ g′ → Legal N g ts → Legal N g′ us → LedgersAlike N l l′ → AlikeAll N ts us
   all-alike [] [] p l l′ g g′ k k′ legal legal′ a = tt
@@ -94,17 +114,8 @@ module _ (N : ℕ) (wide : N + 1 ≡ 256 ^ 4) where
       let stands′ = handed-stands N l′ g′ (u .hand) (k′ .left) (legal′ .1) in
       let good = call-good N wide (t .call) (legal .0) l (k .sound) (t .hand) stands in
       let good′ = call-good N wide (u .call) (legal′ .0) l′ (k′ .sound) (u .hand) stands′ in
-      let accounts : AccountsAlike N (ledger N (t .call) (lentOf (t .hand)) l) (ledger N (u .call) (lentOf (u .hand)) l′) =
-      subst (λ (x : Lent). AccountsAlike N (ledger N (t .call) (lentOf (t .hand)) l) (ledger N (u .call) x l′)) (p .1)
-      (ledger-alike N wide (t .call) (u .call) (p .0) (lentOf (t .hand)) l l′ a (k .sound) (k′ .sound)) in
-      let after = after-stands (t .call) l (t .hand) _ stands good in
-      let after′ = after-stands (u .call) l′ (u .hand) _ stands′ good′ in (
-        record {
-          answer = ap (λ (x : Left). x .answer) (good .agrees) ∙ accounts .answer ∙ sym (ap (λ (x : Left). x .answer) (good′ .agrees));
-          mark = marks-alike _ _ (accounts .state) _ _ after after′;
-          fields = fields-alike _ _ (accounts .state) _ _ after after′;
-          written = outs-alike _ _ accounts (t .hand) (u .hand) _ _ (good .agrees) (good′ .agrees);
-        },
+      let accounts = accounts-alike (t .call) (u .call) (p .0) (t .hand) (u .hand) (p .1) l l′ a (k .sound) (k′ .sound) in (
+        turns-alike (t .call) (u .call) (t .hand) (u .hand) l l′ _ _ stands stands′ good good′ accounts,
         all-alike ts us (p .2) _ _ _ _ (kept-next N wide l g (t .hand) _ _ k good) (kept-next N wide l′ g′ (u .hand) _ _ k′ good′) (legal .2) (legal′ .2) (accounts .state),
       )
 

@@ -4,9 +4,10 @@ pub mod Ledger
 pub mod Aside
 pub mod Legal
 pub mod Agree
-pub mod Replay
+pub mod Stands
 pub mod Stuck
 pub mod Wish
 pub mod Two
+pub mod Replay
 pub mod Blank
 pub mod Proved

@@ -11,11 +11,12 @@ use Rattle.ledger.specs.Call.{Call, restore, isGranted, hasOutput, Hand,
 use Rattle.line.specs.Line.{DecimalLaws}
 use Rattle.ledger.specs.Step.{output, passes, step}
 use Rattle.ledger.specs.Aside.{passesInParts}
-use Rattle.ledger.specs.Ledger.{nothing}
-use Rattle.ledger.specs.Legal.{Turn, Each, Legal}
+use Rattle.ledger.specs.Ledger.{Ledger, nothing}
+use Rattle.ledger.specs.Legal.{Turn, Each, Handed, Legal}
 use Rattle.ledger.specs.Agree.{AgreesAll}
-use Rattle.ledger.specs.Replay.{answers, ledgerAnswers, AllTyped}
-use Rattle.ledger.specs.Two.{Paired, AlikeAll}
+use Rattle.ledger.specs.Stands.{SoundLedger, StandsFor, LastLeft}
+use Rattle.ledger.specs.Two.{Paired, AlikeAll, LedgersAlike}
+use Rattle.ledger.specs.Replay.{answers, ledgerAnswers, AllAlike, AllTyped, Agreed, AgreedAlike}
 use Rattle.ledger.specs.Wish.{Wish, WishesTyped, Served}
 use Rattle.ledger.specs.Stuck.{Unstuck}
 use Rattle.ledger.specs.Blank.{Blankable, Blanks}
@@ -39,8 +40,16 @@ pub record LedgerLaws (N : ℕ) : Type 0 where
   pub never-stuck : (g : Hand) → g .mark ≡ Fresh → (ts : List Turn) → Legal N g ts → Each (Unstuck N) ts
   -- the same calls on blanked stores can be made, and give every answer that the list gave
   pub blanked-list : (g : Hand) → g .mark ≡ Fresh → (ts : List Turn) → Legal N g ts → Each (λ t. Blankable (t .call)) ts → Blanks N g ts
-  -- calls one after the other in the same memory are a legal list, and answer as the ledger does
-  pub replayed : (h : Hand) → h .mark ≡ Fresh → (cs : List Call) → AllTyped N cs → answers N cs h ≡ ledgerAnswers N cs (lentOf h) nothing
+  -- memory stands for the empty ledger while nothing is restored, and for the next state if it is handed as much as is lent of what was left last
+  pub begins : (h : Hand) → h .mark ≡ Fresh → StandsFor N nothing h
+  pub goes-on : (l : Ledger) (g h : Hand) → LastLeft N l g → Handed g h → StandsFor N l h
+  -- calls one after the other in memory that stands for a sound state agree with the ledger, and so may the next list
+  pub replayed : (l : Ledger) → SoundLedger N l → (h : Hand) → StandsFor N l h → (cs : List Call) → AllTyped N cs → Agreed N l cs h
+  -- so they answer as it does
+  pub answered : (h : Hand) → h .mark ≡ Fresh → (cs : List Call) → AllTyped N cs → answers N cs h ≡ ledgerAnswers N cs (lentOf h) nothing
+  -- two runs of such a list, with the same lent lengths, on stores that differ only in veiled bytes
+  pub two-replays : (l m : Ledger) → LedgersAlike N l m → SoundLedger N l → SoundLedger N m → (h i : Hand) → StandsFor N l h → StandsFor N m i → lentOf h ≡ lentOf i
+      → (cs ds : List Call) → AllAlike cs ds → AllTyped N cs → AllTyped N ds → AgreedAlike N l m cs ds h i
 
 -- ---- of each call
 pub record StepLaws (N : ℕ) : Type 0 where

@@ -14,6 +14,7 @@ use Rattle.store.specs.Veiled.{VeilEqual, ContactAlike}
 use Rattle.ledger.specs.declared.Mark.{Mark}
 use Rattle.ledger.specs.declared.Mark.the-variants.{Fresh, Restored, Opened}
 use Rattle.ledger.specs.Call.{Call, restore, Answer, granted, advanced, truth, number, wrote, said, refused, refusedAt, Hand, Left, lentOf}
+use Rattle.ledger.specs.Ledger.{Open, Ledger, nothing, restored, opened, current}
 use Rattle.ledger.specs.Legal.{Turn, made}
 use Rattle.ledger.specs.Agree.{laidLists}
 
@@ -76,3 +77,16 @@ module _ (N : ℕ) where
   AlikeAll [] (u ∷ us) = ⊥
   AlikeAll (t ∷ ts) [] = ⊥
   AlikeAll (t ∷ ts) (u ∷ us) = LeftsAlike (made N t) (made N u) × AlikeAll ts us
+
+  -- ---- the ledgers of two such runs: the same store but for veiled bytes
+  -- one contact is open in both: the same numbers sent and covered, fields alike outside veiled ones
+  pub record OpenAlike (o o′ : Open) : Type 0 where
+    pub id : o .id ≡ o′ .id
+    pub n : o .n ≡ o′ .n
+    pub S : o .S ≡ o′ .S
+    pub fields : ContactAlike (current N o) (current N o′)
+
+  pub data LedgersAlike : Ledger → Ledger → Type 0 where
+    nothings : LedgersAlike nothing nothing
+    restoreds : (run run′ : List ℕ) (es : List Entry) → VeilEqual run run′ es → LedgersAlike (restored run es) (restored run′ es)
+    openeds : (run run′ : List ℕ) (es : List Entry) (o o′ : Open) → VeilEqual run run′ es → OpenAlike o o′ → LedgersAlike (opened run es o) (opened run′ es o′)

@@ -30,7 +30,8 @@ use Rattle.ledger.specs.Ledger as ledgers
 use Rattle.ledger.specs.Replay.{answers, ledgerAnswers, AllTyped}
 use Rattle.ledger.specs.Proved.{HIGHEST}
 use Rattle.ledger.proofs.Numbers.{known}
-use Rattle.ledger.proofs.Stands.{SoundStore, Sound, open-covered, records-open}
+use Rattle.ledger.specs.Stands.{SoundStore, Sound}
+use Rattle.ledger.proofs.Stands.{open-covered, records-open}
 use Rattle.ledger.proofs.Good.{Next}
 use Rattle.ledger.proofs.Opening.{valid, now, open-good}
 use Rattle.ledger.proofs.Asking.{passes-now}
@@ -163,4 +164,4 @@ module _ (run : List ℕ) (es : List Entry) (by : Bytes run) (h : Hand) where
 pub lines-said : (run : List ℕ) (es : List Entry) (f : Found) → Bytes run → store.restore (storeOf run es) ≡ store.granted f
     → (h : Hand) → h .mark ≡ Fresh → LentEnough es (lentOf h) (f .contacts) → answers HIGHEST (restore run es ∷ callsOn (f .contacts)) h ≡ granted ∷ linesOf es (f .contacts)
 lines-said run es f by e h m long =
-    proved .lists .replayed h m (restore run es ∷ callsOn (f .contacts)) (by, all-typed (f .contacts)) ∙ ledger-says run es by h f e long
+    proved .lists .answered h m (restore run es ∷ callsOn (f .contacts)) (by, all-typed (f .contacts)) ∙ ledger-says run es by h f e long

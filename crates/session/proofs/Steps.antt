@@ -1,26 +1,30 @@
 -- What a call's parts leave, together: the call's step, of the session and the lent memory as they are.
 -- Assumes nothing.
 use Prim.Native.Nat.{ℕ}
-use mathlib.Core.List.{List}
-use mathlib.Core.Option.{Option}
-use mathlib.Core.Path.{_≡_, refl, sym, ap, ap₂, _∙_, subst}
+use mathlib.Core.List.{List, [], _∷_}
+use mathlib.Core.Bool.{cond}
+use mathlib.Core.Option.{Option, some}
+use mathlib.Core.Path.{_≡_, refl, sym, ap, ap₂, _∙_, subst, subst₂}
+use lib.ListN.{getD}
 use Rattle.contact.specs.declared.Contact.{Contact}
 use Rattle.contact.specs.Contact.{Lists}
 use Rattle.store.specs.declared.Entry.{Entry}
 use Rattle.ledger.specs.declared.Mark.{Mark}
-use Rattle.ledger.specs.Call.{Call, restore, Answer, Hand, Left, leaves}
+use Rattle.ledger.specs.Call.{Call, restore, Answer, isGranted, Hand, Left, leaves}
 use Rattle.ledger.specs.Step.{step}
 use Rattle.ledger.specs.Proved.{HIGHEST}
-use Rattle.dispatch.specs.Dispatch.{handOf}
+use Rattle.dispatch.specs.declared.Call.{Call as Made}
+use Rattle.dispatch.specs.declared.Call.the-variants as made
+use Rattle.dispatch.specs.Dispatch.{callOf, handOf}
 use Rattle.calls.specs.Calls.{leftBy, restoredOn}
 use Rattle.calls.specs.declared.RestoreLeft.{RestoreLeft}
 use Rattle.call_code.specs.declared.Numbers.{Numbers}
 use Rattle.call_code.specs.declared.Decoded.{Decoded}
 use Rattle.call_code.specs.Encoding.{runAt, entriesAt, sixOf}
-use Rattle.call_code.specs.Coded.{six, decodedAs}
+use Rattle.call_code.specs.Coded.{six, restoreIn, decodedAs}
 use Rattle.session.specs.declared.Session.{Session}
 use Rattle.session.specs.declared.CallLeft.{CallLeft}
-use Rattle.session.specs.Session.{handIn, nextOf, LeftAs, Ran}
+use Rattle.session.specs.Session.{handIn, storeAt, movedBy, nextOf, LeftAs, Ran}
 
 module _ (s : Session) (run places : List ℕ) where
   abbrev itsRun : List ℕ
@@ -31,10 +35,10 @@ module _ (s : Session) (run places : List ℕ) where
 
   -- the session with another mark and other fields
   next-left : {x : Left} {answer : Answer} {m : Mark} {c : Contact} {a : Numbers} {r : CallLeft} (l : Lists) (out : List ℕ)
-      → leaves answer (handOf m itsRun itsEntries c l out) ≡ x → six a ≡ sixOf answer → r ≡ nextOf s m c a → LeftAs x (handIn (r .session) run places l out) r
+      → leaves answer (handOf m itsRun itsEntries c l out) ≡ x → six a ≡ sixOf answer → r ≡ nextOf s m c a → LeftAs x (storeAt s) (handIn (r .session) run places l out) r
   next-left {x} l out is says next =
-      subst (λ (r : CallLeft). LeftAs x (handIn (r .session) run places l out) r) (sym next)
-      (record { known = refl; stands = ap (λ y. y .after) is; said = says ∙ ap (λ y. sixOf (y .answer)) is })
+      subst (λ (r : CallLeft). LeftAs x (storeAt s) (handIn (r .session) run places l out) r) (sym next)
+      (record { known = refl; stands = ap (λ y. y .after) is; said = says ∙ ap (λ y. sixOf (y .answer)) is; placed = refl })
 
   -- ---- a call that was made on the session's store, found in the lent run and places
   module _ {p : List ℕ} {t : List Entry} (in-run : p ≡ itsRun) (in-places : t ≡ itsEntries) where
@@ -49,27 +53,45 @@ module _ (s : Session) (run places : List ℕ) where
     pub step-left : (call : Call) {answer : Answer} {m : Mark} {c : Contact} {a : Numbers} {r : CallLeft} {l′ : Lists} {out′ : List ℕ} (l : Lists) (out : List ℕ)
         → leaves answer (handOf m p t c l′ out′) ≡ step HIGHEST call (handOf (s .mark) p t (s .contact) l out)
         → six a ≡ sixOf answer → r ≡ nextOf s m c a
-        → LeftAs (step HIGHEST call (handIn s run places l out)) (handIn (r .session) run places l′ out′) r
+        → LeftAs (step HIGHEST call (handIn s run places l out)) (storeAt s) (handIn (r .session) run places l′ out′) r
     step-left call {l′ = l′} {out′ = out′} l out is says next = next-left l′ out′ (on-its-store call l out is) says next
 
 -- ---- restore
-module _ (run places : List ℕ) where
-  pub restore-left : (left : RestoreLeft) {start len first n a b c d : ℕ} {p : List ℕ} {t : List Entry} {r : CallLeft} (h after : Hand)
-      → start ≡ a → len ≡ b → first ≡ c → n ≡ d → p ≡ runAt start len run → t ≡ entriesAt first n places
+module _ (s : Session) (run places numbers : List ℕ) where
+  pub restore-ran : (left : RestoreLeft) {start len first n : ℕ} {p : List ℕ} {t : List Entry} {r : CallLeft} (h after : Hand)
+      → start ≡ getD numbers 1 0 → len ≡ getD numbers 2 0 → first ≡ getD numbers 3 0 → n ≡ getD numbers 4 0 → p ≡ runAt start len run → t ≡ entriesAt first n places
       → restoredOn left p t h ≡ step HIGHEST (restore p t) h
-      → LeftAs (leftBy (left .answer) (left .mark) (runAt start len run) (entriesAt first n places) h) after r
-      → LeftAs (step HIGHEST (restore (runAt a b run) (entriesAt c d places)) h) after r
-  restore-left left {r = r} h after at-a at-b at-c at-d in-run in-places is its =
-      subst (λ (x : Left). LeftAs x after r)
-      (sym (ap₂ (λ (x : List ℕ) (es : List Entry). restoredOn left x es h) in-run in-places)
-      ∙ is
-      ∙ ap₂ (λ (x : List ℕ) (es : List Entry). step HIGHEST (restore x es) h)
-      (in-run ∙ ap₂ (λ (x y : ℕ). runAt x y run) at-a at-b)
-      (in-places ∙ ap₂ (λ (x y : ℕ). entriesAt x y places) at-c at-d))
-      its
+      → (let x = leftBy (left .answer) (left .mark) (runAt start len run) (entriesAt first n places) h in
+      LeftAs x (cond (isGranted (x .answer)) (start ∷ len ∷ first ∷ n ∷ []) (storeAt s)) after r)
+      → Ran (some (restoreIn run places numbers)) numbers s h after r
+  restore-ran left {start} {len} {first} {n} {r = r} h after at-a at-b at-c at-d in-run in-places is its = record {
+    is = subst₂ (λ (x : Left) (at : List ℕ). LeftAs x (cond (isGranted (x .answer)) at (storeAt s)) after r)
+        (sym (ap₂ (λ (x : List ℕ) (es : List Entry). restoredOn left x es h) in-run in-places)
+        ∙ is
+        ∙ ap₂ (λ (x : List ℕ) (es : List Entry). step HIGHEST (restore x es) h)
+        (in-run ∙ ap₂ (λ (x y : ℕ). runAt x y run) at-a at-b)
+        (in-places ∙ ap₂ (λ (x y : ℕ). entriesAt x y places) at-c at-d))
+        (λ j. at-a j ∷ at-b j ∷ at-c j ∷ at-d j ∷ [])
+        its;
+  }
 
 -- ---- the call that was decoded
-pub decoded-ran : (run places numbers : List ℕ) {d k : Decoded} {y : Option Call} {h after : Hand} {r : CallLeft} → d ≡ k → decodedAs d run places numbers ≡ y
-    → Ran (decodedAs k run places numbers) h after r → Ran y h after r
-decoded-ran run places numbers {h = h} {after = after} {r = r} is says ran =
-    subst (λ (z : Option Call). Ran z h after r) (ap (λ (x : Decoded). decodedAs x run places numbers) (sym is) ∙ says) ran
+-- no decoded call but restore moves the store
+stays : (c : Made) (a : Answer) (numbers at : List ℕ) → movedBy (callOf c) a numbers at ≡ at
+stays (made.Open id) a numbers at = refl
+stays (made.Cover f t) a numbers at = refl
+stays (made.Contains m) a numbers at = refl
+stays (made.Covers f t) a numbers at = refl
+stays made.Take a numbers at = refl
+stays made.Statement a numbers at = refl
+stays made.Write a numbers at = refl
+
+pub step-ran : (c : Made) (numbers : List ℕ) (s : Session) {h after : Hand} {r : CallLeft} → LeftAs (step HIGHEST (callOf c) h) (storeAt s) after r → Ran (some (callOf c)) numbers s h after r
+step-ran c numbers s {h} {after} {r} its = record {
+  is = subst (λ (at : List ℕ). LeftAs (step HIGHEST (callOf c) h) at after r) (sym (stays c (step HIGHEST (callOf c) h .answer) numbers (storeAt s))) its;
+}
+
+pub decoded-ran : (run places numbers : List ℕ) {s : Session} {d k : Decoded} {y : Option Call} {h after : Hand} {r : CallLeft} → d ≡ k → decodedAs d run places numbers ≡ y
+    → Ran (decodedAs k run places numbers) numbers s h after r → Ran y numbers s h after r
+decoded-ran run places numbers {s = s} {h = h} {after = after} {r = r} is says ran =
+    subst (λ (z : Option Call). Ran z numbers s h after r) (ap (λ (x : Decoded). decodedAs x run places numbers) (sym is) ∙ says) ran

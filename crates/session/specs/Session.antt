@@ -1,15 +1,16 @@
 -- What a session and the lent memory hand to a call, and what one encoded call leaves.
 -- Assumes nothing.
 use Prim.Native.Nat.{ℕ}
-use mathlib.Core.List.{List}
-use mathlib.Core.Bool.{true, false}
+use mathlib.Core.List.{List, [], _∷_}
+use mathlib.Core.Bool.{true, false, cond}
 use mathlib.Core.Option.{Option, none, some}
 use mathlib.Core.Path.{_≡_}
+use lib.ListN.{getD}
 use Rattle.contact.specs.declared.Contact.{Contact}
 use Rattle.contact.specs.Contact.{Lists, zeroContact}
 use Rattle.ledger.specs.declared.Mark.{Mark}
 use Rattle.ledger.specs.declared.Mark.the-variants.{Fresh}
-use Rattle.ledger.specs.Call.{Call, Hand, Left}
+use Rattle.ledger.specs.Call.{Call, restore, opens, cover, contains, covers, take, statement, write, Answer, isGranted, Hand, Left}
 use Rattle.ledger.specs.Step.{step}
 use Rattle.ledger.specs.Proved.{HIGHEST}
 use Rattle.dispatch.specs.Dispatch.{handOf}
@@ -26,12 +27,28 @@ begun = record { contact = zeroContact; mark = Fresh; start = 0; len = 0; first 
 abbrev pub handIn : Session → (run places : List ℕ) → Lists → (out : List ℕ) → Hand
 handIn s run places l out = handOf (s .mark) (runAt (s .start) (s .len) run) (entriesAt (s .first) (s .n) places) (s .contact) l out
 
+-- ---- where the store stands: so many bytes of the lent run from a place on, and so many entries of the lent places from an entry on
+abbrev pub storeAt : Session → List ℕ
+storeAt s = s .start ∷ s .len ∷ s .first ∷ s .n ∷ []
+
+-- behind a granted restore it stands where the call's numbers say, behind any other call where it stood
+abbrev pub movedBy : Call → Answer → (numbers at : List ℕ) → List ℕ
+movedBy (restore run es) a numbers at = cond (isGranted a) (getD numbers 1 0 ∷ getD numbers 2 0 ∷ getD numbers 3 0 ∷ getD numbers 4 0 ∷ []) at
+movedBy (opens k) a numbers at = at
+movedBy (cover f t) a numbers at = at
+movedBy (contains m) a numbers at = at
+movedBy (covers f t) a numbers at = at
+movedBy take a numbers at = at
+movedBy statement a numbers at = at
+movedBy write a numbers at = at
+
 -- ---- one call
--- what is left is this: `after` stands where something was handed in, and the answer is its numbers
-pub record LeftAs (l : Left) (after : Hand) (r : CallLeft) : Type 0 where
+-- what is left is this: `after` stands where something was handed in, the answer is its numbers, and the store stands there
+pub record LeftAs (l : Left) (at : List ℕ) (after : Hand) (r : CallLeft) : Type 0 where
   pub known : r .known ≡ true
   pub stands : after ≡ l .after
   pub said : six (r .answer) ≡ sixOf (l .answer)
+  pub placed : storeAt (r .session) ≡ at
 
 abbrev pub nextOf : Session → Mark → Contact → Numbers → CallLeft
 nextOf s m c a = record { session = record { contact = c; mark = m; start = s .start; len = s .len; first = s .first; n = s .n }; known = true; answer = a }
@@ -40,9 +57,9 @@ abbrev pub unknownOf : Session → CallLeft
 unknownOf s = record { session = s; known = false; answer = numbersAs YES 0 0 }
 
 -- numbers that are no call change nothing, and have no answer
-abbrev pub LeftBy : Option Call → (h after : Hand) → CallLeft → Type 0
-LeftBy none h after r = (r .known ≡ false) × (r .answer ≡ numbersAs YES 0 0) × (after ≡ h)
-LeftBy (some c) h after r = LeftAs (step HIGHEST c h) after r
+abbrev pub LeftBy : Option Call → (numbers : List ℕ) → Session → (h after : Hand) → CallLeft → Type 0
+LeftBy none numbers s h after r = (r ≡ unknownOf s) × (after ≡ h)
+LeftBy (some c) numbers s h after r = let l = step HIGHEST c h in LeftAs l (movedBy c (l .answer) numbers (storeAt s)) after r
 
-pub record Ran (call : Option Call) (h after : Hand) (r : CallLeft) : Type 0 where
-  pub is : LeftBy call h after r
+pub record Ran (call : Option Call) (numbers : List ℕ) (s : Session) (h after : Hand) (r : CallLeft) : Type 0 where
+  pub is : LeftBy call numbers s h after r

@@ -15,17 +15,20 @@ use rows::PairingRole;
 use rows::Verification;
 use sheet::PLACE;
 ghost use mathlib.Core.Path.{_≡_};
-ghost use mathlib.Core.List.{List};
+ghost use mathlib.Core.List.{List, [], _∷_};
+ghost use mathlib.Core.Bool.{cond};
+ghost use mathlib.Core.Option.{some};
 ghost use Prim.Native.Nat.{ℕ, _*_};
 ghost use lib.ListN.{drop};
 ghost use Rattle.contact.specs.Contact.{Lists, listsBefore, listsAfter, zeroContact};
+ghost use Rattle.ledger.specs.Call.{isGranted};
 ghost use Rattle.ledger.specs.Step.{step};
 ghost use Rattle.ledger.specs.Proved.{HIGHEST};
 ghost use Rattle.dispatch.specs.Dispatch.{callOf};
 ghost use Rattle.calls.specs.Calls.{leftBy};
 ghost use Rattle.call_code.specs.Encoding.{runAt, entriesAt, callIn};
 ghost use Rattle.call_code.specs.Coded.{restoreIn};
-ghost use Rattle.session.specs.Session.{begun, handIn, nextOf, unknownOf, LeftAs, Ran};
+ghost use Rattle.session.specs.Session.{begun, handIn, storeAt, nextOf, unknownOf, LeftAs, Ran};
 
 // Between calls: the mark, the opened fields, and where the store of the last granted restore stands: len bytes of the lent run from start on, and n
 // entries of the lent places from the first-th on.
@@ -151,8 +154,8 @@ fn restored(
     first: usize,
     n: usize,
 ) -> CallLeft
-    ensures { λ r. ⌜ ((run places : List ℕ) (l : Lists) (out : List ℕ) → LeftAs (leftBy (left .answer) (left .mark) (runAt start len run) (entriesAt first n places) (handIn session run places l out))
-        (handIn (r .session) run places l out) r) ⌝ }
+    ensures { λ r. ⌜ ((run places : List ℕ) (l : Lists) (out : List ℕ) → (let x = leftBy (left .answer) (left .mark) (runAt start len run) (entriesAt first n places) (handIn session run places l out) in
+        LeftAs x (cond (isGranted (x .answer)) (start ∷ len ∷ first ∷ n ∷ []) (storeAt session)) (handIn (r .session) run places l out) r)) ⌝ }
 {
     let contact = session.contact;
     let mark = left.mark;
@@ -177,8 +180,8 @@ fn restored(
 }
 
 fn restore(session: Session, run: &[u8], places: &[u64], six: &[u64]) -> CallLeft
-    ensures { λ r. ⌜ ((l : Lists) (out : List ℕ) → LeftAs (step HIGHEST (restoreIn (now (run .entry)) (now (places .entry)) (now (six .entry))) (handIn session (now (run .entry)) (now (places .entry)) l out))
-        (handIn (r .session) (now (run .entry)) (now (places .entry)) l out) r) ⌝ }
+    ensures { λ r. ⌜ ((l : Lists) (out : List ℕ) → Ran (some (restoreIn (now (run .entry)) (now (places .entry)) (now (six .entry)))) (now (six .entry)) session
+        (handIn session (now (run .entry)) (now (places .entry)) l out) (handIn (r .session) (now (run .entry)) (now (places .entry)) l out) r) ⌝ }
 {
     let start = table::number_at(six, 1) as usize;
     let len = table::number_at(six, 2) as usize;
@@ -202,7 +205,7 @@ fn step(
     expired: &mut [u32],
     out: &mut [u8],
 ) -> CallLeft
-    ensures { λ r. ⌜ LeftAs (step HIGHEST (callOf call) (handIn session (now (run .entry)) (now (places .entry)) (listsBefore chains skipped above unacked expired) (now (out .entry))))
+    ensures { λ r. ⌜ LeftAs (step HIGHEST (callOf call) (handIn session (now (run .entry)) (now (places .entry)) (listsBefore chains skipped above unacked expired) (now (out .entry)))) (storeAt session)
         (handIn (r .session) (now (run .entry)) (now (places .entry)) (listsAfter chains skipped above unacked expired) (now (out .exit))) r ⌝ }
 {
     let mark = session.mark;
@@ -256,7 +259,7 @@ pub fn one(
     expired: &mut [u32],
     out: &mut [u8],
 ) -> CallLeft
-    ensures { λ r. ⌜ Ran (callIn (now (run .entry)) (now (places .entry)) (now (six .entry)))
+    ensures { λ r. ⌜ Ran (callIn (now (run .entry)) (now (places .entry)) (now (six .entry))) (now (six .entry)) session
         (handIn session (now (run .entry)) (now (places .entry)) (listsBefore chains skipped above unacked expired) (now (out .entry)))
         (handIn (r .session) (now (run .entry)) (now (places .entry)) (listsAfter chains skipped above unacked expired) (now (out .exit))) r ⌝ }
 {

@@ -10,7 +10,7 @@ use borrow.Author.Needs.{needs}
 use Rattle.layout.specs.RowLaws.{Bytes}
 use Rattle.layout.proofs.At.{typed}
 use Rattle.contact.specs.Contact.{lists}
-use Rattle.session.specs.Session.{handIn}
+use Rattle.session.specs.Session.{handIn, storeAt}
 use Rattle.session.proofs.Store.{whole-behind}
 use Rattle.call_list.proofs.Turns.{rest, ToCome, begin, turn, stop, end, replayed}
 use Rattle.call_list.proofs.replay.Statement.{statement}
@@ -21,8 +21,8 @@ Inv-loop run places calls chains₀ skipped₀ above₀ unacked₀ expired₀ ou
     (i ≤ most)
     × (6 * most ≤ length calls)
     × (6 * most ≤ length answers₀)
-    × ToCome run places calls most (handIn current₀ run places (lists chains₀ skipped₀ above₀ unacked₀ expired₀) out₀) answers₀
-    (rest run places calls most i) i (handIn current run places (lists chains skipped above unacked expired) out) answers
+    × ToCome run places calls most (handIn current₀ run places (lists chains₀ skipped₀ above₀ unacked₀ expired₀) out₀) (storeAt current₀) answers₀
+    (rest run places calls most i) i (handIn current run places (lists chains skipped above unacked expired) out) (storeAt current) answers
     × (length chains ≡ length chains₀)
     × (length skipped ≡ length skipped₀)
     × (length above ≡ length above₀)
@@ -72,7 +72,7 @@ most-calls-requires : tie.Need-most-calls-requires Inv-loop μ-loop
 most-calls-requires c κs = search needs
 
 loop-holds : tie.Need-loop-holds Inv-loop μ-loop
-loop-holds c = (search needs, c .most-calls .ensures .1, c .most-calls .ensures .2, begin _ _ _ _ _ _, refl, refl, refl, refl, refl, refl, refl)
+loop-holds c = (search needs, c .most-calls .ensures .1, c .most-calls .ensures .2, begin _ _ _ _ _ _ _, refl, refl, refl, refl, refl, refl, refl)
 
 mul-at : tie.Need-mul-at Inv-loop μ-loop
 mul-at c = search needs
@@ -121,7 +121,7 @@ returns c =
     let m = at .before in
     let a = start m .args in
     replayed (a .run .now) (a .places .now) (a .calls .now) (length (a .answers .now)) (m .most-calls .ensures .0) (bytes m)
-    (stop (a .run .now) (a .places .now) (a .calls .now) (m .most-calls .result) _ _ (at .loop .i) (in-turn .loop-test .taken) (not-true (call .one .result .known) (c .if1 .taken))
+    (stop (a .run .now) (a .places .now) (a .calls .now) (m .most-calls .result) _ _ _ (at .loop .i) (in-turn .loop-test .taken) (not-true (call .one .result .known) (c .if1 .taken))
     (whole-behind (a .calls .now) (6 * at .loop .i)) (call .one .ensures) (at .loop .inv .3))
 
 mul-put-answer : tie.Need-mul-put-answer Inv-loop μ-loop
@@ -160,7 +160,7 @@ loop-again c =
       search needs,
       at .loop .inv .1,
       at .loop .inv .2,
-      turn (a .run .now) (a .places .now) (a .calls .now) (m .most-calls .result) _ _ (at .loop .i) (in-turn .loop-test .taken) (not-false (call .one .result .known) (left .if1 .left))
+      turn (a .run .now) (a .places .now) (a .calls .now) (m .most-calls .result) _ _ _ (at .loop .i) (in-turn .loop-test .taken) (not-false (call .one .result .known) (left .if1 .left))
           (whole-behind (a .calls .now) (6 * at .loop .i)) (call .one .ensures) (stored .put-answer .ensures) (at .loop .inv .3),
       same .0,
       same .1,
@@ -198,7 +198,7 @@ returns-2 c =
     let m = at .before in
     let a = start m .args in
     replayed (a .run .now) (a .places .now) (a .calls .now) (length (a .answers .now)) (m .most-calls .ensures .0) (bytes m)
-    (end (a .run .now) (a .places .now) (a .calls .now) (m .most-calls .result) _ _ (at .loop .i) (c .loop-test .left) (at .loop .inv .3))
+    (end (a .run .now) (a .places .now) (a .calls .now) (m .most-calls .result) _ _ _ (at .loop .i) (c .loop-test .left) (at .loop .inv .3))
 
 pub replay-spec : {M : Type 1} → statement M
 replay-spec =

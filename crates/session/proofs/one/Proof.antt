@@ -5,7 +5,7 @@ use mathlib.Core.Path.{ap}
 use Rattle.contact.specs.Contact.{lists}
 use Rattle.session.specs.declared.CallLeft.{CallLeft}
 use Rattle.session.specs.Session.{handIn}
-use Rattle.session.proofs.Steps.{decoded-ran}
+use Rattle.session.proofs.Steps.{step-ran, decoded-ran}
 use Rattle.session.proofs.one.Statement.{statement}
 use Rattle.session.proofs.one.Tie as tie
 
@@ -39,7 +39,7 @@ returns c =
     let told = c .before in
     let d = told .before .before in
     let a = start d .args in
-    decoded-ran (a .run .now) (a .places .now) (a .six .now) (told .enum-told .given .1) (d .decode .ensures (a .run .now) (a .places .now)) (record { is = c .restore .ensures _ _ })
+    decoded-ran (a .run .now) (a .places .now) (a .six .now) (told .enum-told .given .1) (d .decode .ensures (a .run .now) (a .places .now)) (c .restore .ensures _ _)
 
 same-length : tie.Need-same-length
 same-length c = search needs
@@ -65,7 +65,7 @@ returns-2 c =
     let told = made .before .before .before .before .before .before .before .before in
     let d = told .before .before in
     let a = start d .args in
-    decoded-ran (a .run .now) (a .places .now) (a .six .now) (told .decoded .given .1) (d .decode .ensures (a .run .now) (a .places .now)) (record { is = made .step .ensures })
+    decoded-ran (a .run .now) (a .places .now) (a .six .now) (told .decoded .given .1) (d .decode .ensures (a .run .now) (a .places .now)) (step-ran (told .decoded .given .0 .0) (a .six .now) (a .session) (made .step .ensures))
 
 returns-3 : tie.Need-returns-3
 returns-3 c =
@@ -74,13 +74,7 @@ returns-3 c =
     let a = start d .args in
     let l = (lists (a .chains .now) (a .skipped .now) (a .above .now) (a .unacked .now) (a .expired .now)) in
     decoded-ran (a .run .now) (a .places .now) (a .six .now) (told .enum-told2 .given .1) (d .decode .ensures (a .run .now) (a .places .now))
-    (record {
-      is = (
-        ap (λ (r : CallLeft). r .known) (c .unknown .ensures),
-        ap (λ (r : CallLeft). r .answer) (c .unknown .ensures),
-        ap (λ (r : CallLeft). handIn (r .session) (a .run .now) (a .places .now) l (a .out .now)) (c .unknown .ensures),
-      );
-    })
+    (record { is = (c .unknown .ensures, ap (λ (r : CallLeft). handIn (r .session) (a .run .now) (a .places .now) l (a .out .now)) (c .unknown .ensures)) })
 
 pub one-spec : {M : Type 1} → statement M
 one-spec =

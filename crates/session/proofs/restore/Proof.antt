@@ -4,7 +4,7 @@ use mathlib.Core.Path.{refl}
 use borrow.Author.Needs.{needs}
 use Rattle.session.specs.Session.{handIn}
 use Rattle.session.proofs.Store.{its-entries}
-use Rattle.session.proofs.Steps.{restore-left}
+use Rattle.session.proofs.Steps.{restore-ran}
 use Rattle.session.proofs.restore.Statement.{statement}
 use Rattle.session.proofs.restore.Tie as tie
 
@@ -43,7 +43,7 @@ returns c =
     let start = len .before in
     let a = start .before .before .before .before .args in
     λ l out.
-    restore-left (a .run .now) (a .places .now) (made .restore .result) (handIn (a .session) (a .run .now) (a .places .now) l out) _ (start .number-at .ensures) (len .number-at2 .ensures)
+    restore-ran (a .session) (a .run .now) (a .places .now) (a .six .now) (made .restore .result) (handIn (a .session) (a .run .now) (a .places .now) l out) _ (start .number-at .ensures) (len .number-at2 .ensures)
     (first .number-at3 .ensures) (n .number-at4 .ensures) (part .run-at .ensures) (its-entries (first .number-at3 .result) (n .number-at4 .result) (a .places .now) (its .places-from .ensures)) (made .restore .ensures .left _ refl) (c .restored .ensures _ _ l out)
 
 pub restore-spec : {M : Type 1} → statement M

@@ -15,7 +15,7 @@ tagged-requires : tie.Need-tagged-requires
 tagged-requires c κs = search needs
 
 returns : tie.Need-returns
-returns c = λ run places l out. rw (c .before .enum-told .given .1, c .tagged .ensures) (record { known = refl; stands = refl; said = refl })
+returns c = λ run places l out. rw (c .before .enum-told .given .1, c .tagged .ensures) (record { known = refl; stands = refl; said = refl; placed = refl })
 
 cast-tagged : tie.Need-cast-tagged
 cast-tagged c = search needs
@@ -29,7 +29,7 @@ next-requires c κs = search needs
 returns-2 : tie.Need-returns-2
 returns-2 c =
     let t = c .before in
-    λ run places l out. rw (t .before .before .answer .given .1, c .next .ensures, t .tagged2 .ensures) (record { known = refl; stands = refl; said = refl })
+    λ run places l out. rw (t .before .before .answer .given .1, c .next .ensures, t .tagged2 .ensures) (record { known = refl; stands = refl; said = refl; placed = refl })
 
 pub restored-spec : {M : Type 1} → statement M
 restored-spec =
