@@ -21,12 +21,11 @@ use Rattle.store.proofs.Proved.{store-laws}
 use Rattle.ledger.specs.Call.{wrote, said, Lent}
 use Rattle.line.specs.Line.{lineOf, queuedOf}
 use Rattle.ledger.specs.Ledger.{Open, opened, Account, refuse, covered, current, passesNow, coverNow, takeNow, lineNow, rowNow, writeNow}
-use Rattle.ledger.specs.Two.{RowsAlike}
+use Rattle.ledger.specs.Two.{RowsAlike, LedgersAlike, openeds}
 use Rattle.ledger.proofs.Bytes.{bytes-with}
 use Rattle.ledger.specs.Stands.{Sound}
 use Rattle.ledger.proofs.Asking.{passes-now}
 use Rattle.ledger.proofs.Alike.{alike-with, acked-alike, expired-alike, fitting-alike}
-use Rattle.ledger.specs.Two.{LedgersAlike, openeds}
 use Rattle.ledger.proofs.Accounts.{AccountsAlike, plain-alike, cond-alike}
 
 -- the same number sent and the same numbers covered, other fields

@@ -11,8 +11,7 @@ use Rattle.ledger.specs.Call.{Call, restore, opens, cover, contains, cov
 use Rattle.ledger.specs.Step.{inOrder}
 use Rattle.ledger.specs.Ledger.{Open, Ledger, nothing, restored, opened, current, ledger}
 use Rattle.ledger.specs.Ledger as ledgers
-use Rattle.ledger.specs.Two.{CallsAlike, stores, same}
-use Rattle.ledger.specs.Two.{OpenAlike, LedgersAlike, nothings, restoreds, openeds}
+use Rattle.ledger.specs.Two.{CallsAlike, stores, same, OpenAlike, LedgersAlike, nothings, restoreds, openeds}
 use Rattle.ledger.proofs.Accounts.{AccountsAlike, plain-alike, cond-alike}
 use Rattle.ledger.specs.Stands.{Sound, SoundLedger}
 use Rattle.ledger.proofs.AlikeStores.{veil-same, restore-alike, open-alike}

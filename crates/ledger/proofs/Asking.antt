@@ -26,9 +26,8 @@ use Rattle.ledger.specs.Call.{Hand, Lent, Left, no, lentOf}
 use Rattle.ledger.specs.Step.{passes, coveredIn}
 use Rattle.ledger.specs.Ledger.{Open, opened, Account, refuse, fitting, enough, covered, current, passesNow}
 use Rattle.ledger.specs.Agree.{laidLists}
-use Rattle.ledger.specs.Stands.{HoldsAll}
+use Rattle.ledger.specs.Stands.{HoldsAll, Sound, StandsFor}
 use Rattle.ledger.proofs.Laid.{laid-filled, holds-filled}
-use Rattle.ledger.specs.Stands.{Sound, StandsFor}
 use Rattle.ledger.proofs.Good.{Good, refuse-good}
 
 held : (n items : ℕ) → within n items ≡ true → leb n items ≡ true

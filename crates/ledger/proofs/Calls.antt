@@ -29,9 +29,8 @@ use Rattle.ledger.specs.Ledger.{Open, Ledger, opened, plain, refuse, cov
 use Rattle.ledger.specs.Ledger as ledgers
 use Rattle.ledger.specs.Agree.{laidLists}
 use Rattle.ledger.proofs.Numbers.{known, valid-with}
-use Rattle.ledger.specs.Stands.{HoldsAll}
+use Rattle.ledger.specs.Stands.{HoldsAll, Sound, LastLeft}
 use Rattle.ledger.proofs.Laid.{holds-with}
-use Rattle.ledger.specs.Stands.{Sound, LastLeft}
 use Rattle.ledger.proofs.Good.{Next, Good, refuse-good}
 use Rattle.ledger.proofs.Asking.{hand, stands, lists-hold, image-now, covered-now, expired-now, asked}
 

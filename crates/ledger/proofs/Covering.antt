@@ -30,9 +30,8 @@ use Rattle.ledger.specs.Ledger.{Open, Ledger, opened, refuse, fitting, c
 use Rattle.ledger.specs.Ledger as ledgers
 use Rattle.ledger.specs.Agree.{laidLists}
 use Rattle.ledger.proofs.Numbers.{known, valid-with}
-use Rattle.ledger.specs.Stands.{Holds}
+use Rattle.ledger.specs.Stands.{Holds, Sound}
 use Rattle.ledger.proofs.Laid.{holds-with, laid-stored, holds-stored}
-use Rattle.ledger.specs.Stands.{Sound}
 use Rattle.ledger.proofs.Good.{Good, refuse-good}
 use Rattle.ledger.proofs.Asking.{hand, stands, lists-hold, covered-now, above-room, asked}
 use Rattle.ledger.proofs.Calls.{in-order}

@@ -25,6 +25,8 @@ pub mod Aside
 pub mod Output
 pub mod Contracts
 pub mod Replay
-pub mod Samples
-pub mod TwoSamples
+pub mod Answers
+pub mod TwoContacts
+pub mod TwoStores
+pub mod Lending
 pub mod Proved

@@ -15,15 +15,15 @@ use Rattle.ledger.specs.declared.Mark.the-variants.{Fresh, Restored, Ope
 use Rattle.ledger.specs.Call.{Hand, Lent, lentOf}
 use Rattle.ledger.specs.Step.{step}
 use Rattle.ledger.specs.Ledger.{Ledger, nothing, restored, opened, current, ledger}
-use Rattle.ledger.specs.Legal.{SameItems, SameLists, StoreAgain, FieldsAgain, Handed, lastLeft}
-use Rattle.ledger.specs.Wish.{Wish, WishesTyped, Served}
-use Rattle.ledger.specs.Stands.{Holds, HoldsAll}
-use Rattle.ledger.specs.Stands.{LastLeft}
+use Rattle.ledger.specs.Legal.{Turn, SameItems, SameLists, StoreAgain, FieldsAgain, Handed, lastLeft, made, Legal}
+use Rattle.ledger.specs.Replay.{turn}
+use Rattle.ledger.specs.Wish.{Wish, Serves, WishesTyped, Served}
+use Rattle.ledger.specs.Stands.{Holds, HoldsAll, LastLeft}
 use Rattle.ledger.proofs.Stands.{handed-stands}
 use Rattle.ledger.proofs.Every.{Kept, begun, call-good, kept-next}
 
 -- ---- a list of n places, with those of l as far as it goes
-fitted : ℕ → List ℕ → List ℕ
+unfoldable pub fitted : ℕ → List ℕ → List ℕ
 fitted n l = take n l ++ zeros (n - length l)
 
 fitted-long : (n : ℕ) (l : List ℕ) → length (fitted n l) ≡ n
@@ -52,7 +52,7 @@ module _ (n c : ℕ) (items l : List ℕ) where
   items-1 h = fitted-front (1 * min c (length (fitted n l) / 1)) n l (omega (arith, fitted-long n l)) (omega (arith, holds-room 1 c items l h))
 
 -- ---- what was left, with other lengths lent
-again : Hand → Lent → Hand
+unfoldable pub again : Hand → Lent → Hand
 again g e = record {
   mark = g .mark;
   run = g .run;
@@ -108,18 +108,25 @@ module _ (N : ℕ) (wide : N + 1 ≡ 256 ^ 4) where
   unfolding again
   handed-again l g e k = record { mark = refl; store = store-again (g .mark) g e; fields = fields-again l g e k }
 
-  serve : (ws : List Wish) → WishesTyped N ws → (l : Ledger) (g : Hand) → Kept N wide l g → Served N g ws
-  serve [] t l g k = record { turns = []; legal = tt; serves = tt }
-  serve (w ∷ ws) t l g k =
+  -- ---- the calls, each handed what was left with the lengths that are to be lent to it
+  abbrev pub serving : List Wish → Hand → List Turn
+  serving [] g = []
+  serving (w ∷ ws) g = let t = turn (w .call) (again g (w .lent)) in t ∷ serving ws (lastLeft g (made N t))
+
+  pub served : (ws : List Wish) (g : Hand) → Serves ws (serving ws g)
+  served [] g = tt
+  served (w ∷ ws) g = (refl, lent-again g (w .lent), served ws _)
+
+  all-legal : (ws : List Wish) → WishesTyped N ws → (l : Ledger) (g : Hand) → Kept N wide l g → Legal N g (serving ws g)
+  all-legal [] t l g k = tt
+  all-legal (w ∷ ws) t l g k =
       let h = again g (w .lent) in
       let given = handed-again l g (w .lent) (k .left) in
       let good = call-good N wide (w .call) (t .0) l (k .sound) h (handed-stands N l g h (k .left) given) in
-      let rest = serve ws (t .1) (ledger N (w .call) (lentOf h) l .state) (lastLeft g (step N (w .call) h)) (kept-next N wide l g h _ _ k good) in
-      record {
-        turns = record { call = w .call; hand = h } ∷ rest .turns;
-        legal = (t .0, given, rest .legal);
-        serves = (refl, lent-again g (w .lent), rest .serves);
-      }
+      (t .0, given, all-legal ws (t .1) (ledger N (w .call) (lentOf h) l .state) (lastLeft g (step N (w .call) h)) (kept-next N wide l g h _ _ k good))
+
+  pub serving-legal : (g : Hand) → g .mark ≡ Fresh → (ws : List Wish) → WishesTyped N ws → Legal N g (serving ws g)
+  serving-legal g m ws t = all-legal ws t nothing g (begun N wide g m)
 
   pub occurs : (g : Hand) → g .mark ≡ Fresh → (ws : List Wish) → WishesTyped N ws → Served N g ws
-  occurs g m ws t = serve ws t nothing g (begun N wide g m)
+  occurs g m ws t = record { turns = serving ws g; legal = serving-legal g m ws t; serves = served ws g }

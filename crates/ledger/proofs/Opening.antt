@@ -31,9 +31,8 @@ use Rattle.ledger.specs.Call.{granted, Hand, leaves, no, lentOf}
 use Rattle.ledger.specs.Step.{contactIn, filling, opening}
 use Rattle.ledger.specs.Ledger.{Ledger, opened, plain, refuse, openOf, fills, finds, openIn, current}
 use Rattle.ledger.specs.Agree.{laidLists}
-use Rattle.ledger.specs.Stands.{HoldsAll}
+use Rattle.ledger.specs.Stands.{HoldsAll, SoundStore, Sound, StandsFor, LeftFields}
 use Rattle.ledger.proofs.Laid.{laid-filled, holds-filled}
-use Rattle.ledger.specs.Stands.{SoundStore, Sound, StandsFor, LeftFields}
 use Rattle.ledger.proofs.Stands.{current-open, records-open}
 use Rattle.ledger.proofs.Good.{Good, refuse-good}
 

@@ -4,14 +4,16 @@ use Prim.Native.Nat.{ℕ, _+_, _^_}
 use mathlib.Core.List.{List, [], _∷_}
 use mathlib.Core.Bool.{Bool, true, false, cond}
 use mathlib.Core.Path.{_≡_, refl, sym, ap, ap₂, _∙_, subst}
+use Rattle.store.specs.declared.Entry.{Entry}
+use Rattle.store.specs.Veiled.{VeilEqual}
 use Rattle.ledger.specs.declared.Mark.the-variants.{Fresh}
-use Rattle.ledger.specs.Call.{Call, Answer, isGranted, Hand, Lent, Left, lentOf}
+use Rattle.ledger.specs.Call.{Call, restore, Answer, isGranted, Hand, Lent, Left, lentOf}
 use Rattle.ledger.specs.Step.{step}
 use Rattle.ledger.specs.Ledger.{Ledger, nothing, Account, ledger}
-use Rattle.ledger.specs.Legal.{Typed, Handed, lastLeft}
+use Rattle.ledger.specs.Legal.{Typed, Handed, Legal, lastLeft}
 use Rattle.ledger.specs.Agree.{AgreesAll}
 use Rattle.ledger.specs.Stands.{SoundLedger, StandsFor, LastLeft}
-use Rattle.ledger.specs.Two.{LedgersAlike}
+use Rattle.ledger.specs.Two.{stores, same, Paired, LedgersAlike}
 use Rattle.ledger.specs.Replay.{replay, answers, ledgerAnswers, AllAlike, AllTyped, Agreed, AgreedAlike}
 use Rattle.ledger.proofs.Again.{handed-again}
 use Rattle.ledger.proofs.Refused.{step-keeps}
@@ -42,6 +44,19 @@ module _ (N : ℕ) where
       go : (b : Bool) → Handed (cond b (step N c h .after) g) (cond b (step N c h .after) h)
       go true = handed-again (step N c h .after)
       go false = e
+
+  pub replay-legal : (cs : List Call) → AllTyped N cs → (g h : Hand) → Handed g h → Legal N g (replay N cs h)
+  replay-legal [] ts g h e = tt
+  replay-legal (c ∷ cs) ts g h e = (ts .0, e, replay-legal cs (ts .1) _ _ (handed-next c g h e))
+
+  -- ---- the same calls, on stores that differ only in veiled bytes, where the same lengths are lent
+  same-paired : (cs : List Call) (h i : Hand) → lentOf h ≡ lentOf i → Paired (replay N cs h) (replay N cs i)
+  same-paired [] h i e = tt
+  same-paired (c ∷ cs) h i e = (same c, e, same-paired cs _ _ (last-long c h ∙ e ∙ sym (last-long c i)))
+
+  pub stores-paired : (run run′ : List ℕ) (es : List Entry) → VeilEqual run run′ es → (cs : List Call) (h i : Hand) → lentOf h ≡ lentOf i
+      → Paired (replay N (restore run es ∷ cs) h) (replay N (restore run′ es ∷ cs) i)
+  stores-paired run run′ es v cs h i e = (stores run run′ es v, e, same-paired cs _ _ (last-long (restore run es) h ∙ e ∙ sym (last-long (restore run′ es) i)))
 
 module _ (N : ℕ) (wide : N + 1 ≡ 256 ^ 4) where
   -- one call: the next state, and that it is sound, and what is left stands for it
@@ -75,7 +90,7 @@ module _ (N : ℕ) (wide : N + 1 ≡ 256 ^ 4) where
         agrees = (x .good .agrees, rest .agrees);
         sound = rest .sound;
         stands = rest .stands;
-        legal = λ g e. (ts .0, e, rest .legal _ (handed-next N c g h e));
+        legal = λ g e. replay-legal N (c ∷ cs) ts g h e;
         last = λ g k e. rest .last _ (kept-next N wide l g h _ _ (record { sound = s; left = k }) (x .good) .left) (handed-next N c g h e);
       }
 

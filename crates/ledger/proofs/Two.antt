@@ -14,14 +14,13 @@ use Rattle.ledger.specs.Step.{step}
 use Rattle.ledger.specs.Ledger.{Open, Ledger, nothing, restored, opened, Account, current, ledger}
 use Rattle.ledger.specs.Legal.{Turn, Legal}
 use Rattle.ledger.specs.Agree.{standing, shown}
-use Rattle.ledger.specs.Two.{CallsAlike, Paired, RowsAlike, WrittenAlike, FieldsOf, OpenedAlike, LeftsAlike, AlikeAll}
+use Rattle.ledger.specs.Two.{CallsAlike, Paired, RowsAlike, WrittenAlike, FieldsOf, OpenedAlike, LeftsAlike, AlikeAll, LedgersAlike, nothings, restoreds, openeds}
 use Rattle.ledger.proofs.Again.{handed-again}
 use Rattle.ledger.specs.Stands.{SoundLedger, StandsFor}
 use Rattle.ledger.proofs.Stands.{handed-stands}
 use Rattle.ledger.proofs.Good.{after, Next, Good}
 use Rattle.ledger.proofs.Refused.{step-keeps}
 use Rattle.ledger.proofs.Every.{Kept, begun, call-good, kept-next}
-use Rattle.ledger.specs.Two.{LedgersAlike, nothings, restoreds, openeds}
 use Rattle.ledger.proofs.Accounts.{OutputsAlike, AccountsAlike}
 use Rattle.ledger.proofs.AlikeLedgers.{ledger-alike}
 

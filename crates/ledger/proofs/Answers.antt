@@ -1,17 +1,15 @@
 -- Lists of calls on document 01's sample store: one in which all eight calls are granted, and one for each refusal from 34 to 40. By computation.
 -- Assumes nothing.
-use Prim.Native.Nat.{ℕ}
+use Prim.Native.Nat.{ℕ, _+_}
 use mathlib.Core.List.{List, [], _∷_, _++_}
 use mathlib.Core.Bool.{true, false}
 use mathlib.Core.Option.{none}
 use mathlib.Core.Path.{_≡_, refl}
-use native.Mathlib.Omega.{arith}
 use lib.ListN.{replicate}
 use Rattle.layout.specs.Questions.{ORDER, STORE, «CONTACT_STORED», LISTS, RANGE, «RANGES_FIT», «MSGNO_LEFT», OUTPUT}
 use Rattle.layout.specs.Form as form
 use Rattle.layout.specs.Layout.{print}
 use Rattle.layout.specs.Layout as layout
-use Rattle.layout.specs.RowLaws.{Bytes}
 use Rattle.rows.specs.Utf8 as utf
 use Rattle.rows.specs.Values as value
 use Rattle.rows.specs.Rows.{contact}
@@ -34,11 +32,7 @@ use Rattle.ledger.specs.Step as steps
 use Rattle.ledger.specs.Step.{relisted, aboveAs, step}
 use Rattle.ledger.specs.Ledger.{nothing, restored, ledger}
 use Rattle.ledger.specs.Ledger as ledgers
-use Rattle.ledger.specs.Legal.{Legal}
-use Rattle.ledger.specs.Replay.{replay, answers, left, ledgerAnswers, AllTyped}
-use Rattle.ledger.proofs.Bytes.{bytes-tested}
-use Rattle.ledger.proofs.Again.{handed-again}
-use Rattle.ledger.proofs.Replay.{fresh-stands, replayed, replay-answers}
+use Rattle.ledger.specs.Replay.{answers, left, ledgerAnswers}
 
 abbrev pub N : ℕ
 N = 4294967295
@@ -46,23 +40,23 @@ N = 4294967295
 abbrev pub entry : (kind id msgno start len : ℕ) → Entry
 entry kind id msgno start len = record { id = id; start = start; len = len; msgno = msgno; version = 3; kind = kind }
 
-abbrev pub deviceOf : (next : ℕ) → List ℕ
-deviceOf next = replicate 43 0 ++ (next ∷ 0 ∷ 1 ∷ 1 ∷ 0 ∷ 60 ∷ [])
+-- ---- the rows, with d added to each veiled byte
+abbrev pub deviceOf : (d next : ℕ) → List ℕ
+deviceOf d next = replicate 4 0 ++ replicate 32 d ++ (replicate 7 0 ++ (next ∷ 0 ∷ 1 ∷ 1 ∷ 0 ∷ 60 ∷ []))
 
--- the contact, with this last byte of its chain key, which is veiled
-abbrev pub keyed : (last sent contiguous : ℕ) → (above : List value.Range) → value.Contact
-keyed last sent contiguous above = record {
+abbrev pub veiledBy : (d sent contiguous : ℕ) → (above : List value.Range) → value.Contact
+veiledBy d sent contiguous above = record {
   role = A;
   verification = Verified;
   «pair_id» = replicate 16 1;
   th = replicate 48 2;
   «nonce_b» = replicate 16 3;
-  card = record { caps = 1; «beacon_day» = 7; «beacon_key» = replicate 32 4; name = []; «static_ek» = none };
-  «door_a_to_b» = replicate 32 5;
-  «door_b_to_a» = replicate 32 6;
-  «route_key» = replicate 32 7;
+  card = record { caps = 1; «beacon_day» = 7; «beacon_key» = replicate 32 (4 + d); name = []; «static_ek» = none };
+  «door_a_to_b» = replicate 32 (5 + d);
+  «door_b_to_a» = replicate 32 (6 + d);
+  «route_key» = replicate 32 (7 + d);
   «resume_index» = 9;
-  «chain_key» = replicate 31 8 ++ (last ∷ []);
+  «chain_key» = replicate 32 (8 + d);
   «sent_msgno» = sent;
   pending = none;
   send = none;
@@ -78,16 +72,16 @@ keyed last sent contiguous above = record {
 }
 
 abbrev pub fieldsOf : (sent contiguous : ℕ) → (above : List value.Range) → value.Contact
-fieldsOf = keyed 8
+fieldsOf = veiledBy 0
 
-abbrev queued : List ℕ
-queued = replicate 9 0 ++ (5 ∷ 0 ∷ replicate 48 6)
+abbrev queued : (d : ℕ) → List ℕ
+queued d = replicate 9 0 ++ (5 ∷ 0 ∷ replicate 48 (6 + d))
 
-abbrev tombstone : List ℕ
-tombstone = 1 ∷ replicate 36 9
+abbrev tombstone : (d : ℕ) → List ℕ
+tombstone d = 1 ∷ replicate 16 9 ++ replicate 16 (9 + d) ++ replicate 4 9
 
-abbrev pub runOf : value.Contact → List ℕ
-runOf v = deviceOf 2 ++ tombstone ++ queued ++ print (contact 3) v
+abbrev pub runOf : (d : ℕ) → value.Contact → List ℕ
+runOf d v = deviceOf d 2 ++ tombstone d ++ queued d ++ print (contact 3) v
 
 -- the contact's row has so many bytes
 abbrev entriesOf : ℕ → List Entry
@@ -97,14 +91,14 @@ entriesOf long = entry DEVICE 0 0 0 49 ∷ entry CONTACT 1 0 145 long ∷ entry 
 abbrev pub four : List value.Range
 four = record { from = 4; to = 4 } ∷ []
 
-abbrev run : (sent : ℕ) → List ℕ
-run sent = runOf (fieldsOf sent 2 four)
+abbrev pub run : (sent : ℕ) → List ℕ
+run sent = runOf 0 (fieldsOf sent 2 four)
 
 abbrev pub entries : List Entry
 entries = entriesOf 311
 
 abbrev bare : (contiguous : ℕ) → List Call → List Call
-bare contiguous cs = restore (runOf (fieldsOf 3 contiguous [])) (entriesOf 303) ∷ opens 1 ∷ cs
+bare contiguous cs = restore (runOf 0 (fieldsOf 3 contiguous [])) (entriesOf 303) ∷ opens 1 ∷ cs
 
 -- nothing restored; so many numbers for `above`, and so many bytes of output
 abbrev pub fresh : (above : List ℕ) → (out : ℕ) → Hand
@@ -129,14 +123,14 @@ allEight = then 3 six
 abbrev pub line : (sent contiguous beyond : ℕ) → List ℕ
 line sent contiguous beyond = 0x53 ∷ 0x2C ∷ 0x31 ∷ 0x2C ∷ sent ∷ 0x2C ∷ 0x31 ∷ 0x2C ∷ contiguous ∷ 0x2C ∷ beyond ∷ 0x2C ∷ 0x31 ∷ 0x2C ∷ 0x31 ∷ 0x0A ∷ []
 
--- the row that they leave: sent 4, contiguous 4, nothing above
-abbrev pub rowBytes : (last : ℕ) → List ℕ
-rowBytes last =
+-- the row that they leave, d added to each veiled byte: sent 4, contiguous 4, nothing above
+abbrev pub rowBytes : (d : ℕ) → List ℕ
+rowBytes d =
     0 ∷ 3 ∷ 1 ∷ replicate 16 1 ++ replicate 48 2 ++ replicate 16 3
     -- the card
-    ++ (0 ∷ 38 ∷ 1 ∷ 0 ∷ 0 ∷ 0 ∷ 7 ∷ replicate 32 4 ++ (0 ∷ []))
+    ++ (0 ∷ 38 ∷ 1 ∷ 0 ∷ 0 ∷ 0 ∷ 7 ∷ replicate 32 (4 + d) ++ (0 ∷ []))
     -- doors and keys
-    ++ replicate 32 5 ++ replicate 32 6 ++ replicate 32 7 ++ (replicate 7 0 ++ (9 ∷ replicate 31 8 ++ (last ∷ [])))
+    ++ replicate 32 (5 + d) ++ replicate 32 (6 + d) ++ replicate 32 (7 + d) ++ (replicate 7 0 ++ (9 ∷ replicate 32 (8 + d)))
     -- sent_msgno, two flags and two counts that are 0, peer_acked, peer_read, read_marked, contiguous
     ++ (0 ∷ 0 ∷ 0 ∷ 4 ∷ replicate 6 0 ++ (0 ∷ 0 ∷ 0 ∷ 1 ∷ replicate 8 0 ++ (0 ∷ 0 ∷ 0 ∷ 4 ∷ [])))
     -- no range above, unacked 3, expired 1..1
@@ -153,9 +147,11 @@ samples :
     -- all eight calls are granted. The line is `S,1,4,1,4,0,1,1`
     (answers N allEight (fresh pairs2 320) ≡ granted ∷ granted ∷ advanced true ∷ truth true ∷ truth true ∷ number 4 ∷ said 16 (line 0x34 0x34 0x30) ∷ wrote 303 ∷ [])
     -- the row's bytes, and what stands behind them stays
-    × (left N allEight (fresh pairs2 320) .out ≡ rowBytes 8 ++ replicate 17 0)
+    × (left N allEight (fresh pairs2 320) .out ≡ rowBytes 0 ++ replicate 17 0)
     -- document 01's line, of the contact as it was opened, in an output just long enough for it: `S,1,3,1,2,1,1,1`
     × (answers N (then 3 (statement ∷ [])) (fresh pairs2 16) ≡ granted ∷ granted ∷ said 16 (line 0x33 0x32 0x31) ∷ [])
+    -- 4..5 are two numbers beyond: `S,1,3,1,2,2,1,1`
+    × (answers N (then 3 (cover 5 5 ∷ statement ∷ [])) (fresh pairs2 16) ≡ granted ∷ granted ∷ advanced false ∷ said 16 (line 0x33 0x32 0x32) ∷ [])
     -- its (p) cases of cover, contains and covers, each from the contact as it was opened: open drops what was not written
     × (answers N (then 3 (cover 3 3 ∷ opens 1 ∷ cover 5 5 ∷ opens 1 ∷ cover 6 9 ∷ opens 1 ∷ contains 0 ∷ covers 3 4 ∷ [])) (fresh pairs2 0)
     ≡ granted ∷ granted ∷ advanced true ∷ granted ∷ advanced false ∷ granted ∷ advanced false ∷ granted ∷ truth false ∷ truth false ∷ [])
@@ -177,6 +173,8 @@ samples :
     × (answers N (then 4294967294 (take ∷ take ∷ [])) (fresh pairs2 0) ≡ granted ∷ granted ∷ number 4294967295 ∷ refused «MSGNO_LEFT» ∷ [])
     -- a refused restore, and a refused open, leave the contact open
     × (answers N (then 3 (restore [] [] ∷ opens 2 ∷ contains 4 ∷ [])) (fresh pairs2 0) ≡ granted ∷ granted ∷ refusedAt ORDER 0 ∷ refused «CONTACT_STORED» ∷ truth true ∷ [])
+    -- no range above, and one pair lent: a cover has room
+    × (answers N (bare 2 (cover 4 4 ∷ [])) (fresh (0 ∷ 0 ∷ []) 0) ≡ granted ∷ granted ∷ advanced false ∷ [])
     -- no pairs lent: a cover that touches 1..contiguous needs none
     × (answers N (bare 2 (cover 4 4 ∷ cover 1 2 ∷ cover 3 3 ∷ [])) (fresh [] 0) ≡ granted ∷ granted ∷ refused «RANGES_FIT» ∷ advanced false ∷ advanced true ∷ [])
     -- the last number; all numbers; cover is not bounded by n
@@ -185,7 +183,7 @@ samples :
 unfolding steps.step layout.parse layout.print form.bigEndian form.bytesOf form.readMany form.printMany form.lebRead utf.completes
     puts.put places.printPlaces places.placesOf places.readPlaces lents.placesBytes ranges.insert ranges.inserted ranges.changeOf
     received.pairs received.stored row.counted row.image row.chainedImage lines.digitsOf lines.lineOf
-samples = (refl, refl, refl, refl, refl, refl, refl, refl, refl, refl, refl, refl, refl, refl, refl)
+samples = (refl, refl, refl, refl, refl, refl, refl, refl, refl, refl, refl, refl, refl, refl, refl, refl, refl)
 
 -- ---- the ledger on its own, where numbers go up to 16
 ledger-samples :
@@ -203,17 +201,3 @@ ledger-samples :
     × (ledgerAnswers 16 (then 15 (take ∷ take ∷ [])) (lent 4 0) nothing ≡ granted ∷ granted ∷ number 16 ∷ refused «MSGNO_LEFT» ∷ [])
 unfolding ledgers.ledger sets.recordOf layout.parse layout.print form.bigEndian form.bytesOf form.readMany form.printMany form.lebRead utf.completes lines.digitsOf lines.lineOf
 ledger-samples = (refl, refl, refl, refl, refl, refl, refl)
-
--- ---- the list in which all eight are granted is legal, so the laws speak of it
-run-bytes : Bytes (run 3)
-unfolding layout.print form.bytesOf form.printMany
-run-bytes = bytes-tested (run 3) refl
-
-typed : AllTyped N allEight
-typed = (run-bytes, (tt, (omega arith, (tt, (tt, (tt, (tt, (tt, tt))))))))
-
-sample-legal : Legal N (fresh pairs2 320) (replay N allEight (fresh pairs2 320))
-sample-legal = replayed N refl allEight typed nothing tt (fresh pairs2 320) (fresh-stands N (fresh pairs2 320) refl) .legal (fresh pairs2 320) (handed-again (fresh pairs2 320))
-
-sample-agrees : answers N allEight (fresh pairs2 320) ≡ ledgerAnswers N allEight (lent 4 320) nothing
-sample-agrees = replay-answers N refl allEight (fresh pairs2 320) refl typed

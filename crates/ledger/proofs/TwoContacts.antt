@@ -1,10 +1,8 @@
--- A store of two contacts, and two stores that differ in a veiled byte: what lists of calls answer on them. By computation.
+-- A store of two contacts: what lists of calls answer on it. By computation.
 -- Assumes nothing.
-use Prim.Native.Nat.{ℕ}
 use mathlib.Core.List.{List, [], _∷_, _++_}
 use mathlib.Core.Bool.{true, false}
 use mathlib.Core.Path.{_≡_, refl}
-use lib.ListN.{replicate}
 use Rattle.layout.specs.Questions.{ORDER, STORE}
 use Rattle.layout.specs.Form as form
 use Rattle.layout.specs.Layout.{print}
@@ -19,18 +17,17 @@ use Rattle.received.specs.Lent as received
 use Rattle.received.specs.Sets as sets
 use Rattle.contact_put.specs.Row as row
 use Rattle.store.specs.Kinds.{DEVICE, CONTACT}
-use Rattle.ledger.specs.Call.{Call, restore, opens, cover, contains, Answer, granted, advanced, truth, number, wrote, said, refused, refusedAt}
-use Rattle.line.specs.Line as lines
+use Rattle.ledger.specs.Call.{Call, restore, opens, cover, contains, Answer, granted, advanced, truth, refused, refusedAt}
 use Rattle.ledger.specs.Step as steps
 use Rattle.ledger.specs.Ledger.{nothing}
 use Rattle.ledger.specs.Ledger as ledgers
-use Rattle.ledger.specs.Replay.{answers, left, ledgerAnswers}
-use Rattle.ledger.proofs.Samples.{N, entry, deviceOf, keyed, fieldsOf, four, runOf, entries, fresh, pairs2, six, line, lent, rowBytes}
+use Rattle.ledger.specs.Replay.{answers, ledgerAnswers}
+use Rattle.ledger.proofs.Answers.{N, entry, deviceOf, fieldsOf, four, fresh, pairs2, lent}
 
 -- ---- contact 1 with contiguous 2, above 4..4; contact 2 with contiguous 0 and nothing above
 abbrev two : Call
 two =
-    restore (deviceOf 3 ++ print (contact 3) (fieldsOf 3 2 four) ++ print (contact 3) (fieldsOf 5 0 []))
+    restore (deviceOf 0 3 ++ print (contact 3) (fieldsOf 3 2 four) ++ print (contact 3) (fieldsOf 5 0 []))
     (entry DEVICE 0 0 0 49 ∷ entry CONTACT 1 0 49 311 ∷ entry CONTACT 2 0 360 303 ∷ [])
 
 -- another contact opened, and this one again: what was covered and not written is gone, in both
@@ -56,19 +53,3 @@ two-contacts = (refl, refl)
 two-in-ledger : (ledgerAnswers 16 reopened (lent 4 0) nothing ≡ reopenedSays) × (ledgerAnswers 16 restoredAgain (lent 4 0) nothing ≡ restoredAgainSays)
 unfolding ledgers.ledger sets.recordOf layout.parse layout.print form.bigEndian form.bytesOf form.readMany form.printMany form.lebRead utf.completes
 two-in-ledger = (refl, refl)
-
--- ---- all eight calls where the last byte of the chain key is another: the same answers, and a row with that byte
-abbrev eightWith : (last : ℕ) → List Call
-eightWith last = restore (runOf (keyed last 3 2 four)) entries ∷ opens 1 ∷ six
-
-abbrev eightSays : List Answer
-eightSays = granted ∷ granted ∷ advanced true ∷ truth true ∷ truth true ∷ number 4 ∷ said 16 (line 0x34 0x34 0x30) ∷ wrote 303 ∷ []
-
-veiled-byte :
-    (answers N (eightWith 8) (fresh pairs2 320) ≡ eightSays)
-    × (answers N (eightWith 200) (fresh pairs2 320) ≡ eightSays)
-    × (left N (eightWith 200) (fresh pairs2 320) .out ≡ rowBytes 200 ++ replicate 17 0)
-unfolding steps.step layout.parse layout.print form.bigEndian form.bytesOf form.readMany form.printMany form.lebRead utf.completes
-    puts.put places.printPlaces places.placesOf places.readPlaces lents.placesBytes ranges.insert ranges.inserted ranges.changeOf
-    received.pairs received.stored row.counted row.image row.chainedImage lines.digitsOf lines.lineOf
-veiled-byte = (refl, refl, refl)
