@@ -24,7 +24,7 @@ use Rattle.rows.specs.Answers as written
 use Rattle.rows.specs.declared.Verdict.the-variants.{Accepted}
 use Rattle.rows.specs.declared.Written.the-variants.{Length}
 use Rattle.rows.proofs.Proved.{proved}
-use Rattle.sealed.proofs.RoundTrip.{Stands, stands, three, rewritten, accepted-not}
+use Rattle.rows.proofs.RoundTrip.{Stands, stands, three, rewritten, accepted-not}
 use Rattle.parts.specs.Parts.{paired, joined}
 use Rattle.lists.specs.Lists.{itemsOf}
 use Rattle.lists.specs.Places.{readPlaces, placesOf}

@@ -17,7 +17,7 @@ use Rattle.rows.specs.Answers.{leaves}
 use Rattle.rows.specs.Checks.{sealedCarried, notZero}
 use Rattle.rows.specs.declared.Verdict.the-variants.{Accepted}
 use Rattle.rows.specs.declared.Written.the-variants.{Length}
-use Rattle.sealed.proofs.RoundTrip.{Stands, stands, rewritten, last-at, accepted-not}
+use Rattle.rows.proofs.RoundTrip.{Stands, stands, rewritten, last-at, accepted-not}
 use Rattle.envelope.specs.Envelope as spec
 use Rattle.envelope.specs.Envelope.{Body, body, decoded, validAt, valueOf, image, EnvelopeTyped, EnvelopeLaws}
 use Rattle.envelope.specs.declared.Envelope.{Envelope}

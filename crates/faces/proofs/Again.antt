@@ -12,7 +12,7 @@ use Rattle.rows.specs.Rows.{device}
 use Rattle.rows.specs.Answers.{verdictOf}
 use Rattle.rows.specs.declared.Verdict.the-variants.{Accepted, Refused}
 use Rattle.rows.proofs.Proved.{proved}
-use Rattle.sealed.proofs.RoundTrip.{three, rewritten, accepted-not}
+use Rattle.rows.proofs.RoundTrip.{three, rewritten, accepted-not}
 use Rattle.device_row.specs.Row as spec
 use Rattle.device_row.specs.Row.{deviceRead, image}
 use Rattle.device_row.specs.declared.DeviceRead.{DeviceRead}

@@ -14,7 +14,7 @@ use Rattle.layout.specs.RowLaws.{Bytes, Valid}
 use Rattle.rows.specs.Values.{Contact}
 use Rattle.rows.specs.Rows.{contact}
 use Rattle.rows.proofs.Proved.{proved}
-use Rattle.sealed.proofs.RoundTrip.{three}
+use Rattle.rows.proofs.RoundTrip.{three}
 use Rattle.received.proofs.Tests.{either}
 use Rattle.contact.specs.Contact.{Lists, contactOf, longEnough, filled}
 use Rattle.contact.specs.declared.Contact.{Contact as Struct}

@@ -17,7 +17,7 @@ use Rattle.rows.specs.Answers.{leaves}
 use Rattle.rows.specs.declared.Verdict.the-variants.{Accepted}
 use Rattle.rows.specs.declared.Written.the-variants.{Length}
 use Rattle.rows.proofs.Proved.{proved}
-use Rattle.sealed.proofs.RoundTrip.{Stands, stands, printed-back, three, rewritten, last-at, accepted-not}
+use Rattle.rows.proofs.RoundTrip.{Stands, stands, printed-back, three, rewritten, last-at, accepted-not}
 use Rattle.queued_row.specs.Row as spec
 use Rattle.queued_row.specs.Row.{ownOf, tagOf, sOf, queuedOf, decoded, envelopeOf, valueOf, image, QueuedTyped, QueuedLaws}
 use Rattle.queued_row.specs.declared.Queued.{Queued}

@@ -4,3 +4,4 @@ pub mod Proved
 pub mod Samples
 pub mod Edges
 pub mod ContactEdges
+pub mod RoundTrip

@@ -1,3 +1,2 @@
 pub mod Buckets
 pub mod Text
-pub mod RoundTrip

@@ -20,7 +20,7 @@ use Rattle.rows.specs.declared.Verdict.the-variants.{Accepted, Refused}
 use Rattle.rows.specs.declared.Written.the-variants as written
 use Rattle.put.specs.Put.{Wrote}
 use Rattle.put.proofs.Put.{put-front}
-use Rattle.sealed.proofs.RoundTrip.{accepted-not}
+use Rattle.rows.proofs.RoundTrip.{accepted-not}
 use Rattle.veil.specs.Veil.{veils, refusalIn}
 
 -- what a reader accepted

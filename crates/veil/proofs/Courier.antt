@@ -22,7 +22,7 @@ use Rattle.rows.specs.Rows.{courier}
 use Rattle.rows.specs.declared.Verdict.the-variants.{Accepted}
 use Rattle.rows.proofs.Proved.{proved}
 use Rattle.sealed.proofs.Buckets.{carried-few}
-use Rattle.sealed.proofs.RoundTrip.{three}
+use Rattle.rows.proofs.RoundTrip.{three}
 use Rattle.courier_row.specs.Row as spec
 use Rattle.courier_row.specs.Row.{heldOf, textOf, decoded, valueOf, image}
 use Rattle.courier_row.specs.declared.Held.{Held}

@@ -13,7 +13,7 @@ use Rattle.rows.specs.Values as value
 use Rattle.rows.specs.Rows.{device}
 use Rattle.rows.specs.declared.Verdict.the-variants.{Accepted}
 use Rattle.rows.proofs.Proved.{proved}
-use Rattle.sealed.proofs.RoundTrip.{three}
+use Rattle.rows.proofs.RoundTrip.{three}
 use Rattle.device_row.specs.Row as spec
 use Rattle.device_row.specs.Row.{deviceOf, deviceRead, valueOf, image}
 use Rattle.device_row.specs.declared.Device.{Device}

@@ -19,7 +19,7 @@ use Rattle.rows.specs.Rows.{ownEnvelope, queued}
 use Rattle.rows.specs.declared.Verdict.the-variants.{Accepted}
 use Rattle.rows.proofs.Proved.{proved}
 use Rattle.sealed.proofs.Buckets.{queued-few}
-use Rattle.sealed.proofs.RoundTrip.{three}
+use Rattle.rows.proofs.RoundTrip.{three}
 use Rattle.queued_row.specs.Row as spec
 use Rattle.queued_row.specs.Row.{ownOf, tagOf, queuedOf, decoded, envelopeOf, valueOf, image}
 use Rattle.queued_row.specs.declared.Queued.{Queued}

@@ -1,4 +1,4 @@
--- What the round trips of the rows that end in a sealed text share.
+-- What the round trips of rows share.
 -- Assumes nothing.
 use Prim.Native.Nat.{ℕ, _-_}
 use mathlib.Core.List.{List, [], _++_}
