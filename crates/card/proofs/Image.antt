@@ -27,7 +27,7 @@ use Rattle.card.specs.declared.Card.{Card}
 
 module _ (c : Card) (ty : CardTyped c) where
   -- ---- the name and the key
-  name-whole : length (valueOf c .name) ≡ c .«name_len»
+  pub name-whole : length (valueOf c .name) ≡ c .«name_len»
   name-whole = length-take-le (c .«name_len») (c .name ++ zeros 207) (simp (length-append, length-replicate) (omega (arith, ty .name, ty .«name_len»)))
 
   pub name-is : c .«name_len» ≤ 48 → valueOf c .name ≡ take (c .«name_len») (c .name)

@@ -2,7 +2,7 @@
 -- Assumes nothing.
 use Prim.Native.Nat.{ℕ, _+_, _-_, _≤_, _<_}
 use mathlib.Core.List.{List, [], _∷_, _++_}
-use mathlib.Core.Bool.{true, cond}
+use mathlib.Core.Bool.{true, false, cond}
 use mathlib.Core.Option.{Option, none, some}
 use mathlib.Core.Path.{_≡_}
 use lib.ListN.{length, take, drop}
@@ -11,10 +11,13 @@ use Rattle.layout.specs.Veil.{zeros}
 use Rattle.layout.specs.Field.{Field, takes, refuses}
 use Rattle.layout.specs.Layout.{Answer, accepted, refusedBy, print, readRow}
 use Rattle.layout.specs.RowLaws.{Bytes}
+use Rattle.layout.specs.Write.{stored, writes}
 use Rattle.rows.specs.Values as value
 use Rattle.rows.specs.Checks.{kci}
 use Rattle.rows.specs.Rows.{cardRow}
-use Rattle.rows.specs.Answers.{verdictOf}
+use Rattle.rows.specs.Answers.{verdictOf, leaves}
+use Rattle.rows.specs.declared.Verdict.the-variants.{Accepted}
+use Rattle.rows.specs.declared.Written.the-variants.{Length}
 use Rattle.fields.specs.declared.RunField.{RunField}
 use Rattle.fields.specs.declared.RunField.the-variants as run
 use Rattle.card.specs.declared.Card.{Card}
@@ -127,9 +130,29 @@ pub record CardTyped (c : Card) : Type 0 where
   pub name : length (c .name) ≡ 48
   pub «static_ek» : length (c .«static_ek») ≡ 1184
 
+-- where the name's length or KCI leaves something out, 0 stands in the struct
+pub record LeftOutZero (c : Card) : Type 0 where
+  pub name : drop (c .«name_len») (c .name) ≡ zeros (48 - c .«name_len»)
+  pub «static_ek» : kci (c .caps) ≡ false → c .«static_ek» ≡ zeros 1184
+
 -- ---- what is proved of both (proofs/RoundTrip.antt)
+-- what `decode` answers where it accepts
+abbrev pub accepts : Card → Decoded
+accepts c = record { verdict = Accepted; card = c }
+
+-- `leaves (Length n) left ≡ writes ..` is what `encode` ensures where it answers n and leaves the output as `left`; `decoded` is what `decode` answers
 pub record CardLaws : Type 0 where
+  -- encode, then decode: the same struct, with 0 for what the name's length and KCI leave out
+  pub write-read : (c : Card) → CardTyped c → (out left : List ℕ) (n : ℕ) → leaves (Length n) left ≡ writes cardRow (image c) out
+      → decoded (readRow cardRow (take n left)) ≡ accepts (cardOf (valueOf c))
+  -- ... so wholly the same, where 0 stands there
+  pub write-same : (c : Card) → CardTyped c → LeftOutZero c → (out left : List ℕ) (n : ℕ) → leaves (Length n) left ≡ writes cardRow (image c) out
+      → decoded (readRow cardRow (take n left)) ≡ accepts c
+  -- ... as it does after every decode
+  pub read-zero : (input : List ℕ) → Bytes input → (read : Decoded) → read ≡ decoded (readRow cardRow input) → LeftOutZero (read .card)
   -- decode, then encode: the same bytes
-  pub read-write : (row : List ℕ) → Bytes row → (v : value.Card) → readRow cardRow row ≡ accepted v → image (cardOf v) ≡ row
-  -- encode, then decode: the same card, with 0 for what the name length and KCI leave out
-  pub write-read : (c : Card) → CardTyped c → (v : value.Card) → readRow cardRow (image c) ≡ accepted v → v ≡ valueOf c
+  pub read-write : (input : List ℕ) → Bytes input → (read : Decoded) → read ≡ decoded (readRow cardRow input) → read .verdict ≡ Accepted
+      → (out : List ℕ) → writes cardRow (image (read .card)) out ≡ stored input out
+  -- the same of the row that would be written, whether or not there is room for it
+  pub read-image : (row : List ℕ) → Bytes row → (v : value.Card) → readRow cardRow row ≡ accepted v → image (cardOf v) ≡ row
+  pub image-read : (c : Card) → CardTyped c → (v : value.Card) → readRow cardRow (image c) ≡ accepted v → v ≡ valueOf c

@@ -29,5 +29,5 @@ module _ (out : List ℕ) where
       → writes cardRow (image (decoded a .card)) out ≡ again a out
   unfolding write.writes
   written-again input by (accepted v) e told =
-      rw (card-laws .read-write input by v e, proved .card .laws .read-print input by v e, e)
+      rw (card-laws .read-image input by v e, proved .card .laws .read-print input by v e, e)
   written-again input by (refusedBy q) e told = absurd (never (sym told))
