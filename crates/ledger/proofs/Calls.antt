@@ -16,7 +16,7 @@ use Rattle.received.specs.Ranges as ranges
 use Rattle.received.specs.Ranges.{Received}
 use Rattle.received.specs.Sets.{allOf, howMany, size}
 use Rattle.received.proofs.Tests.{either, and-both}
-use Rattle.received.proofs.Sets.{covers-all, beyond, size-counts}
+use Rattle.received.proofs.Proved.{proved}
 use Rattle.contact.specs.Contact.{Lists, contactOf}
 use Rattle.store.specs.declared.Entry.{Entry}
 use Rattle.store.proofs.Lasting.{opened-lasts}
@@ -90,8 +90,8 @@ module _ (N : ℕ) (wide : N + 1 ≡ 256 ^ 4) (run : List ℕ) (es : List Entry)
           let c : ℕ = covered N o .contiguous in
           let d = known N (current N o) (omega arith) (sound .now) in
           let b : size (coveredIn given .above) ≡ howMany (o .S) (c + 1) (N - c) =
-          ap (λ (r : Received). size (r .above)) (covered-now N run es o ls out sound same fit) ∙ beyond (sound .records) in
-          let x = ap (λ (rs : List Range). size rs) (expired-now N run es o ls out sound same fit) ∙ size-counts N (o .fields .expired) (d .expired-canon) (d .expired) in
+          ap (λ (r : Received). size (r .above)) (covered-now N run es o ls out sound same fit) ∙ proved .records (sound .records) .beyond in
+          let x = ap (λ (rs : List Range). size rs) (expired-now N run es o ls out sound same fit) ∙ proved .ranges .counted N (o .fields .expired) (d .expired-canon) (d .expired) in
           λ i. lineOf (o .id) (o .n) (o .fields .«peer_acked») c (b i) (queuedOf (o .id) es) (x i)
 
       -- ---- take: 39
@@ -153,7 +153,7 @@ module _ (N : ℕ) (wide : N + 1 ≡ 256 ^ 4) (run : List ℕ) (es : List Entry)
         (cond b (leaves (truth (ranges.covers (coveredIn given) f t)) given) (no RANGE given))
         (cond b (plain (truth (allOf (o .S) f (t + 1 - f))) here) (refuse RANGE here)))
         (λ e. let q = in-order f t e in
-        told fit _ _ (ap truth (ap (λ (r : Received). ranges.covers r f t) (covered-now N run es o ls out sound same fit) ∙ covers-all (sound .records) f t (q .0) (q .1))) refl)
+        told fit _ _ (ap truth (ap (λ (r : Received). ranges.covers r f t) (covered-now N run es o ls out sound same fit) ∙ proved .records (sound .records) .covers-all f t (q .0) (q .1))) refl)
         (λ e. refuses RANGE))
 
     pub take-good : Agree take

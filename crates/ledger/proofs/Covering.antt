@@ -18,7 +18,7 @@ use Rattle.received.specs.Lent.{flat, stored, limitOf, fits, planOf, listAfter}
 use Rattle.received.specs.declared.Change.{Change}
 use Rattle.received.specs.declared.Planned.the-variants as planned
 use Rattle.received.proofs.Tests.{either}
-use Rattle.received.proofs.Sets.{contiguous-width, above-width, inserts, insert-is}
+use Rattle.received.proofs.Proved.{proved}
 use Rattle.contact.specs.Contact.{Lists, contactOf}
 use Rattle.store.specs.declared.Entry.{Entry}
 use Rattle.store.proofs.Lasting.{opened-lasts}
@@ -81,14 +81,20 @@ module _ (N : ℕ) (wide : N + 1 ≡ 256 ^ 4) (run : List ℕ) (es : List Entry)
     wider = record { id = o .id; fields = o .fields; n = o .n; S = add f t (o .S) }
 
     module _ (one : 1 ≤ f) (ft : f ≤ t) (tN : t ≤ N) where
+      adds : Records N (add f t (o .S)) (inserted (covered N o) f t)
+      adds = proved .records (sound .records) .insert-adds f t one ft tN
+
+      wider-is : covered N wider ≡ inserted (covered N o) f t
+      wider-is = proved .records adds .scanned
+
       records : Records N (add f t (o .S)) (covered N wider)
-      records = subst (Records N (add f t (o .S))) (sym (insert-is (sound .records) f t one ft tN)) (inserts (sound .records) f t one ft tN)
+      records = subst (Records N (add f t (o .S))) (sym wider-is) adds
 
       module _ (few : length (covered N wider .above) ≤ limitOf (length (ls .above))) where
         valid : Valid (contact 3) (current N wider)
         valid =
             valid-with N (o .fields) (o .n) (covered N wider) (omega arith) (sound .fields) (sound .more) (known N (current N o) (omega arith) (sound .now) .sent)
-            (contiguous-width records) (omega arith) (records .is-canonical) (above-width records)
+            (proved .records records .contiguous-width) (omega arith) (records .is-canonical) (proved .records records .above-width)
 
         sound-wider : Sound N run es wider
         sound-wider = record {
@@ -164,7 +170,7 @@ module _ (N : ℕ) (wide : N + 1 ≡ 256 ^ 4) (run : List ℕ) (es : List Entry)
           → Good N here given (covering f t given (planOf (coveredIn given) (length (ls .above)) f t)) (coverNow N f t (lentOf given) run es o)
       planned-good fit =
           subst (λ (x : Left). Good N here given x (coverNow N f t (lentOf given) run es o))
-          (sym (plan-left ∙ ap leftOf (covered-now N run es o ls out sound same fit) ∙ left-as ∙ ap leftAs (sym (insert-is (sound .records) f t one ft tN))))
+          (sym (plan-left ∙ ap leftOf (covered-now N run es o ls out sound same fit) ∙ left-as ∙ ap leftAs (sym wider-is)))
           (covers-now fit)
 
     pub cover-good : t ≤ N → Good N here given (step N (cover f t) given) (ledger N (cover f t) (lentOf given) here)

@@ -7,7 +7,7 @@ use Rattle.rows.specs.Values.{Contact}
 use Rattle.rows.specs.Rows.{contact}
 use Rattle.received.specs.Ranges.{Received, received}
 use Rattle.received.specs.Sets.{recordOf, Records}
-use Rattle.received.proofs.Sets.{records, record-is}
+use Rattle.received.proofs.Proved.{proved}
 use Rattle.contact.specs.Contact.{contactOf}
 use Rattle.contact.specs.declared.Contact.{Contact as Struct}
 use Rattle.ledger.specs.declared.Mark.{Mark}
@@ -52,10 +52,10 @@ module _ (N : ℕ) where
   -- ---- just opened: the fields are those of the row
   module _ (k : ℕ) (v : Contact) (wide : 256 ^ 4 ≤ N + 1) (valid : Valid (contact 3) v) where
     open-records : Records N (coveredBy v) (received (v .contiguous) (v .above))
-    open-records = let d = known N v wide valid in records N (received (v .contiguous) (v .above)) (d .canon) (d .contiguous) (d .above)
+    open-records = let d = known N v wide valid in proved .of-canonical N (received (v .contiguous) (v .above)) (d .canon) (d .contiguous) (d .above)
 
     pub open-covered : recordOf N (coveredBy v) ≡ received (v .contiguous) (v .above)
-    open-covered = record-is open-records
+    open-covered = proved .records open-records .scanned
 
     pub current-open : current N (openOf k v) ≡ v
     current-open = ap (λ (r : Received). withNumbers (v .«sent_msgno») r v) open-covered

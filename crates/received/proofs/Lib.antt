@@ -8,3 +8,4 @@ pub mod Canon
 pub mod Runs
 pub mod Sets
 pub mod Cases
+pub mod Proved

@@ -2,7 +2,7 @@
 -- contiguous is the greatest c with 1..c in the set, and insert gives the record of the set with f..t added. Assumes nothing.
 use Prim.Native.Nat.{ℕ, zero, suc, _+_, _-_, _≤_, _<_, max, min}
 use mathlib.Core.List.{List, [], _∷_}
-use mathlib.Core.Bool.{Bool, true, false, cond, _&&_, _||_, true≢false}
+use mathlib.Core.Bool.{Bool, true, false, cond, _&&_, true≢false}
 use mathlib.Core.Logic.{_⊎_, inl, inr, ⊎-elim}
 use mathlib.Core.Path.{_≡_, refl, subst, sym, ap, _∙_}
 use native.Mathlib.Omega.{arith}
@@ -11,7 +11,7 @@ use borrow.Author.Tests.{le-leb, leb-true}
 use Rattle.rows.specs.Values.{Range}
 use Rattle.rows.specs.Checks.{any, canonical, noneAbove}
 use Rattle.received.specs.Ranges.{Received, received, range, inside, covers, contains, Merged, merged, insert, allRanges, inserted}
-use Rattle.received.specs.Sets.{add, allOf, howMany, reach, runs, notFrom1, recordOf, size, Records, Coverable, insertAll}
+use Rattle.received.specs.Sets.{add, allOf, howMany, reach, runs, notFrom1, recordOf, size, Records}
 use Rattle.received.proofs.Tests.{either, if-lt, if-eq, order, or-cases, or-left, or-right, and-both, both-and, same-truth}
 use Rattle.received.proofs.Canon.{Canon, to-canon, from-canon, In, to-in, from-in, weaken, above-start, gap, holds-each, each-holds, unique}
 use Rattle.received.proofs.Canon.{insert-canon, insert-from, insert-to}
@@ -257,25 +257,6 @@ module _ (N : ℕ) (S : ℕ → Bool) (in-bounds : (n : ℕ) → S n ≡ true �
       let q : Records N S (received (firstEnd ws) (notFrom1 ws)) =
       of-runs ws (runs-canon S 1 N) (λ n i. runs-from S 1 N n i .0) (λ n t. runs-to S 1 N n t (in-bounds n t .0) (omega (arith, in-bounds n t .1))) in
       subst (Records N S) (sym (record-is q)) q
-
--- ---- covers in any order: the record is determined by the numbers that were covered
-pub same-set : {N : ℕ} {S S′ : ℕ → Bool} {v : Received} → ((n : ℕ) → S n ≡ S′ n) → Records N S v → Records N S′ v
-same-set e p = record { is-canonical = p .is-canonical; in-width = λ n t. p .in-width n (e n ∙ t); same-numbers = λ n. p .same-numbers n ∙ e n }
-
-swap : (a b c : Bool) → b || (a || c) ≡ a || b || c
-swap true true c = refl
-swap true false c = refl
-swap false true c = refl
-swap false false c = refl
-
-pub inserts-all : {N : ℕ} {S : ℕ → Bool} {v : Received} (rs : List Range) → Coverable N rs → Records N S v → Records N (λ n. any (inside n n) rs || S n) (insertAll rs v)
-inserts-all [] h p = p
-inserts-all {N} {S} {v} (r ∷ rs) h p =
-    same-set (λ n. swap (inside n n r) (any (inside n n) rs) (S n)) (inserts-all rs (h .3) (inserts p (r .from) (r .to) (h .0) (h .1) (h .2)))
-
-pub any-order : {N : ℕ} {S : ℕ → Bool} {v : Received} (rs ss : List Range) → Coverable N rs → Coverable N ss → ((n : ℕ) → any (inside n n) rs ≡ any (inside n n) ss)
-    → Records N S v → insertAll rs v ≡ insertAll ss v
-any-order {N} {S} {v} rs ss h k e p = only-record (inserts-all rs h p) (same-set (λ n. ap (λ (b : Bool). b || S n) (sym (e n))) (inserts-all ss k p))
 
 -- ---- canonical lists by themselves, as `above` and `expired` are
 pub canonical-unique : (g : ℕ) (rs ss : List Range) → canonical g rs ≡ true → canonical g ss ≡ true → ((n : ℕ) → any (inside n n) rs ≡ any (inside n n) ss) → rs ≡ ss

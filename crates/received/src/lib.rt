@@ -1,6 +1,6 @@
 // `Received` of state.rs: the message numbers of a contact that are covered, 1..contiguous and the ranges above. The ranges stand in a lent
 // flat list, from, to, from, to, and `count` says how many there are; a count above the lent pairs counts as the lent pairs.
-// The contracts hold on every list. What they mean for the set of covered numbers is shown of canonical ones (proofs/Sets.antt).
+// The contracts hold on every list. What they mean for the set of covered numbers is said of canonical ones (specs/Proved.antt).
 use layout::question;
 ghost use mathlib.Core.Path.{_≡_};
 ghost use mathlib.Core.List.{_∷_, _++_};

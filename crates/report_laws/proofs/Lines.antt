@@ -15,7 +15,7 @@ use Rattle.rows.specs.Rows as rows
 use Rattle.received.specs.Ranges.{Received}
 use Rattle.received.specs.Sets.{size}
 use Rattle.received.proofs.Tests.{either}
-use Rattle.received.proofs.Sets.{beyond, size-counts}
+use Rattle.received.proofs.Proved as numbers
 use Rattle.contact_put.specs.Row.{within}
 use Rattle.contact_laws.proofs.Back.{fits-of}
 use Rattle.store.specs.declared.Entry.{Entry}
@@ -98,8 +98,8 @@ module _ (run : List ℕ) (es : List Entry) (by : Bytes run) (going : asked (sto
     line-is =
         let r : Received = covered HIGHEST (openOf k v) in
         let d = known HIGHEST v wide is-valid in
-        let b = sym (beyond (records-open HIGHEST k v wide is-valid)) in
-        let x = sym (size-counts HIGHEST (v .expired) (d .expired-canon) (d .expired)) in
+        let b = sym (numbers.proved .records (records-open HIGHEST k v wide is-valid) .beyond) in
+        let x = sym (numbers.proved .ranges .counted HIGHEST (v .expired) (d .expired-canon) (d .expired)) in
         (λ i. lineOf k (v .«sent_msgno») (v .«peer_acked») (r .contiguous) (b i) (queuedOf k es) (x i))
         ∙ ap (λ (r : Received). lineOf k (v .«sent_msgno») (v .«peer_acked») (r .contiguous) (size (r .above)) (queuedOf k es) (size (v .expired)))
         (open-covered HIGHEST k v wide is-valid)
