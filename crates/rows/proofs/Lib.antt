@@ -1,5 +1,7 @@
 pub mod Scalars
 pub mod Lawful
+pub mod Tests
+pub mod Meets
 pub mod Proved
 pub mod Samples
 pub mod Edges

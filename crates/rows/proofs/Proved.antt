@@ -10,6 +10,7 @@ use Rattle.rows.specs.Rows.{device, cardRow, contact, queued, courier}
 use Rattle.rows.specs.Proved.{Row, Proved}
 use Rattle.rows.proofs.Lawful.{device-lawful, cardRow-lawful, contact-lawful, queued-lawful, courier-lawful}
 use Rattle.rows.proofs.Scalars.{utf8-laws}
+use Rattle.rows.proofs.Meets.{meets-laws}
 
 row : {A : Type 0} (l : Layout A) → RowLaws l → Row l
 row l laws = record { laws = laws; veil = veil-laws l laws }
@@ -23,6 +24,7 @@ proved = record {
       (λ v rest h. h .1 .1 .1 .1 .1 .1 .1 .1 .1 .1 .1 .1 .1 .1 .1 .1 .1 .1 .1 .1 .1 .1 .1 .1 .0));
   queued = λ version. row (queued version) (row-laws (queued version) (queued-lawful version) (λ v rest h. h .1 .1 .1 .1 .1 .0));
   courier = λ version. row (courier version) (row-laws (courier version) (courier-lawful version) (λ v rest h. h .1 .0));
+  meets = meets-laws;
   widths = width-laws;
   leb128 = leb-laws;
   utf8 = utf8-laws;

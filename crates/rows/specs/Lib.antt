@@ -4,4 +4,5 @@ pub mod Values
 pub mod Checks
 pub mod Rows
 pub mod Answers
+pub mod Meets
 pub mod Proved

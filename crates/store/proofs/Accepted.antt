@@ -20,7 +20,7 @@ use Rattle.store.specs.Store.{Store, entryAt, within, answerOf, seen, in
 use Rattle.store.specs.Accepted.{Follows, Shows, Accepted}
 use Rattle.store.proofs.Rounds.{Going≢, some≢none, AllQuiet, rounds-going, rounds-quiet, quiet-granted}
 use Rattle.store.proofs.Tests.{both, pair, all-yes, yes-all, eq→eqb}
-use Rattle.store.proofs.ByKind.{row-of}
+use Rattle.store.proofs.ByKind.{row-of, meets-of}
 use Rattle.store.proofs.Same.{across-same}
 use Rattle.store.proofs.Across.{yes-across, Sorted, across-yes}
 
@@ -68,7 +68,16 @@ read-shows s e by h =
     let k = kindOf (e .kind) in
     let r = read-value k (answerOf s e) h in
     let laws = row-of k (e .version) .laws in
-    record { value = r .0; valid = laws .read-valid (s .rowOf e) by (r .0) (r .1); prints = laws .read-print (s .rowOf e) by (r .0) (r .1); seen = sym (ap (seenOf k) (r .1)) }
+    let valid = laws .read-valid (s .rowOf e) by (r .0) (r .1) in
+    let m = meets-of k (e .version) (r .0) .0 (valid .granted) in
+    record {
+      value = r .0;
+      version = m .0;
+      fits = valid .fits;
+      prints = laws .read-print (s .rowOf e) by (r .0) (r .1);
+      meets = m .1;
+      seen = sym (ap (seenOf k) (r .1));
+    }
 
 -- what is shown is read, and seen
 pub record Reads (s : Store) (e : Entry) (x : Seen) : Type 0 where
@@ -79,7 +88,9 @@ shows-read : (s : Store) (e : Entry) (x : Seen) → Shows s e x → Reads s e x
 shows-read s e x h =
     let k = kindOf (e .kind) in
     let l = layoutOf k (e .version) in
-    let r : answerOf s e ≡ accepted (h .value) = sym (ap (readRow l) (h .prints)) ∙ row-of k (e .version) .laws .print-read (h .value) (h .valid) in
+    let granted = meets-of k (e .version) (h .value) .1 (h .version, h .meets) in
+    let r : answerOf s e ≡ accepted (h .value) =
+    sym (ap (readRow l) (h .prints)) ∙ row-of k (e .version) .laws .print-read (h .value) (record { fits = h .fits; granted = granted }) in
     record { passes = ap refusalIn r; sight = ap (seenOf k) r ∙ h .seen }
 
 -- ---- some entry

@@ -2,14 +2,14 @@
 -- Assumes nothing.
 use Prim.Native.Nat.{ℕ}
 use mathlib.Core.Bool.{Bool, true, false}
-use mathlib.Core.Option.{some}
-use mathlib.Core.Logic.{inl, inr}
+use mathlib.Core.Option.{none, some}
+use mathlib.Core.Logic.{_↔_, inl, inr}
 use mathlib.Core.Path.{_≡_, refl, sym, ap, _∙_}
 use lib.Dec.{eqb, eqb→eq}
 use Rattle.layout.specs.Questions.{CODE}
 use Rattle.layout.specs.Veil.{veil}
 use Rattle.layout.specs.Form.{u32}
-use Rattle.layout.specs.Layout.{Layout, done, ask, blankOf, accepted, refusedBy, Answer}
+use Rattle.layout.specs.Layout.{Layout, done, ask, blankOf, refusalOf, accepted, refusedBy, Answer}
 use Rattle.layout.specs.Layout as layout
 use Rattle.layout.specs.RowLaws.{Alike, RowLaws}
 use Rattle.layout.proofs.Theorems.{veil-laws, accepted≢}
@@ -17,6 +17,7 @@ use Rattle.layout.proofs.Derived.{list-plain}
 use Rattle.rows.specs.Proved.{Row}
 use Rattle.rows.proofs.Proved.{proved}
 use Rattle.store.specs.Kinds.{DEVICE, CONTACT, QUEUED, COURIER, Kind, device, contact, queued, courier, unknown, kindOf, ValueOf, layoutOf, seenIn, seenOf, refusalIn}
+use Rattle.store.specs.Accepted.{MeetsOf}
 use Rattle.store.proofs.Rounds.{some≢none}
 use Rattle.store.proofs.Tests.{truth}
 
@@ -42,6 +43,15 @@ row-of contact version = proved .contact version
 row-of queued version = proved .queued version
 row-of courier version = proved .courier version
 row-of unknown version = let laws = refuses-all CODE (done tt) in record { laws = laws; veil = veil-laws (ask CODE false (done tt)) laws }
+
+-- ---- what a layout asks of a value is what it has to meet
+pub meets-of : (k : Kind) (version : ℕ) (v : ValueOf k) → (refusalOf (layoutOf k version) v ≡ none) ↔ ((version ≡ 3) × MeetsOf k v)
+unfolding layout.refusalOf
+meets-of device version d = proved .meets .device version d
+meets-of contact version c = proved .meets .contact version c
+meets-of queued version q = proved .meets .queued version q
+meets-of courier version h = proved .meets .courier version h
+meets-of unknown version u = ((λ e. absurd (some≢none e)), (λ m. absurd (m .1)))
 
 -- ---- what is seen of a row is nothing that is veiled
 seen-blank : (k : Kind) (version : ℕ) (v : ValueOf k) → seenIn k (blankOf (layoutOf k version) veil v) ≡ seenIn k v

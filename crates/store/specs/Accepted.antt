@@ -7,11 +7,11 @@ use mathlib.Core.Logic.{_⊎_}
 use mathlib.Core.Path.{_≡_}
 use lib.ListN.{length}
 use Rattle.layout.specs.Questions.{ORDER}
-use Rattle.layout.specs.Layout.{print}
-use Rattle.layout.specs.RowLaws.{Valid}
+use Rattle.layout.specs.Layout.{print, fitsOf}
+use Rattle.rows.specs.Meets.{MeetsDevice, MeetsContact, MeetsQueued, MeetsCourier}
 use Rattle.store.specs.declared.Entry.{Entry}
 use Rattle.store.specs.Rounds.{First}
-use Rattle.store.specs.Kinds.{DEVICE, CONTACT, QUEUED, COURIER, kindOf, ValueOf, layoutOf, Seen, seenIn}
+use Rattle.store.specs.Kinds.{DEVICE, CONTACT, QUEUED, COURIER, Kind, device, contact, queued, courier, unknown, kindOf, ValueOf, layoutOf, Seen, seenIn}
 use Rattle.store.specs.Store.{Store, entryAt, nextIn, lastSlot, allRounds}
 
 abbrev pub NotIn : ℕ → List ℕ → Type 0
@@ -46,11 +46,23 @@ module _ (es : List Entry) (look : Entry → Seen) where
     pub slots-new : (i j : ℕ) → i < length es → j < i → Twice es COURIER j i → ⊥
     pub below-last : (i : ℕ) → i < length es → entryAt es i .kind ≡ COURIER → entryAt es i .id < lastSlot
 
--- ---- 3 to 24: the entry's row is the print of a value that is valid for its kind and version, and x is what is seen of it
+-- ---- 3 to 24: the entry's row is the print of a value that has its fields' widths and meets its kind's questions, and x is what is seen of it
+-- 7 to 9, 11, 13 to 15 and 17 to 24 (rows/specs/Meets.antt); of an unknown kind there is no row (6)
+abbrev pub MeetsOf : (k : Kind) → ValueOf k → Type 0
+MeetsOf device d = MeetsDevice d
+MeetsOf contact c = MeetsContact c
+MeetsOf queued q = MeetsQueued q
+MeetsOf courier h = MeetsCourier h
+MeetsOf unknown u = ⊥
+
 pub record Shows (s : Store) (e : Entry) (x : Seen) : Type 0 where
   pub value : ValueOf (kindOf (e .kind))
-  pub valid : Valid (layoutOf (kindOf (e .kind)) (e .version)) value
+  -- 3
+  pub version : e .version ≡ 3
+  -- 4 to 6, 10, 12 and 16
+  pub fits : fitsOf (layoutOf (kindOf (e .kind)) (e .version)) value []
   pub prints : print (layoutOf (kindOf (e .kind)) (e .version)) value ≡ s .rowOf e
+  pub meets : MeetsOf (kindOf (e .kind)) value
   pub seen : seenIn (kindOf (e .kind)) value ≡ x
 
 -- ---- 1: a later kind is 1 to 3, and not below the one before
