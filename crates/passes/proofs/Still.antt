@@ -13,6 +13,7 @@ use Rattle.layout.specs.Write as write
 use Rattle.rows.specs.Values as value
 use Rattle.rows.specs.Rows as rows
 use Rattle.rows.specs.Checks.{ackedSent, rising, canonical, noneAbove}
+use Rattle.rows.proofs.Meets.{first-none}
 use Rattle.received.proofs.Tests.{either}
 use Rattle.contact.specs.Consistent.{chainsRefusal, numbersRefusal, inconsistency}
 use Rattle.contact.specs.Contact.{Lists}
@@ -35,7 +36,6 @@ use Rattle.restore.specs.Restored.{Questioned}
 use Rattle.ledger.specs.declared.Mark.the-variants.{Fresh}
 use Rattle.ledger.specs.Call.{Hand}
 use Rattle.ledger.specs.Aside.{sightOf, isLength, passesInParts}
-use Rattle.ledger.proofs.Numbers.{first-none}
 use Rattle.ledger.proofs.Aside.{passes-in-parts}
 use Rattle.sought.specs.declared.Sought.{Sought}
 use Rattle.sought.specs.Sought.{soughtIn, queuedAmong, queuedFound}

@@ -8,7 +8,7 @@ use mathlib.Core.Logic.{_↔_, inl, inr}
 use mathlib.Core.Path.{_≡_, refl, sym, ap, subst, _∙_}
 use native.Mathlib.Omega.{arith}
 use lib.ListN.{length, getD, length-map, List·getD-map}
-use lib.Dec.{leb, ltb, eqb}
+use lib.Dec.{leb, eqb}
 use borrow.Author.Tests.{leb-true, le-leb, ltb-true, lt-ltb, eqb-true, eq-eqb, eqb-false, ne-eqb, not-true}
 use Rattle.layout.specs.Questions.{VERSION, CAPS, «NAME_LENGTH», «NAME_UTF8», «COURIER_CONFIG», «SEALED_LENGTH», «CARRIED_COPIES», «CARRIED_EXPIRY»}
 use Rattle.layout.specs.Questions.{«CHAINS_CURRENT», «CHAINS_GENS», «SKIPPED_KEYS», «SKIPPED_COUNT», «PEER_ACKED», UNACKED, ABOVE, EXPIRED}
@@ -38,7 +38,7 @@ asked-yes q false o e = absurd (some≢none e)
 yes-asked : (q : ℕ) (t : Bool) (o : Option ℕ) → t ≡ true → o ≡ none → cond t o (some q) ≡ none
 yes-asked q t o e g = rw e g
 
-first-none : (a b : Option ℕ) → first a b ≡ none → (a ≡ none) × (b ≡ none)
+pub first-none : (a b : Option ℕ) → first a b ≡ none → (a ≡ none) × (b ≡ none)
 first-none none b e = (refl, e)
 first-none (some q) b e = absurd (some≢none e)
 
