@@ -5,7 +5,7 @@ requires = {
     "ordered": PLACES,
     "bounded": PLACES,
     "read": PLACES,
-    "r": f"({PLACES}, begins-at (now run) (now entries) aside n begun ordered bounded read state is-n is-begun is-ordered is-bounded is-read is-state)",
+    "end": f"({PLACES}, begins-at (now run) (now entries) aside n begun ordered bounded read state is-n is-begun is-ordered is-bounded is-read is-state)",
 }
-ends = "questioned (now run) (now entries) aside n r is-n is-r"
-uses = ["use Rattle.restore.proofs.Ends.{all-places, begins-at, questioned}"]
+ends = "answers (now run) (now entries) aside n end r is-n is-end is-r"
+uses = ["use Rattle.restore.proofs.Ends.{all-places, begins-at, answers}"]

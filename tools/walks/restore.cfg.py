@@ -1,4 +1,4 @@
 crate = "restore"
 fn = "restore"
-ends = "answers (now run) (now entries) aside end r is-aside is-end is-r"
-uses = ["use Rattle.restore.proofs.Ends.{answers}"]
+ends = "restores (now run) (now entries) aside r is-aside is-r"
+uses = ["use Rattle.restore.proofs.Ends.{restores}"]

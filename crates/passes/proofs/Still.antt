@@ -4,7 +4,7 @@ use Prim.Native.Nat.{ℕ, _+_}
 use mathlib.Core.List.{List, [], _∷_}
 use mathlib.Core.Bool.{Bool, true, false, cond, _&&_, not, false≢true}
 use mathlib.Core.Option.{none}
-use mathlib.Core.Path.{_≡_, refl, sym, ap, _∙_, subst}
+use mathlib.Core.Path.{_≡_, refl, sym, ap, _∙_}
 use lib.Dec.{T}
 use lib.ListN.{length, take}
 use Rattle.layout.specs.Questions.{LISTS, «PEER_ACKED», UNACKED, ABOVE, EXPIRED}
@@ -25,14 +25,15 @@ use Rattle.contact_laws.proofs.RoundTrip.{image-consistent}
 use Rattle.store.specs.declared.Entry.{Entry}
 use Rattle.store.specs.declared.Aside.{Aside}
 use Rattle.store.specs.declared.Aside.the-variants as left
+use Rattle.store.specs.declared.Asked.{Asked}
+use Rattle.store.specs.declared.Asked.the-variants as so
 use Rattle.store.specs.Rounds.{ask}
 use Rattle.store.specs.Kinds.{CONTACT}
-use Rattle.store.specs.Store.{isOf, before, going, replacedPasses}
-use Rattle.store.specs.Aside.{isAside, asideSeen, askedAside}
+use Rattle.store.specs.Store.{isOf, before, nextIn, slotsBelow, going, replacedPasses}
+use Rattle.store.specs.Aside.{isAside, asideSeen, seenAside, askedAside}
 use Rattle.store.proofs.Tests.{all-yes}
-use Rattle.across.specs.declared.Across.{Across}
-use Rattle.across.specs.At.{askedOf}
-use Rattle.restore.specs.Restored.{Questioned}
+use Rattle.restore.specs.declared.Restored.{Restored}
+use Rattle.restore.specs.Restored.{granting, questioned, isGranted}
 use Rattle.ledger.specs.declared.Mark.the-variants.{Fresh}
 use Rattle.ledger.specs.Call.{Hand}
 use Rattle.ledger.specs.Aside.{sightOf, isLength, passesInParts}
@@ -68,47 +69,55 @@ module _ (c : Contact) (l : Lists) (ty : ContactTyped c) (lt : ListsTyped l) whe
       go true counts (refusedBy q) read p = absurd (false≢true p)
       go false counts y read p = absurd (false≢true p)
 
+-- ---- a store is granted if every question is a yes
+all-granted : (run : List ℕ) (es : List Entry) (aside : Aside) (end : Restored) → end ≡ questioned run es aside → isGranted end ≡ going (askedAside run es (isAside aside) (asideSeen aside))
+all-granted run es aside end is = ap isGranted is ∙ go (askedAside run es (isAside aside) (asideSeen aside)) (nextIn (seenAside run es (isAside aside) (asideSeen aside)) es) (slotsBelow es (length es))
+  where
+    go : (a : Asked) (next slot : ℕ) → isGranted (granting a next slot) ≡ going a
+    go so.Going next slot = refl
+    go (so.Refused number place) next slot = refl
+
 -- ---- opened fields in place of a contact's row
 module _ (run : List ℕ) (es : List Entry) (id : ℕ) (c : Contact) (l : Lists) where
   abbrev hand : Hand
   hand = record { mark = Fresh; run = run; entries = es; contact = c; lists = l; out = [] }
 
-  still-is : (writable : Bool) (sought : Sought) (aside : Aside) (end : Across) (count : ℕ) (among r : Bool)
-      → Writable c l writable → sought ≡ soughtIn es id → aside ≡ left.Contact id (c .«sent_msgno») → Questioned run es aside end → count ≡ c .unacked
+  still-is : (writable : Bool) (sought : Sought) (aside : Aside) (end : Restored) (count : ℕ) (among r : Bool)
+      → Writable c l writable → sought ≡ soughtIn es id → aside ≡ left.Contact id (c .«sent_msgno») → end ≡ questioned run es aside → count ≡ c .unacked
       → among ≡ queuedFound id (take count (l .unacked)) es
-      → r ≡ (writable && (sought .found && (going (askedOf end) && not among)))
+      → r ≡ (writable && (sought .found && (isGranted end && not among)))
       → r ≡ (counted c l && replacedPasses run es id (image c l))
   still-is writable sought aside end count among r is-writable is-sought is-aside is-end is-count is-among is-r =
-      is-r ∙ (λ k. is-writable .asked k && (there k && (going (askedOf end) && not among))) ∙ in-parts ∙ sym (passes-in-parts id hand (is-writable .contact) (is-writable .lists))
+      is-r ∙ (λ k. is-writable .asked k && (there k && (isGranted end && not among))) ∙ in-parts ∙ sym (passes-in-parts id hand (is-writable .contact) (is-writable .lists))
     where
       there : sought .found ≡ before es (length es) CONTACT id
       there = ap (λ (s : Sought). s .found) is-sought ∙ found-is id es
 
-      going-is : askedOf end ≡ askedAside run es (isOf CONTACT id) (sight run es id (c .«sent_msgno») [])
-      going-is = subst (λ (a : Aside). askedOf end ≡ askedAside run es (isAside a) (asideSeen a)) is-aside (is-end .asked)
+      going-is : isGranted end ≡ going (askedAside run es (isOf CONTACT id) (sight run es id (c .«sent_msgno») []))
+      going-is = all-granted run es aside end is-end ∙ ap (λ (a : Aside). going (askedAside run es (isAside a) (asideSeen a))) is-aside
 
       among-is : isLength (askedContact c l) ≡ true → among ≡ queuedAmong id (take (c .unacked) (l .unacked)) es
       among-is t =
           is-among ∙ ap (λ (n : ℕ). queuedFound id (take n (l .unacked)) es) is-count
           ∙ among-rising id (take (c .unacked) (l .unacked)) (rises c l (is-writable .contact) (is-writable .lists) t) es
 
-      in-parts : isLength (askedContact c l) && (before es (length es) CONTACT id && (going (askedOf end) && not among)) ≡ passesInParts id hand
+      in-parts : isLength (askedContact c l) && (before es (length es) CONTACT id && (isGranted end && not among)) ≡ passesInParts id hand
       in-parts =
           either (isLength (askedContact c l))
-          (λ b. (b && (before es (length es) CONTACT id && (going (askedOf end) && not among)))
+          (λ b. (b && (before es (length es) CONTACT id && (isGranted end && not among)))
           ≡ (b && (before es (length es) CONTACT id && going (askedAside run es (isOf CONTACT id) (sightOf c l)))))
           (λ t. ap (λ (x : Bool). before es (length es) CONTACT id && x)
-          ((λ k. going (going-is k) && not (among-is t k)) ∙ sym (asked-apart run es id (c .«sent_msgno») (take (c .unacked) (l .unacked)))))
+          ((λ k. going-is k && not (among-is t k)) ∙ sym (asked-apart run es id (c .«sent_msgno») (take (c .unacked) (l .unacked)))))
           (λ f. refl)
 
   -- ---- whatever it is asked of
-  pub passes-is : (asking : Asking) (writable : Bool) (sought : Sought) (aside : Aside) (end : Across) (count : ℕ) (among r : Bool)
-      → WritableFor asking c l writable → aside ≡ asideFor asking id c → Questioned run es aside end → count ≡ countFor asking c
+  pub passes-is : (asking : Asking) (writable : Bool) (sought : Sought) (aside : Aside) (end : Restored) (count : ℕ) (among r : Bool)
+      → WritableFor asking c l writable → aside ≡ asideFor asking id c → end ≡ questioned run es aside → count ≡ countFor asking c
       → among ≡ queuedFound id (take count (l .unacked)) es
-      → r ≡ yesFor asking writable (sought .found) (going (askedOf end)) among
+      → r ≡ yesFor asking writable (sought .found) (isGranted end) among
       → sought ≡ soughtIn es id → r ≡ passesFor asking run es id c l
   passes-is Nothing writable sought aside end count among r is-writable is-aside is-end is-count is-among is-r is-sought = is-r
   passes-is Stored writable sought aside end count among r is-writable is-aside is-end is-count is-among is-r is-sought =
-      is-r ∙ ap going (subst (λ (a : Aside). askedOf end ≡ askedAside run es (isAside a) (asideSeen a)) is-aside (is-end .asked))
+      is-r ∙ all-granted run es aside end is-end ∙ ap (λ (a : Aside). going (askedAside run es (isAside a) (asideSeen a))) is-aside
   passes-is Opened writable sought aside end count among r is-writable is-aside is-end is-count is-among is-r is-sought =
       still-is writable sought aside end count among r is-writable is-sought is-aside is-end is-count is-among is-r

@@ -1,7 +1,7 @@
 // Question 34: whether a store would pass 1 to 33, as it stands or with opened fields in place of a contact's row. That row is written nowhere: the fields are
 // asked what a writer asks, the store with the row left aside, and the contact's queued rows 29 by the lent numbers.
-use across::Across;
 use contact::Contact;
+use restore::Restored;
 use rows::Written;
 use sought::Sought;
 use store::Aside;
@@ -9,8 +9,7 @@ use store::Entry;
 ghost use mathlib.Core.Path.{_≡_};
 ghost use mathlib.Core.Bool.{_&&_, not};
 ghost use Rattle.contact.specs.Contact.{lists, listsBefore};
-ghost use Rattle.store.specs.Store.{going};
-ghost use Rattle.across.specs.At.{askedOf};
+ghost use Rattle.restore.specs.Restored.{isGranted};
 ghost use Rattle.sought.specs.Sought.{soughtIn};
 ghost use Rattle.passes.specs.Passes.{Writable, WritableFor, asideFor, countFor, yesFor, passedAs, passesFor};
 
@@ -27,10 +26,10 @@ pub enum Asking {
     Opened,
 }
 
-fn is_going(end: Across) -> bool
-    ensures { λ r. ⌜ r ≡ going (askedOf end) ⌝ }
+fn is_granted(end: Restored) -> bool
+    ensures { λ r. ⌜ r ≡ isGranted end ⌝ }
 {
-    let Across::Going(_) = end else {
+    let Restored::Granted(_, _) = end else {
         return false;
     };
     true
@@ -101,8 +100,8 @@ fn unacked_count(asking: Asking, contact: Contact) -> usize
 }
 
 // The fields could be written, the contact is in the store, every question is a yes, and no queued row has an unacked number.
-fn all_yes(writable: bool, sought: Sought, end: Across, among: bool) -> bool
-    ensures { λ r. ⌜ r ≡ (writable && (sought .found && (going (askedOf end) && not among))) ⌝ }
+fn all_yes(writable: bool, sought: Sought, end: Restored, among: bool) -> bool
+    ensures { λ r. ⌜ r ≡ (writable && (sought .found && (isGranted end && not among))) ⌝ }
 {
     if !writable {
         return false;
@@ -110,18 +109,18 @@ fn all_yes(writable: bool, sought: Sought, end: Across, among: bool) -> bool
     if !sought.found {
         return false;
     }
-    if !is_going(end) {
+    if !is_granted(end) {
         return false;
     }
     !among
 }
 
-fn answer(asking: Asking, writable: bool, sought: Sought, end: Across, among: bool) -> bool
-    ensures { λ r. ⌜ r ≡ yesFor asking writable (sought .found) (going (askedOf end)) among ⌝ }
+fn answer(asking: Asking, writable: bool, sought: Sought, end: Restored, among: bool) -> bool
+    ensures { λ r. ⌜ r ≡ yesFor asking writable (sought .found) (isGranted end) among ⌝ }
 {
     match asking {
         Asking::Nothing => false,
-        Asking::Stored => is_going(end),
+        Asking::Stored => is_granted(end),
         Asking::Opened => all_yes(writable, sought, end, among),
     }
 }

@@ -3,7 +3,7 @@
 use Prim.Native.Nat.{ℕ, _≤_, _<_}
 use native.Mathlib.Omega.{arith}
 use mathlib.Core.List.{List, [], _∷_}
-use mathlib.Core.Path.{_≡_, sym, _∙_, ap, subst}
+use mathlib.Core.Path.{_≡_, refl, sym, _∙_, ap, subst}
 use lib.Dec.{T}
 use lib.ListN.{length}
 use Rattle.layout.specs.Questions.{ORDER, BOUNDS, VERSION}
@@ -13,18 +13,17 @@ use Rattle.store.specs.declared.Aside.the-variants.{Nothing}
 use Rattle.store.specs.declared.Asked.{Asked}
 use Rattle.store.specs.declared.Asked.the-variants as so
 use Rattle.store.specs.Rounds.{Round, turns}
-use Rattle.store.specs.Store.{storeOf, found, outcome, restore, going}
+use Rattle.store.specs.Store.{storeOf, seen, nextIn, slotsBelow, asked, found, outcome, restore, going}
 use Rattle.store.specs.Aside.{isAside, asideSeen, askedAside}
 use Rattle.store.proofs.Walk.{slots-kept}
 use Rattle.rounds.specs.Rounds.{roundOf}
 use Rattle.across.specs.declared.Across.{Across}
 use Rattle.across.specs.declared.Across.the-variants.{Going, Refused}
 use Rattle.across.specs.Across.{begunFrom}
-use Rattle.across.specs.At.{At}
+use Rattle.across.specs.At.{sight, At}
 use Rattle.across.proofs.Laws.{begins}
 use Rattle.restore.specs.declared.Restored.{Restored}
-use Rattle.restore.specs.declared.Restored.the-variants.{Granted}
-use Rattle.restore.specs.Restored.{begunWith, ended, answered, Questioned}
+use Rattle.restore.specs.Restored.{begunWith, ended, answered, granting, questioned}
 
 pub all-places : (n : ℕ) (es : List Entry) → n ≡ length es → n ≤ length es
 all-places n es e = omega (arith, e)
@@ -48,22 +47,23 @@ some-entry : (run : List ℕ) (es : List Entry) (aside : Aside) → so.Going ≡
 some-entry run [] aside e = absurd (subst T (ap going e) tt)
 some-entry run (x ∷ es) aside e = omega arith
 
-ends-at : (run : List ℕ) (es : List Entry) (aside : Aside) (state : Across) → At run es aside (length es) state → Questioned run es aside state
-ends-at run es aside (Going w) at = record {
-  asked = at .asked;
-  found = (at .so-kept .next (some-entry run es aside (at .asked)), at .so-kept .slots ∙ slots-kept es (length es));
-}
-ends-at run es aside (Refused number place) at = record { asked = at .asked; found = tt }
+ends-at : (run : List ℕ) (es : List Entry) (aside : Aside) (end : Across) → At run es aside (length es) end → ended end ≡ questioned run es aside
+ends-at run es aside (Going w) at =
+    let next = at .so-kept .next (some-entry run es aside (at .asked)) in
+    let slot = at .so-kept .slots ∙ slots-kept es (length es) in
+    λ k. granting (at .asked k) (next k) (slot k)
+ends-at run es aside (Refused number place) at = ap (λ (a : Asked). granting a (nextIn (sight run es aside) es) (slotsBelow es (length es))) (at .asked)
 
-pub questioned : (run : List ℕ) (es : List Entry) (aside : Aside) (n : ℕ) (state : Across) → n ≡ length es → At run es aside n state → Questioned run es aside state
-questioned run es aside n state is-n at = ends-at run es aside state (subst (λ k. At run es aside k state) is-n at)
+pub answers : (run : List ℕ) (es : List Entry) (aside : Aside) (n : ℕ) (end : Across) (r : Restored) → n ≡ length es → At run es aside n end → r ≡ ended end → r ≡ questioned run es aside
+answers run es aside n end r is-n at is-r = is-r ∙ ends-at run es aside end (subst (λ k. At run es aside k end) is-n at)
 
 -- ---- restore: with nothing aside
-answer-is : (run : List ℕ) (es : List Entry) (end : Across) → Questioned run es Nothing end → ended end ≡ answered (restore (storeOf run es))
-answer-is run es (Going w) q =
-    (λ k. Granted (q .found .0 k) (q .found .1 k)) ∙ ap (λ (a : Asked). answered (outcome a (found (storeOf run es)))) (q .asked)
-answer-is run es (Refused number place) q = ap (λ (a : Asked). answered (outcome a (found (storeOf run es)))) (q .asked)
+restored : (run : List ℕ) (es : List Entry) → questioned run es Nothing ≡ answered (restore (storeOf run es))
+restored run es = go (asked (storeOf run es))
+  where
+    go : (a : Asked) → granting a (nextIn (seen (storeOf run es)) es) (slotsBelow es (length es)) ≡ answered (outcome a (found (storeOf run es)))
+    go so.Going = refl
+    go (so.Refused number place) = refl
 
-pub answers : (run : List ℕ) (es : List Entry) (aside : Aside) (end : Across) (r : Restored) → aside ≡ Nothing → Questioned run es aside end → r ≡ ended end
-    → r ≡ answered (restore (storeOf run es))
-answers run es aside end r is-aside asked is-r = is-r ∙ answer-is run es end (subst (λ (a : Aside). Questioned run es a end) is-aside asked)
+pub restores : (run : List ℕ) (es : List Entry) (aside : Aside) (r : Restored) → aside ≡ Nothing → r ≡ questioned run es aside → r ≡ answered (restore (storeOf run es))
+restores run es aside r is-aside is-r = is-r ∙ ap (questioned run es) is-aside ∙ restored run es

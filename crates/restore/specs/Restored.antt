@@ -1,9 +1,8 @@
--- What restore answers.
+-- What restore answers, and the questions with a contact's row left aside.
 -- Assumes nothing.
 use Prim.Native.Nat.{ℕ}
 use mathlib.Core.List.{List}
-use mathlib.Core.Bool.{cond}
-use mathlib.Core.Path.{_≡_}
+use mathlib.Core.Bool.{Bool, true, false, cond}
 use lib.ListN.{length}
 use lib.Dec.{eqb}
 use Rattle.layout.specs.Questions.{ORDER}
@@ -11,12 +10,10 @@ use Rattle.store.specs.declared.Entry.{Entry}
 use Rattle.store.specs.declared.Aside.{Aside}
 use Rattle.store.specs.declared.Asked.{Asked}
 use Rattle.store.specs.declared.Asked.the-variants as asked
-use Rattle.store.specs.Kinds.{Seen}
 use Rattle.store.specs.Store.{Outcome, granted, refused, nextIn, slotsBelow}
 use Rattle.store.specs.Aside.{isAside, asideSeen, seenAside, askedAside}
 use Rattle.across.specs.declared.Across.{Across}
 use Rattle.across.specs.declared.Across.the-variants as across
-use Rattle.across.specs.At.{askedOf}
 use Rattle.restore.specs.declared.Restored.{Restored}
 use Rattle.restore.specs.declared.Restored.the-variants.{Granted, Refused}
 
@@ -25,14 +22,20 @@ abbrev pub answered : Outcome → Restored
 answered (granted f) = Granted (f .«next_contact») (f .«next_slot»)
 answered (refused number place) = Refused number place
 
--- ---- the questions: the rounds' answer, and where every one is a yes next_contact and next_slot
-abbrev pub FoundIn : (Entry → Seen) → List Entry → Across → Type 0
-FoundIn look es (across.Going w) = (w .«next_contact» ≡ nextIn look es) × (w .slots ≡ slotsBelow es (length es))
-FoundIn look es (across.Refused number place) = Unit {0}
+-- ---- the questions, with a contact's row left aside: the rounds' answer, and where every one is a yes next_contact and next_slot
+abbrev pub granting : Asked → (next slot : ℕ) → Restored
+granting asked.Going next slot = Granted next slot
+granting (asked.Refused number place) next slot = Refused number place
 
-pub record Questioned (run : List ℕ) (es : List Entry) (aside : Aside) (r : Across) : Type 0 where
-  pub asked : askedOf r ≡ askedAside run es (isAside aside) (asideSeen aside)
-  pub found : FoundIn (seenAside run es (isAside aside) (asideSeen aside)) es r
+abbrev pub questioned : (run : List ℕ) → List Entry → Aside → Restored
+questioned run es aside =
+    let isLeft = isAside aside in
+    let x = asideSeen aside in
+    granting (askedAside run es isLeft x) (nextIn (seenAside run es isLeft x) es) (slotsBelow es (length es))
+
+abbrev pub isGranted : Restored → Bool
+isGranted (Granted next slot) = true
+isGranted (Refused number place) = false
 
 -- ---- on the way
 abbrev pub begunWith : ℕ → Asked

@@ -13,7 +13,7 @@ ghost use Rattle.rounds.specs.Rounds.{roundOf};
 ghost use Rattle.across.specs.Across.{ownerOf};
 ghost use Rattle.across.specs.At.{At};
 ghost use Rattle.store.specs.declared.Aside.the-variants.{Nothing};
-ghost use Rattle.restore.specs.Restored.{begunWith, ended, answered, Questioned};
+ghost use Rattle.restore.specs.Restored.{begunWith, ended, answered, questioned};
 
 // next_contact and next_slot; or the number of the question whose answer is no, and the entry's index.
 pub enum Restored {
@@ -121,8 +121,8 @@ fn across_turns(run: &[u8], entries: &[Entry], aside: Aside, upto: usize, state:
 }
 
 // Questions 1 to 33, with the row of a contact left aside, or with none.
-pub fn questions(run: &[u8], entries: &[Entry], aside: Aside) -> Across
-    ensures { λ r. ⌜ Questioned (now (run .entry)) (now (entries .entry)) aside r ⌝ }
+pub fn questions(run: &[u8], entries: &[Entry], aside: Aside) -> Restored
+    ensures { λ r. ⌜ r ≡ questioned (now (run .entry)) (now (entries .entry)) aside ⌝ }
 {
     let n = entries::entry_count(entries);
     let begun = begin(n);
@@ -130,13 +130,13 @@ pub fn questions(run: &[u8], entries: &[Entry], aside: Aside) -> Across
     let bounded = turns(run, entries, aside, question::BOUNDS, n, ordered);
     let read = turns(run, entries, aside, question::VERSION, n, bounded);
     let state = across::begin(read);
-    across_turns(run, entries, aside, n, state)
+    let end = across_turns(run, entries, aside, n, state);
+    answer(end)
 }
 
 pub fn restore(run: &[u8], entries: &[Entry]) -> Restored
     ensures { λ r. ⌜ r ≡ answered (restore (storeOf (now (run .entry)) (now (entries .entry)))) ⌝ }
 {
     let aside = nothing();
-    let end = questions(run, entries, aside);
-    answer(end)
+    questions(run, entries, aside)
 }

@@ -10,8 +10,8 @@ enum-told c = search needs
 enum-told-2 : tie.Need-enum-told-2
 enum-told-2 c = search needs
 
-is-going-requires : tie.Need-is-going-requires
-is-going-requires c κs = search needs
+is-granted-requires : tie.Need-is-granted-requires
+is-granted-requires c κs = search needs
 
 enum-told-3 : tie.Need-enum-told-3
 enum-told-3 c = search needs
@@ -34,7 +34,7 @@ answer-spec =
     (tie.spec
     enum-told
     enum-told-2
-    is-going-requires
+    is-granted-requires
     enum-told-3
     all-yes-requires
     returns

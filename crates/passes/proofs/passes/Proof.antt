@@ -53,9 +53,9 @@ use Rattle.sought.proofs.Sought.Laws as SoughtL
 use Rattle.store.specs.declared.Aside.{Aside}
 use Rattle.store.proofs.Aside as AsideT
 use Rattle.store.proofs.Aside.Laws as AsideL
-use Rattle.across.specs.declared.Across.{Across}
-use Rattle.across.proofs.Across as AcrossT
-use Rattle.across.proofs.Across.Laws as AcrossL
+use Rattle.restore.specs.declared.Restored.{Restored}
+use Rattle.restore.proofs.Restored as RestoredT
+use Rattle.restore.proofs.Restored.Laws as RestoredL
 use Rattle.sought.proofs.contact_in as sought-contact-in
 use Rattle.sought.proofs.contact_in.Symbol as sought-contact-in-def
 use Rattle.sought.proofs.contact_in.Met as sought-contact-in-thm
@@ -111,8 +111,8 @@ module _ {M : Type 1} (𝓤 : URA M) (H : Heap 𝓤) (A : Atoms 𝓤) (W : Given
   abbrev as-Aside : Held W AsideT.the-row
   as-Aside = of-enum W AsideT.the-type AsideL.the-laws AsideL.the-plain tt
 
-  abbrev as-Across : Held W AcrossT.the-row
-  as-Across = of-enum W AcrossT.the-type AcrossL.the-laws AcrossL.the-plain tt
+  abbrev as-Restored : Held W RestoredT.the-row
+  as-Restored = of-enum W RestoredT.the-type RestoredL.the-laws RestoredL.the-plain tt
 
   -- the contracts that the proof cites, and its own
   abbrev Its-sought-contact-in : Contract 𝓤
@@ -213,10 +213,10 @@ module _ {M : Type 1} (𝓤 : URA M) (H : Heap 𝓤) (A : Atoms 𝓤) (W : Given
     abbrev to-end : (sought : Sought) → (writable : Bool) → (aside : Aside) → Its-restore-questions .Ghost
     to-end sought writable aside = (((κ₀, (κ₁, tt)), (q₀, (q₁, tt)), tt, (run, (entries, (aside, tt))), (slice-vals run, (slice-vals entries, (vals as-Aside aside, tt)))), tt)
 
-    abbrev to-count : (sought : Sought) → (writable : Bool) → (aside : Aside) → (end : Across) → Its-unacked-count .Ghost
+    abbrev to-count : (sought : Sought) → (writable : Bool) → (aside : Aside) → (end : Restored) → Its-unacked-count .Ghost
     to-count sought writable aside end = ((tt, tt, tt, (asking, (contact, tt)), (vals as-Asking asking, (vals as-Contact contact, tt))), tt)
 
-    abbrev to-among : (sought : Sought) → (writable : Bool) → (aside : Aside) → (end : Across) → (count : ℕ) → Its-sought-queued-among .Ghost
+    abbrev to-among : (sought : Sought) → (writable : Bool) → (aside : Aside) → (end : Restored) → (count : ℕ) → Its-sought-queued-among .Ghost
     to-among sought writable aside end count = (
       (
         (κ₁, (κ₅, tt)),
@@ -228,19 +228,19 @@ module _ {M : Type 1} (𝓤 : URA M) (H : Heap 𝓤) (A : Atoms 𝓤) (W : Given
       tt,
     )
 
-    abbrev to-passed : (sought : Sought) → (writable : Bool) → (aside : Aside) → (end : Across) → (count : ℕ) → (among : Bool) → Its-answer .Ghost
+    abbrev to-passed : (sought : Sought) → (writable : Bool) → (aside : Aside) → (end : Restored) → (count : ℕ) → (among : Bool) → Its-answer .Ghost
     to-passed sought writable aside end count among = (
       (
         tt,
         tt,
         tt,
         (asking, (writable, (sought, (end, (among, tt))))),
-        (vals as-Asking asking, (vals as-bool writable, (vals as-Sought sought, (vals as-Across end, (vals as-bool among, tt))))),
+        (vals as-Asking asking, (vals as-bool writable, (vals as-Sought sought, (vals as-Restored end, (vals as-bool among, tt))))),
       ),
       tt,
     )
 
-    abbrev to-r : (sought : Sought) → (writable : Bool) → (aside : Aside) → (end : Across) → (count : ℕ) → (among : Bool) → (passed : Bool) → Its-passed-as .Ghost
+    abbrev to-r : (sought : Sought) → (writable : Bool) → (aside : Aside) → (end : Restored) → (count : ℕ) → (among : Bool) → (passed : Bool) → Its-passed-as .Ghost
     to-r sought writable aside end count among passed = ((tt, tt, tt, (sought, (passed, tt)), (vals as-Sought sought, (vals as-bool passed, tt))), tt)
 
     module _ (𝓣 : Tables 𝓤 H) (fm : FmC 𝓤 H (W .laws) (𝓣 .C)) (known : Known (𝓣 .C)) where
@@ -293,10 +293,10 @@ module _ {M : Type 1} (𝓤 : URA M) (H : Heap 𝓤) (A : Atoms 𝓤) (W : Given
           land ! (into !) (init ! 22 refl (as-Aside .lawful .typed aside _ in-aside .0)) $
           -- end is restore::questions(run, entries, aside)
           nothing ! $ plus ! as-Aside aside in-aside $ lends ! 8 (named 1) κ₁ EntryT.the-row entries refl $ lends ! 7 (named 0) κ₀ (UInt w8) run refl $ move ! (7 ∷ 6 ∷ 0 ∷ []) $
-          calls-held ! fm restore-questions.ended (restore-questions.clauses 𝓤 H A mem calling) (known .restore-questions) (to-end sought writable aside) (id⊢ 𝓤 _) as-Across
+          calls-held ! fm restore-questions.ended (restore-questions.clauses 𝓤 H A mem calling) (known .restore-questions) (to-end sought writable aside) (id⊢ 𝓤 _) as-Restored
           (λ r ws. id⊢ 𝓤 _)
           (and-then ! (local ! (look ! 45 refl)) (and-then ! (local ! (look ! 43 refl)) (and-then ! (local ! (look ! 21 refl)) (no-more !)))) (λ end is-end in-end.
-          land ! (into !) (init ! 20 refl (as-Across .lawful .typed end _ in-end .0)) $
+          land ! (into !) (init ! 20 refl (as-Restored .lawful .typed end _ in-end .0)) $
           -- count is passes::unacked_count(asking, contact)
           nothing ! $ plus ! as-Contact contact in-contact $ plus ! as-Asking asking in-asking $
           calls-held ! fm unacked-count.ended (unacked-count.clauses 𝓤 H A mem calling) (known .unacked-count) (to-count sought writable aside end) (id⊢ 𝓤 _) as-w64 (λ r ws. id⊢ 𝓤 _)
@@ -311,7 +311,7 @@ module _ {M : Type 1} (𝓤 : URA M) (H : Heap 𝓤) (A : Atoms 𝓤) (W : Given
           (λ among is-among in-among.
           land ! (into !) (init ! 16 refl (as-bool .lawful .typed among _ in-among .0)) $
           -- passed is passes::answer(asking, writable, sought, end, among)
-          nothing ! $ plus ! as-bool among in-among $ plus ! as-Across end in-end $ plus ! as-Sought sought in-sought $ plus ! as-bool writable in-writable $
+          nothing ! $ plus ! as-bool among in-among $ plus ! as-Restored end in-end $ plus ! as-Sought sought in-sought $ plus ! as-bool writable in-writable $
           plus ! as-Asking asking in-asking $
           calls-held ! fm answer.ended (answer.clauses 𝓤 H A mem calling) (known .answer) (to-passed sought writable aside end count among) (id⊢ 𝓤 _) as-bool (λ r ws. id⊢ 𝓤 _)
           (and-then ! (local ! (look ! 43 refl)) (and-then ! (local ! (look ! 25 refl))

@@ -34,10 +34,9 @@ use denote.Triple.Table.{entered, cited}
 use denote.Triple.Walked.{says, Stays, walkOf, Walks, ends-at, walked, walk-meets}
 use Rattle.walks.proofs.Walk.{untok, retok, gone, drops, drops-go}
 use Rattle.walks.proofs.Held.{Held, number, of-enum, vals, Lies, plus, lends, none, calls-held, into, local}
-use Rattle.restore.proofs.Ends.{all-places, begins-at, questioned}
-use Rattle.across.specs.declared.Across.{Across}
-use Rattle.across.proofs.Across as AcrossT
-use Rattle.across.proofs.Across.Laws as AcrossL
+use Rattle.restore.proofs.Ends.{all-places, begins-at, answers}
+use Rattle.restore.proofs.Restored as RestoredT
+use Rattle.restore.proofs.Restored.Laws as RestoredL
 use Rattle.store.specs.declared.Entry.{Entry}
 use Rattle.store.proofs.Entry as EntryT
 use Rattle.store.specs.declared.Aside.{Aside}
@@ -46,6 +45,9 @@ use Rattle.store.proofs.Aside.Laws as AsideL
 use Rattle.store.specs.declared.Asked.{Asked}
 use Rattle.store.proofs.Asked as AskedT
 use Rattle.store.proofs.Asked.Laws as AskedL
+use Rattle.across.specs.declared.Across.{Across}
+use Rattle.across.proofs.Across as AcrossT
+use Rattle.across.proofs.Across.Laws as AcrossL
 use Rattle.entries.proofs.entry_count as entries-entry-count
 use Rattle.entries.proofs.entry_count.Symbol as entries-entry-count-def
 use Rattle.entries.proofs.entry_count.Met as entries-entry-count-thm
@@ -61,6 +63,9 @@ use Rattle.across.proofs.begin.Met as across-begin-thm
 use Rattle.restore.proofs.across_turns as across-turns
 use Rattle.restore.proofs.across_turns.Symbol as across-turns-def
 use Rattle.restore.proofs.across_turns.Met as across-turns-thm
+use Rattle.restore.proofs.answer as answer
+use Rattle.restore.proofs.answer.Symbol as answer-def
+use Rattle.restore.proofs.answer.Met as answer-thm
 use Rattle.restore.proofs.questions as this
 use Rattle.restore.proofs.questions.Key as this-def
 use Rattle.restore.proofs.questions.Statement as stated
@@ -71,8 +76,8 @@ stayed = drops (this.ended .signature .params) (this.ended .kept)
 
 module _ {M : Type 1} (𝓤 : URA M) (H : Heap 𝓤) (A : Atoms 𝓤) (W : Given 𝓤 H A) (mem : Memory → SProp 𝓤) (calling : Routine → Fun 𝓤) where
   -- how values lie in locals
-  abbrev as-Across : Held W AcrossT.the-row
-  as-Across = of-enum W AcrossT.the-type AcrossL.the-laws AcrossL.the-plain tt
+  abbrev as-Restored : Held W RestoredT.the-row
+  as-Restored = of-enum W RestoredT.the-type RestoredL.the-laws RestoredL.the-plain tt
 
   abbrev as-Aside : Held W AsideT.the-row
   as-Aside = of-enum W AsideT.the-type AsideL.the-laws AsideL.the-plain tt
@@ -82,6 +87,9 @@ module _ {M : Type 1} (𝓤 : URA M) (H : Heap 𝓤) (A : Atoms 𝓤) (W : Given
 
   abbrev as-Asked : Held W AskedT.the-row
   as-Asked = of-enum W AskedT.the-type AskedL.the-laws AskedL.the-plain tt
+
+  abbrev as-Across : Held W AcrossT.the-row
+  as-Across = of-enum W AcrossT.the-type AcrossL.the-laws AcrossL.the-plain tt
 
   abbrev as-w8 : Held W (UInt w8)
   as-w8 = number W w8
@@ -102,12 +110,16 @@ module _ {M : Type 1} (𝓤 : URA M) (H : Heap 𝓤) (A : Atoms 𝓤) (W : Given
   abbrev Its-across-turns : Contract 𝓤
   Its-across-turns = tripleOf 𝓤 H A across-turns.signature (across-turns.spec 𝓤 H A mem calling)
 
+  abbrev Its-answer : Contract 𝓤
+  Its-answer = tripleOf 𝓤 H A answer.signature (answer.spec 𝓤 H A mem calling)
+
   pub record Known (C : Calls 𝓤 H) : Type 1 where
     pub entries-entry-count : Triple 𝓤 (C entries-entry-count-def.name) Its-entries-entry-count
     pub begin : Triple 𝓤 (C begin-def.name) Its-begin
     pub turns : Triple 𝓤 (C turns-def.name) Its-turns
     pub across-begin : Triple 𝓤 (C across-begin-def.name) Its-across-begin
     pub across-turns : Triple 𝓤 (C across-turns-def.name) Its-across-turns
+    pub answer : Triple 𝓤 (C answer-def.name) Its-answer
 
   abbrev clauses : Clauses 𝓤 this.ended
   clauses = this.clauses 𝓤 H A mem calling
@@ -168,8 +180,8 @@ module _ {M : Type 1} (𝓤 : URA M) (H : Heap 𝓤) (A : Atoms 𝓤) (W : Given
     abbrev to-state : (n : ℕ) → (begun : Asked) → (ordered : Asked) → (bounded : Asked) → (read : Asked) → Its-across-begin .Ghost
     to-state n begun ordered bounded read = ((tt, tt, tt, (read, tt), (vals as-Asked read, tt)), tt)
 
-    abbrev to-r : (n : ℕ) → (begun : Asked) → (ordered : Asked) → (bounded : Asked) → (read : Asked) → (state : Across) → Its-across-turns .Ghost
-    to-r n begun ordered bounded read state = (
+    abbrev to-end : (n : ℕ) → (begun : Asked) → (ordered : Asked) → (bounded : Asked) → (read : Asked) → (state : Across) → Its-across-turns .Ghost
+    to-end n begun ordered bounded read state = (
       (
         (κ₀, (κ₁, tt)),
         (q₀, (q₁, tt)),
@@ -179,6 +191,9 @@ module _ {M : Type 1} (𝓤 : URA M) (H : Heap 𝓤) (A : Atoms 𝓤) (W : Given
       ),
       tt,
     )
+
+    abbrev to-r : (n : ℕ) → (begun : Asked) → (ordered : Asked) → (bounded : Asked) → (read : Asked) → (state : Across) → (end : Across) → Its-answer .Ghost
+    to-r n begun ordered bounded read state end = ((tt, tt, tt, (end, tt), (vals as-Across end, tt)), tt)
 
     module _ (𝓣 : Tables 𝓤 H) (fm : FmC 𝓤 H (W .laws) (𝓣 .C)) (known : Known (𝓣 .C)) where
       abbrev C : Calls 𝓤 H
@@ -192,72 +207,77 @@ module _ {M : Type 1} (𝓤 : URA M) (H : Heap 𝓤) (A : Atoms 𝓤) (W : Given
       walk =
           qed W (raw (toks 𝓤 A 2 (κ₀, (κ₁, tt)) (q₀, (q₁, tt))) ∷ ‵ (owns (typesAt (this.signature .params) (κ₀, (κ₁, tt))) (bound .0 .3) (bound .0 .4)) ∷ []) ∵
           untok ! 2 (κ₀, (κ₁, tt)) (q₀, (q₁, tt)) $ move ! (2 ∷ []) $ fsplit ! $ move ! (1 ∷ []) $ fsplit ! $ keep ! (3 ∷ 4 ∷ 2 ∷ 0 ∷ []) $ enter ! C Λ code.function (This .args bound) _ $
-          alloc1 ! (λ l₀. alloc1 ! (λ l₁. alloc1 ! (λ l₂. alloc1 ! (λ l₃. alloc1 ! (λ l₄. alloc1 ! (λ l₅. alloc1 ! (λ l₆. alloc1 ! (λ l₇. alloc1 ! (λ l₈. alloc1 ! (λ l₉. alloc0 ! $
-          params1 ! $
-          pass1 ! (init ! 16 refl (shr-slice-lawful 𝓤 H A W (named 0) κ₀ (UInt w8) .typed run (slice-vals run) in-run .0)) $
-          pass1 ! (init ! 14 refl (shr-slice-lawful 𝓤 H A W (named 1) κ₁ EntryT.the-row .typed entries (slice-vals entries) in-entries .0)) $
-          pass1 ! (init ! 12 refl (as-Aside .lawful .typed aside _ in-aside .0)) $
-          pass0 ! $ move ! (20 ∷ 21 ∷ 22 ∷ 23 ∷ []) $
+          alloc1 ! (λ l₀. alloc1 ! (λ l₁. alloc1 ! (λ l₂. alloc1 ! (λ l₃. alloc1 !
+          (λ l₄. alloc1 ! (λ l₅. alloc1 ! (λ l₆. alloc1 ! (λ l₇. alloc1 ! (λ l₈. alloc1 ! (λ l₉. alloc1 ! (λ l₁₀. alloc0 ! $ params1 ! $
+          pass1 ! (init ! 18 refl (shr-slice-lawful 𝓤 H A W (named 0) κ₀ (UInt w8) .typed run (slice-vals run) in-run .0)) $
+          pass1 ! (init ! 16 refl (shr-slice-lawful 𝓤 H A W (named 1) κ₁ EntryT.the-row .typed entries (slice-vals entries) in-entries .0)) $
+          pass1 ! (init ! 14 refl (as-Aside .lawful .typed aside _ in-aside .0)) $
+          pass0 ! $ move ! (22 ∷ 23 ∷ 24 ∷ 25 ∷ []) $
           -- n is entries::entry_count(entries)
           nothing ! $ lends ! 3 (named 1) κ₁ EntryT.the-row entries refl $ move ! (2 ∷ 0 ∷ []) $
           calls-held ! fm entries-entry-count.ended (entries-entry-count.clauses 𝓤 H A mem calling) (known .entries-entry-count) to-n (id⊢ 𝓤 _) as-w64 (λ r ws. id⊢ 𝓤 _)
-          (and-then ! (local ! (look ! 18 refl)) (no-more !)) (λ n is-n in-n.
-          land ! (into !) (init ! 14 refl (as-w64 .lawful .typed n _ in-n .0)) $
+          (and-then ! (local ! (look ! 20 refl)) (no-more !)) (λ n is-n in-n.
+          land ! (into !) (init ! 16 refl (as-w64 .lawful .typed n _ in-n .0)) $
           -- begun is restore::begin(n)
           nothing ! $ plus ! as-w64 n in-n $
           calls-held ! fm begin.ended (begin.clauses 𝓤 H A mem calling) (known .begin) (to-begun n) (id⊢ 𝓤 _) as-Asked (λ r ws. id⊢ 𝓤 _)
-          (and-then ! (local ! (look ! 15 refl)) (no-more !)) (λ begun is-begun in-begun.
-          land ! (into !) (init ! 12 refl (as-Asked .lawful .typed begun _ in-begun .0)) $
+          (and-then ! (local ! (look ! 17 refl)) (no-more !)) (λ begun is-begun in-begun.
+          land ! (into !) (init ! 14 refl (as-Asked .lawful .typed begun _ in-begun .0)) $
           -- ordered is restore::turns(run, entries, aside, 1, n, begun)
           nothing ! $ plus ! as-Asked begun in-begun $ plus ! as-w64 n in-n $ plus ! as-w8 1 (refl, lit< tt) $ plus ! as-Aside aside in-aside $
           lends ! 3 (named 1) κ₁ EntryT.the-row entries refl $ lends ! 2 (named 0) κ₀ (UInt w8) run refl $ move ! (2 ∷ 1 ∷ 0 ∷ []) $
           calls-held ! fm turns.ended (turns.clauses 𝓤 H A mem calling) (known .turns) (to-ordered n begun) (factI 𝓤 _ (emp 𝓤) (all-places n (now entries) is-n)) as-Asked (λ r ws. id⊢ 𝓤 _)
-          (and-then ! (local ! (look ! 19 refl)) (and-then ! (local ! (look ! 17 refl))
-          (and-then ! (local ! (look ! 15 refl)) (and-then ! (lit ! tt) (and-then ! (local ! (look ! 13 refl)) (and-then ! (local ! (look ! 11 refl)) (no-more !)))))))
+          (and-then ! (local ! (look ! 21 refl)) (and-then ! (local ! (look ! 19 refl))
+          (and-then ! (local ! (look ! 17 refl)) (and-then ! (lit ! tt) (and-then ! (local ! (look ! 15 refl)) (and-then ! (local ! (look ! 13 refl)) (no-more !)))))))
           (λ ordered is-ordered in-ordered.
-          land ! (into !) (init ! 10 refl (as-Asked .lawful .typed ordered _ in-ordered .0)) $
+          land ! (into !) (init ! 12 refl (as-Asked .lawful .typed ordered _ in-ordered .0)) $
           -- bounded is restore::turns(run, entries, aside, 2, n, ordered)
           nothing ! $ plus ! as-Asked ordered in-ordered $ plus ! as-w64 n in-n $ plus ! as-w8 2 (refl, lit< tt) $ plus ! as-Aside aside in-aside $
           lends ! 3 (named 1) κ₁ EntryT.the-row entries refl $ lends ! 2 (named 0) κ₀ (UInt w8) run refl $ move ! (1 ∷ 2 ∷ 0 ∷ []) $
           calls-held ! fm turns.ended (turns.clauses 𝓤 H A mem calling) (known .turns) (to-bounded n begun ordered) (factI 𝓤 _ (emp 𝓤) (all-places n (now entries) is-n)) as-Asked
           (λ r ws. id⊢ 𝓤 _)
-          (and-then ! (local ! (look ! 19 refl)) (and-then ! (local ! (look ! 17 refl))
-          (and-then ! (local ! (look ! 15 refl)) (and-then ! (lit ! tt) (and-then ! (local ! (look ! 13 refl)) (and-then ! (local ! (look ! 9 refl)) (no-more !)))))))
+          (and-then ! (local ! (look ! 21 refl)) (and-then ! (local ! (look ! 19 refl))
+          (and-then ! (local ! (look ! 17 refl)) (and-then ! (lit ! tt) (and-then ! (local ! (look ! 15 refl)) (and-then ! (local ! (look ! 11 refl)) (no-more !)))))))
           (λ bounded is-bounded in-bounded.
-          land ! (into !) (init ! 8 refl (as-Asked .lawful .typed bounded _ in-bounded .0)) $
+          land ! (into !) (init ! 10 refl (as-Asked .lawful .typed bounded _ in-bounded .0)) $
           -- read is restore::turns(run, entries, aside, 3, n, bounded)
           nothing ! $ plus ! as-Asked bounded in-bounded $ plus ! as-w64 n in-n $ plus ! as-w8 3 (refl, lit< tt) $ plus ! as-Aside aside in-aside $
           lends ! 3 (named 1) κ₁ EntryT.the-row entries refl $ lends ! 2 (named 0) κ₀ (UInt w8) run refl $ move ! (1 ∷ 2 ∷ 0 ∷ []) $
           calls-held ! fm turns.ended (turns.clauses 𝓤 H A mem calling) (known .turns) (to-read n begun ordered bounded) (factI 𝓤 _ (emp 𝓤) (all-places n (now entries) is-n)) as-Asked
           (λ r ws. id⊢ 𝓤 _)
-          (and-then ! (local ! (look ! 19 refl)) (and-then ! (local ! (look ! 17 refl))
-          (and-then ! (local ! (look ! 15 refl)) (and-then ! (lit ! tt) (and-then ! (local ! (look ! 13 refl)) (and-then ! (local ! (look ! 7 refl)) (no-more !)))))))
+          (and-then ! (local ! (look ! 21 refl)) (and-then ! (local ! (look ! 19 refl))
+          (and-then ! (local ! (look ! 17 refl)) (and-then ! (lit ! tt) (and-then ! (local ! (look ! 15 refl)) (and-then ! (local ! (look ! 9 refl)) (no-more !)))))))
           (λ read is-read in-read.
-          land ! (into !) (init ! 6 refl (as-Asked .lawful .typed read _ in-read .0)) $
+          land ! (into !) (init ! 8 refl (as-Asked .lawful .typed read _ in-read .0)) $
           -- state is across::begin(read)
           nothing ! $ plus ! as-Asked read in-read $
           calls-held ! fm across-begin.ended (across-begin.clauses 𝓤 H A mem calling) (known .across-begin) (to-state n begun ordered bounded read) (id⊢ 𝓤 _) as-Across (λ r ws. id⊢ 𝓤 _)
-          (and-then ! (local ! (look ! 7 refl)) (no-more !)) (λ state is-state in-state.
-          land ! (into !) (init ! 4 refl (as-Across .lawful .typed state _ in-state .0)) $
-          -- r is restore::across_turns(run, entries, aside, n, state)
+          (and-then ! (local ! (look ! 9 refl)) (no-more !)) (λ state is-state in-state.
+          land ! (into !) (init ! 6 refl (as-Across .lawful .typed state _ in-state .0)) $
+          -- end is restore::across_turns(run, entries, aside, n, state)
           nothing ! $ plus ! as-Across state in-state $ plus ! as-w64 n in-n $ plus ! as-Aside aside in-aside $ lends ! 3 (named 1) κ₁ EntryT.the-row entries refl $
           lends ! 2 (named 0) κ₀ (UInt w8) run refl $ move ! (1 ∷ 2 ∷ 0 ∷ []) $
-          calls-held ! fm across-turns.ended (across-turns.clauses 𝓤 H A mem calling) (known .across-turns) (to-r n begun ordered bounded read state)
+          calls-held ! fm across-turns.ended (across-turns.clauses 𝓤 H A mem calling) (known .across-turns) (to-end n begun ordered bounded read state)
           (factI 𝓤 _ (emp 𝓤) (
             all-places n (now entries) is-n,
             begins-at (now run) (now entries) aside n begun ordered bounded read state is-n is-begun is-ordered is-bounded is-read
                 is-state,
           )) as-Across (λ r ws. id⊢ 𝓤 _)
-          (and-then ! (local ! (look ! 19 refl)) (and-then ! (local ! (look ! 17 refl))
-          (and-then ! (local ! (look ! 15 refl)) (and-then ! (local ! (look ! 13 refl)) (and-then ! (local ! (look ! 3 refl)) (no-more !)))))) (λ r is-r in-r.
-          land ! (into !) (init ! 22 refl (as-Across .lawful .typed r _ in-r .0)) $
-          returns ! (look ! 22 refl) $
-          gone ! 22 refl refl $ gone ! 20 refl refl $ gone ! 18 refl refl $ gone ! 16 refl refl $ gone ! 14 refl refl $ gone ! 12 refl refl $ gone ! 10 refl refl $ gone ! 8 refl refl $
-          gone ! 6 refl refl $ gone ! 4 refl refl $ free0 ! $
-          suffices ! _ (ends-at 𝓤 H A this.ended stayed clauses W bound (as-Across .val r) r (tt, (tt, (tt, tt))) (tt, (tt, (tt, tt)))) $
-          says ! (questioned (now run) (now entries) aside n r is-n is-r) $
+          (and-then ! (local ! (look ! 21 refl)) (and-then ! (local ! (look ! 19 refl))
+          (and-then ! (local ! (look ! 17 refl)) (and-then ! (local ! (look ! 15 refl)) (and-then ! (local ! (look ! 5 refl)) (no-more !)))))) (λ end is-end in-end.
+          land ! (into !) (init ! 4 refl (as-Across .lawful .typed end _ in-end .0)) $
+          -- r is restore::answer(end)
+          nothing ! $ plus ! as-Across end in-end $
+          calls-held ! fm answer.ended (answer.clauses 𝓤 H A mem calling) (known .answer) (to-r n begun ordered bounded read state end) (id⊢ 𝓤 _) as-Restored (λ r ws. id⊢ 𝓤 _)
+          (and-then ! (local ! (look ! 5 refl)) (no-more !)) (λ r is-r in-r.
+          land ! (into !) (init ! 24 refl (as-Restored .lawful .typed r _ in-r .0)) $
+          returns ! (look ! 24 refl) $
+          gone ! 24 refl refl $ gone ! 22 refl refl $ gone ! 20 refl refl $ gone ! 18 refl refl $ gone ! 16 refl refl $ gone ! 14 refl refl $ gone ! 12 refl refl $ gone ! 10 refl refl $
+          gone ! 8 refl refl $ gone ! 6 refl refl $ gone ! 4 refl refl $ free0 ! $
+          suffices ! _ (ends-at 𝓤 H A this.ended stayed clauses W bound (as-Restored .val r) r (tt, (tt, (tt, tt))) (tt, (tt, (tt, tt)))) $
+          says ! (answers (now run) (now entries) aside n end r is-n is-end is-r) $
           keep ! (0 ∷ 1 ∷ []) $ retok ! 2 (κ₀, (κ₁, tt)) (q₀, (q₁, tt)) $ frame ! $ nothing ! $ none ! $ none ! $ none ! $ frame ! $
-          owned ! AcrossT.the-row (Is AcrossT.the-row) (as-Across .makes) r _ in-r $ done !)))))))))))))))))
+          owned ! RestoredT.the-row (Is RestoredT.the-row) (as-Restored .makes) r _ in-r $ done !)))))))))))))))))))
 
   module _ (𝓣 : Tables 𝓤 H) (known : Known (𝓣 .C)) where
     walks : Walks 𝓤 H A this.ended stayed (WpFn 𝓤 H (𝓣 .C) (𝓣 .Λ) code.function) clauses
@@ -289,4 +309,6 @@ questions-spec 𝓤 H 𝓜 𝓖 𝓡 =
           across-begin-def.name across-begin-def.routine code.calls-across·begin (across-begin-thm.met 𝓤 H 𝓜 𝓖 𝓡);
       across-turns = cited 𝓤 H (Its-across-turns 𝓤 H (𝓖 .A) W (𝓜 .mem) (𝓡 .run)) 𝓜 𝓡 code.env
           across-turns-def.name across-turns-def.routine code.calls-restore·across-turns (across-turns-thm.met 𝓤 H 𝓜 𝓖 𝓡);
+      answer = cited 𝓤 H (Its-answer 𝓤 H (𝓖 .A) W (𝓜 .mem) (𝓡 .run)) 𝓜 𝓡 code.env
+          answer-def.name answer-def.routine code.calls-restore·answer (answer-thm.met 𝓤 H 𝓜 𝓖 𝓡);
     }))

@@ -32,7 +32,7 @@ use denote.Triple.Table.{entered, cited}
 use denote.Triple.Walked.{says, Stays, walkOf, Walks, ends-at, walked, walk-meets}
 use Rattle.walks.proofs.Walk.{untok, retok, gone, drops, drops-go}
 use Rattle.walks.proofs.Held.{Held, of-enum, vals, plus, lends, none, calls-held, into, local}
-use Rattle.restore.proofs.Ends.{answers}
+use Rattle.restore.proofs.Ends.{restores}
 use Rattle.restore.proofs.Restored as RestoredT
 use Rattle.restore.proofs.Restored.Laws as RestoredL
 use Rattle.store.specs.declared.Entry.{Entry}
@@ -40,18 +40,12 @@ use Rattle.store.proofs.Entry as EntryT
 use Rattle.store.specs.declared.Aside.{Aside}
 use Rattle.store.proofs.Aside as AsideT
 use Rattle.store.proofs.Aside.Laws as AsideL
-use Rattle.across.specs.declared.Across.{Across}
-use Rattle.across.proofs.Across as AcrossT
-use Rattle.across.proofs.Across.Laws as AcrossL
 use Rattle.restore.proofs.nothing as nothing
 use Rattle.restore.proofs.nothing.Symbol as nothing-def
 use Rattle.restore.proofs.nothing.Met as nothing-thm
 use Rattle.restore.proofs.questions as questions
 use Rattle.restore.proofs.questions.Symbol as questions-def
 use Rattle.restore.proofs.questions.Met as questions-thm
-use Rattle.restore.proofs.answer as answer
-use Rattle.restore.proofs.answer.Symbol as answer-def
-use Rattle.restore.proofs.answer.Met as answer-thm
 use Rattle.restore.proofs.restore as this
 use Rattle.restore.proofs.restore.Key as this-def
 use Rattle.restore.proofs.restore.Statement as stated
@@ -68,9 +62,6 @@ module _ {M : Type 1} (𝓤 : URA M) (H : Heap 𝓤) (A : Atoms 𝓤) (W : Given
   abbrev as-Aside : Held W AsideT.the-row
   as-Aside = of-enum W AsideT.the-type AsideL.the-laws AsideL.the-plain tt
 
-  abbrev as-Across : Held W AcrossT.the-row
-  as-Across = of-enum W AcrossT.the-type AcrossL.the-laws AcrossL.the-plain tt
-
   -- the contracts that the proof cites, and its own
   abbrev Its-nothing : Contract 𝓤
   Its-nothing = tripleOf 𝓤 H A nothing.signature (nothing.spec 𝓤 H A mem calling)
@@ -78,13 +69,9 @@ module _ {M : Type 1} (𝓤 : URA M) (H : Heap 𝓤) (A : Atoms 𝓤) (W : Given
   abbrev Its-questions : Contract 𝓤
   Its-questions = tripleOf 𝓤 H A questions.signature (questions.spec 𝓤 H A mem calling)
 
-  abbrev Its-answer : Contract 𝓤
-  Its-answer = tripleOf 𝓤 H A answer.signature (answer.spec 𝓤 H A mem calling)
-
   pub record Known (C : Calls 𝓤 H) : Type 1 where
     pub nothing : Triple 𝓤 (C nothing-def.name) Its-nothing
     pub questions : Triple 𝓤 (C questions-def.name) Its-questions
-    pub answer : Triple 𝓤 (C answer-def.name) Its-answer
 
   abbrev clauses : Clauses 𝓤 this.ended
   clauses = this.clauses 𝓤 H A mem calling
@@ -102,11 +89,8 @@ module _ {M : Type 1} (𝓤 : URA M) (H : Heap 𝓤) (A : Atoms 𝓤) (W : Given
     abbrev to-aside : Its-nothing .Ghost
     to-aside = ((tt, tt, tt, tt, tt), tt)
 
-    abbrev to-end : (aside : Aside) → Its-questions .Ghost
-    to-end aside = (((κ₀, (κ₁, tt)), (q₀, (q₁, tt)), tt, (run, (entries, (aside, tt))), (slice-vals run, (slice-vals entries, (vals as-Aside aside, tt)))), tt)
-
-    abbrev to-r : (aside : Aside) → (end : Across) → Its-answer .Ghost
-    to-r aside end = ((tt, tt, tt, (end, tt), (vals as-Across end, tt)), tt)
+    abbrev to-r : (aside : Aside) → Its-questions .Ghost
+    to-r aside = (((κ₀, (κ₁, tt)), (q₀, (q₁, tt)), tt, (run, (entries, (aside, tt))), (slice-vals run, (slice-vals entries, (vals as-Aside aside, tt)))), tt)
 
     module _ (𝓣 : Tables 𝓤 H) (fm : FmC 𝓤 H (W .laws) (𝓣 .C)) (known : Known (𝓣 .C)) where
       abbrev C : Calls 𝓤 H
@@ -120,31 +104,26 @@ module _ {M : Type 1} (𝓤 : URA M) (H : Heap 𝓤) (A : Atoms 𝓤) (W : Given
       walk =
           qed W (raw (toks 𝓤 A 2 (κ₀, (κ₁, tt)) (q₀, (q₁, tt))) ∷ ‵ (owns (typesAt (this.signature .params) (κ₀, (κ₁, tt))) (bound .0 .3) (bound .0 .4)) ∷ []) ∵
           untok ! 2 (κ₀, (κ₁, tt)) (q₀, (q₁, tt)) $ move ! (2 ∷ []) $ fsplit ! $ move ! (1 ∷ []) $ fsplit ! $ keep ! (3 ∷ 4 ∷ 2 ∷ 0 ∷ []) $ enter ! C Λ code.function (This .args bound) _ $
-          alloc1 ! (λ l₀. alloc1 ! (λ l₁. alloc1 ! (λ l₂. alloc1 ! (λ l₃. alloc1 ! (λ l₄. alloc0 ! $ params1 ! $
-          pass1 ! (init ! 6 refl (shr-slice-lawful 𝓤 H A W (named 0) κ₀ (UInt w8) .typed run (slice-vals run) in-run .0)) $
-          pass1 ! (init ! 4 refl (shr-slice-lawful 𝓤 H A W (named 1) κ₁ EntryT.the-row .typed entries (slice-vals entries) in-entries .0)) $
-          pass0 ! $ move ! (10 ∷ 11 ∷ 12 ∷ 13 ∷ []) $
+          alloc1 ! (λ l₀. alloc1 ! (λ l₁. alloc1 ! (λ l₂. alloc1 ! (λ l₃. alloc0 ! $ params1 ! $
+          pass1 ! (init ! 4 refl (shr-slice-lawful 𝓤 H A W (named 0) κ₀ (UInt w8) .typed run (slice-vals run) in-run .0)) $
+          pass1 ! (init ! 2 refl (shr-slice-lawful 𝓤 H A W (named 1) κ₁ EntryT.the-row .typed entries (slice-vals entries) in-entries .0)) $
+          pass0 ! $ move ! (8 ∷ 9 ∷ 10 ∷ 11 ∷ []) $
           -- aside is restore::nothing()
           nothing ! $
           calls-held ! fm nothing.ended (nothing.clauses 𝓤 H A mem calling) (known .nothing) to-aside (id⊢ 𝓤 _) as-Aside (λ r ws. id⊢ 𝓤 _)
           (no-more !) (λ aside is-aside in-aside.
-          land ! (into !) (init ! 6 refl (as-Aside .lawful .typed aside _ in-aside .0)) $
-          -- end is restore::questions(run, entries, aside)
+          land ! (into !) (init ! 4 refl (as-Aside .lawful .typed aside _ in-aside .0)) $
+          -- r is restore::questions(run, entries, aside)
           nothing ! $ plus ! as-Aside aside in-aside $ lends ! 3 (named 1) κ₁ EntryT.the-row entries refl $ lends ! 2 (named 0) κ₀ (UInt w8) run refl $ move ! (1 ∷ 2 ∷ 0 ∷ []) $
-          calls-held ! fm questions.ended (questions.clauses 𝓤 H A mem calling) (known .questions) (to-end aside) (id⊢ 𝓤 _) as-Across (λ r ws. id⊢ 𝓤 _)
-          (and-then ! (local ! (look ! 9 refl)) (and-then ! (local ! (look ! 7 refl)) (and-then ! (local ! (look ! 5 refl)) (no-more !)))) (λ end is-end in-end.
-          land ! (into !) (init ! 4 refl (as-Across .lawful .typed end _ in-end .0)) $
-          -- r is restore::answer(end)
-          nothing ! $ plus ! as-Across end in-end $
-          calls-held ! fm answer.ended (answer.clauses 𝓤 H A mem calling) (known .answer) (to-r aside end) (id⊢ 𝓤 _) as-Restored (λ r ws. id⊢ 𝓤 _)
-          (and-then ! (local ! (look ! 5 refl)) (no-more !)) (λ r is-r in-r.
-          land ! (into !) (init ! 12 refl (as-Restored .lawful .typed r _ in-r .0)) $
-          returns ! (look ! 12 refl) $
-          gone ! 12 refl refl $ gone ! 10 refl refl $ gone ! 8 refl refl $ gone ! 6 refl refl $ gone ! 4 refl refl $ free0 ! $
+          calls-held ! fm questions.ended (questions.clauses 𝓤 H A mem calling) (known .questions) (to-r aside) (id⊢ 𝓤 _) as-Restored (λ r ws. id⊢ 𝓤 _)
+          (and-then ! (local ! (look ! 7 refl)) (and-then ! (local ! (look ! 5 refl)) (and-then ! (local ! (look ! 3 refl)) (no-more !)))) (λ r is-r in-r.
+          land ! (into !) (init ! 10 refl (as-Restored .lawful .typed r _ in-r .0)) $
+          returns ! (look ! 10 refl) $
+          gone ! 10 refl refl $ gone ! 8 refl refl $ gone ! 6 refl refl $ gone ! 4 refl refl $ free0 ! $
           suffices ! _ (ends-at 𝓤 H A this.ended stayed clauses W bound (as-Restored .val r) r (tt, (tt, tt)) (tt, (tt, tt))) $
-          says ! (answers (now run) (now entries) aside end r is-aside is-end is-r) $
+          says ! (restores (now run) (now entries) aside r is-aside is-r) $
           keep ! (0 ∷ 1 ∷ []) $ retok ! 2 (κ₀, (κ₁, tt)) (q₀, (q₁, tt)) $ frame ! $ nothing ! $ none ! $ none ! $ frame ! $
-          owned ! RestoredT.the-row (Is RestoredT.the-row) (as-Restored .makes) r _ in-r $ done !))))))))
+          owned ! RestoredT.the-row (Is RestoredT.the-row) (as-Restored .makes) r _ in-r $ done !))))))
 
   module _ (𝓣 : Tables 𝓤 H) (known : Known (𝓣 .C)) where
     walks : Walks 𝓤 H A this.ended stayed (WpFn 𝓤 H (𝓣 .C) (𝓣 .Λ) code.function) clauses
@@ -169,6 +148,4 @@ restore-spec 𝓤 H 𝓜 𝓖 𝓡 =
           nothing-def.name nothing-def.routine code.calls-restore·nothing (nothing-thm.met 𝓤 H 𝓜 𝓖 𝓡);
       questions = cited 𝓤 H (Its-questions 𝓤 H (𝓖 .A) W (𝓜 .mem) (𝓡 .run)) 𝓜 𝓡 code.env
           questions-def.name questions-def.routine code.calls-restore·questions (questions-thm.met 𝓤 H 𝓜 𝓖 𝓡);
-      answer = cited 𝓤 H (Its-answer 𝓤 H (𝓖 .A) W (𝓜 .mem) (𝓡 .run)) 𝓜 𝓡 code.env
-          answer-def.name answer-def.routine code.calls-restore·answer (answer-thm.met 𝓤 H 𝓜 𝓖 𝓡);
     }))
