@@ -7,7 +7,7 @@ use mathlib.Core.Option.{Option, none, some}
 use mathlib.Core.Path.{_≡_, refl, sym, ap, _∙_, subst}
 use native.Mathlib.Omega.{arith}
 use lib.ListN.{length}
-use lib.Dec.{leb, ltb, eqb}
+use lib.Dec.{leb, ltb, eqb, ltb→lt}
 use Rattle.layout.specs.Questions.{«CONTACT_BELOW_NEXT», «CONTACT_NEW», «QUEUED_CONTACT», «QUEUED_MSGNO», «QUEUED_UNACKED», «QUEUED_NEW», DEPOSITOR, «SLOT_NEW», «SLOT_BELOW_LAST»}
 use Rattle.layout.specs.Layout.{present}
 use Rattle.rows.specs.Checks.{any}
@@ -20,14 +20,15 @@ use Rattle.store.specs.Store.{entryAt, partOf, nextIn, lowDepositor, lastSlot}
 use Rattle.store.specs.Find.{firstOf}
 use Rattle.store.specs.Walk.{begin, lookup, movedAs, kept, seenAt, walkAs, keep}
 use Rattle.store.specs.Walk as fold
+use Rattle.store.proofs.Tests.{truth}
 use Rattle.store.proofs.Rounds.{some≢none}
 use Rattle.store.proofs.LeftAside.{other-seen, contact-seen}
 use Rattle.store.proofs.ByKind.{Sort, is-device, is-contact, is-queued, is-courier, is-unknown, sort}
+use Rattle.across.specs.declared.Owner.{Owner}
 use Rattle.across.specs.declared.Walk.{Walk}
-use Rattle.across.specs.declared.Across.{Across}
 use Rattle.across.specs.declared.Across.the-variants.{Going}
 use Rattle.across.specs.Owner.{ownerSeen, OwnerStands}
-use Rattle.across.specs.Across.{after, twinBelow, depositorIn, nextContactIn, OwnerTurn, ownerOf, ownerLimit, twinOf, pairAbove, lowIn, SettledAs, FoundTurn, Reusable, deviceTurn, contactTurn, courierTurn}
+use Rattle.across.specs.Across.{after, twinBelow, depositorIn, nextContactIn, ownerOf, ownerLimit, twinOf, pairAbove, lowIn, Reusable, deviceTurn, contactTurn, queuedTurn, courierTurn, settledAs}
 use Rattle.across.specs.At.{readSo, sight, askedOf, Kept, KeptIn, At}
 use Rattle.across.proofs.Find.{kind-new, queued-new, foundIn, found-in, lookup-owner, owner-contact}
 use Rattle.across.proofs.Steps.{kept-last, noAt, acrossBy, across-last, SoFar, so-far, first-device, device-first}
@@ -168,53 +169,56 @@ module _ (run : List ℕ) (es : List Entry) (aside : Aside) (i : ℕ) (w : Walk)
   abbrev looked : Option ℕ
   looked = lookup es (asFold w) i (e .id)
 
-  found-turn : kindOf (e .kind) ≡ queued → (p : ℕ) (r : Across) → looked ≡ some p → OwnerTurn run aside e (entryAt es p) i p t w r → At run es aside (suc i) r
-  found-turn q p r found turn =
-      let c = entryAt es p in
-      let is = owner-contact es e (asFold w) i p inside found in
-      let shows : ownerSeen run aside c ≡ seenAt es look looked = sym (contact-seen run es aside c is) ∙ ap (seenAt es look) (sym found) in
-      let there : true ≡ present looked = ap present (sym found) in
-      let sent = turn .stands .sent ∙ ap (λ (x : Seen). x .«sent_msgno») shows in
-      let unacked = turn .stands .unacked ∙ ap (λ (x : Seen). x .unacked) shows in
-      let new = queued-new es e i w (numbered (e .kind) queued q) in
-      rw (turn .so)
-      (after-turn queued q _ _
-      (λ x. firstNo (
-      ask «QUEUED_CONTACT» (there x)
-      ∷ ask «QUEUED_MSGNO» (leb 1 (e .msgno) && leb (e .msgno) (sent x))
-      ∷ ask «QUEUED_UNACKED» (not (any (eqb (e .msgno)) (unacked x)))
-      ∷ ask «QUEUED_NEW» (new x)
-      ∷ []))
-      (λ x. kept-after queued q _ (next-kept queued q refl) (λ y. record {
-        contacts = w .contacts;
-        «queued_id» = cond (pairAbove w e) (e .id) (w .«queued_id»);
-        «queued_no» = cond (pairAbove w e) (e .msgno) (w .«queued_no»);
-        slots = w .slots;
-        spot = keep (w .spot) (sym found y);
-      }) (λ y. turn .stands)))
+  -- what is kept of it, if it was found, is what is seen of it
+  abbrev StandsIf : (p upto : ℕ) → Owner → Type 0
+  StandsIf p upto o = p < upto → OwnerStands (ownerSeen run aside (entryAt es p)) (partOf run (entryAt es p)) o
 
-  queued-turn : kindOf (e .kind) ≡ queued → (p : ℕ) (r : Across) → looked ≡ foundIn p i → (f : Bool) → ltb p i ≡ f → FoundTurn f run aside e (entryAt es p) i p t w r → At run es aside (suc i) r
-  queued-turn q p r found true x h = found-turn q p r (found ∙ ap (λ (f : Bool). cond f (some p) none) x) h
-  queued-turn q p r found false x h =
-      let lost : looked ≡ none = found ∙ ap (λ (f : Bool). cond f (some p) none) x in
-      let refuses : some «QUEUED_CONTACT» ≡ firstNo (walkAs es look queued e i (asFold w)) = rw lost in
-      rw h (after-turn queued q (some «QUEUED_CONTACT») w refuses (λ y. absurd (some≢none y)))
+  queued-turn : kindOf (e .kind) ≡ queued → (p : ℕ) (o : Owner) → looked ≡ foundIn p i → StandsIf p i o → At run es aside (suc i) (queuedTurn (partOf run (entryAt es p)) e i p t o w)
+  queued-turn q p o found stands = go (ltb p i) refl
+    where
+      go : (f : Bool) → ltb p i ≡ f → At run es aside (suc i) (queuedTurn (partOf run (entryAt es p)) e i p t o w)
+      go true x =
+          let there : looked ≡ some p = found ∙ ap (λ (f : Bool). cond f (some p) none) x in
+          let c = entryAt es p in
+          let is = owner-contact es e (asFold w) i p inside there in
+          let shows : ownerSeen run aside c ≡ seenAt es look looked = sym (contact-seen run es aside c is) ∙ ap (seenAt es look) (sym there) in
+          let here : ltb p i ≡ present looked = x ∙ ap present (sym there) in
+          let says = stands (ltb→lt p i (truth (ltb p i) x)) .0 ∙ shows in
+          let new = queued-new es e i w (numbered (e .kind) queued q) in
+          after-turn queued q _ _
+          (λ y. firstNo (
+          ask «QUEUED_CONTACT» (here y)
+          ∷ ask «QUEUED_MSGNO» (leb 1 (e .msgno) && leb (e .msgno) (says y .«sent_msgno»))
+          ∷ ask «QUEUED_UNACKED» (not (any (eqb (e .msgno)) (says y .unacked)))
+          ∷ ask «QUEUED_NEW» (new y)
+          ∷ []))
+          (λ y. kept-after queued q _ (next-kept queued q refl) (λ z. record {
+            contacts = w .contacts;
+            «queued_id» = cond (pairAbove w e) (e .id) (w .«queued_id»);
+            «queued_no» = cond (pairAbove w e) (e .msgno) (w .«queued_no»);
+            slots = w .slots;
+            spot = keep (w .spot) (sym there z);
+          }) (λ z. stands (ltb→lt p i (truth (ltb p i) x))))
+      go false x =
+          let lost : looked ≡ none = found ∙ ap (λ (f : Bool). cond f (some p) none) x in
+          let refuses : some «QUEUED_CONTACT» ≡ firstNo (walkAs es look queued e i (asFold w)) = rw lost in
+          rw x (after-turn queued q (some «QUEUED_CONTACT») w refuses (λ y. absurd (some≢none y)))
 
   -- ---- of any kind
   abbrev p : ℕ
   p = ownerOf es e (ownerLimit e i (Going w)) (w .spot)
 
-  pub turn-as : (k : Kind) → kindOf (e .kind) ≡ k → (r : Across) → SettledAs k run aside e (entryAt es p) i p t w r → At run es aside (suc i) r
-  turn-as device q r h = rw h (device-turn q)
-  turn-as contact q r h = rw h (contact-turn q)
-  turn-as queued q r h =
+  pub turn-as : (k : Kind) → kindOf (e .kind) ≡ k → (o : Owner) → StandsIf p (ownerLimit e i (Going w)) o → At run es aside (suc i) (settledAs k run e (entryAt es p) i p t o w)
+  turn-as device q o stands = device-turn q
+  turn-as contact q o stands = contact-turn q
+  turn-as queued q o stands =
       let limit : i ≡ ownerLimit e i (Going w) = sym (ap (λ (n : ℕ). cond (eqb n QUEUED) i 0) (numbered (e .kind) queued q)) in
-      queued-turn q p r (lookup-owner es e (asFold w) i inside ∙ ap (λ (n : ℕ). foundIn (ownerOf es e n (w .spot)) i) limit) (ltb p i) refl h
-  turn-as courier q r h = rw h (courier-turn q)
-  turn-as unknown q r h = rw h (unknown-turn q)
+      queued-turn q p o (lookup-owner es e (asFold w) i inside ∙ ap (λ (n : ℕ). foundIn (ownerOf es e n (w .spot)) i) limit) (λ l. stands (subst (λ (n : ℕ). p < n) limit l))
+  turn-as courier q o stands = courier-turn q
+  turn-as unknown q o stands = unknown-turn q
 
   -- what is kept of a contact is so where that contact is found again
-  pub owner-again : Reusable run aside e (entryAt es p) i p (Going w)
+  pub owner-again : Reusable run aside (entryAt es p) p (ownerLimit e i (Going w)) (Going w)
   owner-again = go (eqb (e .kind) QUEUED)
     where
       go : (f : Bool) → (let j = ownerOf es e (cond f i 0) (w .spot) in j < cond f i 0 → j ≡ w .spot → OwnerStands (ownerSeen run aside (entryAt es j)) (partOf run (entryAt es j)) (w .owner))

@@ -3,24 +3,27 @@
 use Prim.Native.Nat.{ℕ, _+_, _-_, _≤_, _<_}
 use mathlib.Core.List.{List}
 use mathlib.Core.Bool.{Bool, true, false, cond}
-use mathlib.Core.Path.{_≡_, refl, sym, ap, _∙_}
+use mathlib.Core.Path.{_≡_, refl, sym, ap, _∙_, subst}
 use native.Mathlib.Omega.{arith}
 use native.Mathlib.Numerals.{add-one}
 use lib.ListN.{length}
 use lib.Dec.{leb, ltb, eqb, leb→le, ltb→lt}
+use borrow.Author.Tests.{lt-ltb}
 use Rattle.store.specs.declared.Entry.{Entry}
 use Rattle.store.specs.declared.Aside.{Aside}
 use Rattle.store.specs.declared.Asked.{Asked}
 use Rattle.store.specs.declared.Asked.the-variants as so
 use Rattle.store.specs.Rounds.{turn}
-use Rattle.store.specs.Kinds.{DEVICE, CONTACT, QUEUED, kindOf}
-use Rattle.store.specs.Store.{entryAt}
+use Rattle.store.specs.Kinds.{DEVICE, CONTACT, QUEUED, kindOf, nothing}
+use Rattle.store.specs.Store.{entryAt, partOf}
 use Rattle.store.specs.Find.{firstOf}
 use Rattle.store.specs.Walk.{begin, kept}
 use Rattle.store.proofs.Tests.{truth}
+use Rattle.across.specs.declared.Owner.{Owner}
 use Rattle.across.specs.declared.Across.{Across}
 use Rattle.across.specs.declared.Across.the-variants.{Going, Refused}
-use Rattle.across.specs.Across.{begunFrom, contactOf, earlier, farLimit, chosen, aboveAll, ownerOf, ownerLimit, spotOf, twinOf, twinLimit, Settled, Reusable}
+use Rattle.across.specs.Across.{begunFrom, contactOf, earlier, farLimit, chosen, aboveAll, ownerOf, ownerLimit, spotOf, twinOf, twinLimit, Reusable, settled}
+use Rattle.across.specs.Owner.{ownerSeen, ownerFound, OwnerStands}
 use Rattle.across.specs.At.{readSo, sight, At}
 use Rattle.across.proofs.Steps.{noAt, across-last, first-device}
 use Rattle.across.proofs.ByKind.{turn-as, owner-again}
@@ -68,17 +71,23 @@ twin-below-limit e i (Refused n j) = omega arith
 
 -- ---- turn by turn
 pub reusable : (run : List ℕ) (es : List Entry) (aside : Aside) (i : ℕ) (s : Across) → i < length es → At run es aside i s
-    → (let e = entryAt es i in let p = ownerOf es e (ownerLimit e i s) (spotOf s) in Reusable run aside e (entryAt es p) i p s)
+    → (let e = entryAt es i in let limit = ownerLimit e i s in let p = ownerOf es e limit (spotOf s) in Reusable run aside (entryAt es p) p limit s)
 reusable run es aside i (Going w) b a = owner-again run es aside i w b (a .asked) (a .so-kept)
 reusable run es aside i (Refused n j) b a = tt
 
-pub turned : (run : List ℕ) (es : List Entry) (aside : Aside) (i : ℕ) (s r : Across) → i < length es → At run es aside i s
-    → (let e = entryAt es i in let p = ownerOf es e (ownerLimit e i s) (spotOf s) in Settled run aside e (entryAt es p) i p (firstOf es (twinOf e) 0 (twinLimit e i s)) s r)
-    → At run es aside (i + 1) r
-turned run es aside i (Going w) r b a h = rw (add-one i) (turn-as run es aside i w b (a .asked) (a .so-kept) (kindOf (entryAt es i .kind)) refl r h)
-turned run es aside i (Refused n j) r b a h =
-    let o = noAt es (sight run es aside) i (kept es 0 i begin) in
-    rw (add-one i, h) (record { asked = ap (turn o i) (a .asked) ∙ sym (across-last es (sight run es aside) i (readSo run es aside)); so-kept = tt })
+pub turned : (run : List ℕ) (es : List Entry) (aside : Aside) (i : ℕ) (s : Across) (o : Owner) → i < length es → At run es aside i s
+    → (let e = entryAt es i in let limit = ownerLimit e i s in let p = ownerOf es e limit (spotOf s) in let c = entryAt es p in
+    OwnerStands (ownerFound run aside c p limit) (partOf run c) o → At run es aside (i + 1) (settled run e c i p (firstOf es (twinOf e) 0 (twinLimit e i s)) o s))
+turned run es aside i (Going w) o b a stands =
+    let e = entryAt es i in
+    let limit = ownerLimit e i (Going w) in
+    let c = entryAt es (ownerOf es e limit (w .spot)) in
+    rw (add-one i)
+    (turn-as run es aside i w b (a .asked) (a .so-kept) (kindOf (e .kind)) refl o
+    (λ l. subst (λ (f : Bool). OwnerStands (cond f (ownerSeen run aside c) nothing) (partOf run c) o) (lt-ltb (ownerOf es e limit (w .spot)) limit l) stands))
+turned run es aside i (Refused n j) o b a stands =
+    let no = noAt es (sight run es aside) i (kept es 0 i begin) in
+    rw (add-one i) (record { asked = ap (turn no i) (a .asked) ∙ sym (across-last es (sight run es aside) i (readSo run es aside)); so-kept = tt })
 
 pub begins : (run : List ℕ) (es : List Entry) (aside : Aside) → At run es aside 0 (begunFrom (readSo run es aside))
 begins run es aside = go (readSo run es aside) refl

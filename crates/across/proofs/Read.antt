@@ -25,8 +25,7 @@ use Rattle.contact.specs.declared.ContactAt.{ContactAt}
 use Rattle.store.specs.declared.Aside.{Aside}
 use Rattle.store.specs.declared.Aside.the-variants as left
 use Rattle.store.specs.Aside.{asideSeen}
-use Rattle.across.specs.Owner.{contactSeen, OwnerStands}
-use Rattle.across.specs.Across.{noOwner, ownerAside}
+use Rattle.across.specs.Owner.{contactSeen, noOwner, ownerAside, OwnerStands}
 use Rattle.across.specs.declared.Owner.{Owner}
 
 -- what an answer shows, of the row or of an equal part of the run
@@ -61,28 +60,26 @@ ownerAt at = record { unacked = at .numbers .unacked .first; count = at .numbers
 
 pub found : (version : ℕ) (row : List ℕ) (at : ContactAt) → Bytes row
     → readRow (rows.contact version) row ≡ accepted (contactFrom row at) → Places row at → OwnerStands (contactSeen version row) row (ownerAt at)
-found version row at by e p = record {
-  sent = sym (ap (λ (a : Answer Contact). seenOf contact a .«sent_msgno») e);
-  unacked = sym (ap (λ (a : Answer Contact). seenOf contact a .unacked) e);
-  searchable = record {
+found version row at by e p = (
+  sym (ap (seenOf contact) e),
+  record {
     stands = record { next = at .numbers .unacked .next; so = p .numbers .unacked };
     highest = at .keys .«sent_msgno»;
     rises = said-yes UNACKED (rows.contact version) (contactFrom row at) (proved .contact version .laws .read-valid row by (contactFrom row at) e .granted);
-  };
-}
+  },
+)
 
 -- ---- no unacked numbers
-bare : (row : List ℕ) (sent : ℕ) → OwnerStands (record { «next_contact» = 0; «sent_msgno» = sent; unacked = []; depositor = none }) row (record { unacked = 0; count = 0; «sent_msgno» = sent })
+pub bare : (row : List ℕ) (sent : ℕ) → OwnerStands (record { «next_contact» = 0; «sent_msgno» = sent; unacked = []; depositor = none }) row (record { unacked = 0; count = 0; «sent_msgno» = sent })
 unfolding lists.items form.readMany
-bare row sent = record {
-  sent = refl;
-  unacked = refl;
-  searchable = record {
+bare row sent = (
+  refl,
+  record {
     stands = record { next = 0; so = record { starts = omega arith; ends = none-left u32 row 0 0 0 refl (omega arith) } };
     highest = 0;
     rises = tt;
-  };
-}
+  },
+)
 
 -- of a contact that was refused
 pub refused : (version : ℕ) (row : List ℕ) {q : ℕ} → readRow (rows.contact version) row ≡ refusedBy q → OwnerStands (contactSeen version row) row noOwner

@@ -2,7 +2,7 @@
 -- Assumes nothing.
 use Prim.Native.Nat.{ℕ, _-_, _<_}
 use mathlib.Core.List.{List, [], _∷_}
-use mathlib.Core.Bool.{Bool, true, false, cond, _&&_, _||_, not}
+use mathlib.Core.Bool.{Bool, true, cond, _&&_, _||_, not}
 use mathlib.Core.Option.{Option, none, some}
 use mathlib.Core.Path.{_≡_}
 use lib.Dec.{leb, ltb, eqb}
@@ -17,7 +17,6 @@ use Rattle.store.specs.declared.Asked.the-variants as so
 use Rattle.store.specs.Rounds.{ask, firstNo}
 use Rattle.store.specs.Kinds.{CONTACT, QUEUED, Kind, device, contact, queued, courier, unknown, kindOf, seenOf}
 use Rattle.store.specs.Store.{partOf, lastSlot}
-use Rattle.store.specs.Aside.{asideSeen}
 use Rattle.store.specs.Walk.{raised}
 use Rattle.store.specs.declared.Wanted.{Wanted}
 use Rattle.store.specs.Find.{firstOf}
@@ -25,12 +24,9 @@ use Rattle.across.specs.declared.Owner.{Owner}
 use Rattle.across.specs.declared.Walk.{Walk}
 use Rattle.across.specs.declared.Across.{Across}
 use Rattle.across.specs.declared.Across.the-variants.{Going, Refused}
-use Rattle.across.specs.Owner.{ownerSeen, unackedAt, OwnerStands}
+use Rattle.across.specs.Owner.{noOwner, ownerSeen, unackedAt, OwnerStands}
 
 -- ---- before the first turn
-abbrev pub noOwner : Owner
-noOwner = record { unacked = 0; count = 0; «sent_msgno» = 0 }
-
 abbrev pub fresh : Walk
 fresh = record { «next_contact» = 0; contacts = 0; slots = 0; «queued_id» = 0; spot = 0; owner = noOwner; «queued_no» = 0 }
 
@@ -69,6 +65,11 @@ abbrev pub spotOf : Across → ℕ
 spotOf (Going w) = w .spot
 spotOf (Refused n j) = 0
 
+-- where that contact is the one kept, what is kept of it is what is seen of it
+abbrev pub Reusable : (run : List ℕ) → Aside → (c : Entry) → (p upto : ℕ) → Across → Type 0
+Reusable run aside c p upto (Going w) = p < upto → p ≡ w .spot → OwnerStands (ownerSeen run aside c) (partOf run c) (w .owner)
+Reusable run aside c p upto (Refused n j) = Unit {0}
+
 -- ---- whether an entry is the first of its kind and contact, message or slot
 abbrev pub twinOf : Entry → Wanted
 twinOf e = record { id = e .id; msgno = e .msgno; kind = e .kind }
@@ -91,7 +92,7 @@ abbrev pub twinLimit : Entry → (i : ℕ) → Across → ℕ
 twinLimit e i (Going w) = twinBelow e i w
 twinLimit e i (Refused n j) = 0
 
--- ---- one turn: the i-th entry is e; its contact's entry is c, found at p; t is where its twin was found, or the limit of that search
+-- ---- one turn: the i-th entry is e; its contact's entry is c, found at p, and o what is asked of it; t is where its twin was found, or the limit of that search
 abbrev pub after : Option ℕ → (i : ℕ) → Walk → Across
 after none i w = Going w
 after (some n) i w = Refused n i
@@ -133,7 +134,8 @@ abbrev pub queuedTurn : (row : List ℕ) → Entry → (i p t : ℕ) → Owner �
 queuedTurn row e i p t o w =
     after
     (firstNo (
-    ask «QUEUED_MSGNO» (leb 1 (e .msgno) && leb (e .msgno) (o .«sent_msgno»))
+    ask «QUEUED_CONTACT» (ltb p i)
+    ∷ ask «QUEUED_MSGNO» (leb 1 (e .msgno) && leb (e .msgno) (o .«sent_msgno»))
     ∷ ask «QUEUED_UNACKED» (not (any (eqb (e .msgno)) (unackedAt row o)))
     ∷ ask «QUEUED_NEW» (leb (twinBelow e i w) t)
     ∷ []))
@@ -146,20 +148,6 @@ queuedTurn row e i p t o w =
       owner = o;
       «queued_no» = cond (pairAbove w e) (e .msgno) (w .«queued_no»);
     })
-
--- of the contact aside
-abbrev pub ownerAside : Aside → Owner
-ownerAside aside = record { unacked = 0; count = 0; «sent_msgno» = asideSeen aside .«sent_msgno» }
-
--- the contact's fields are those kept, or are read again
-pub record OwnerTurn (run : List ℕ) (aside : Aside) (e c : Entry) (i p t : ℕ) (w : Walk) (r : Across) : Type 0 where
-  pub owner : Owner
-  pub stands : OwnerStands (ownerSeen run aside c) (partOf run c) owner
-  pub so : r ≡ queuedTurn (partOf run c) e i p t owner w
-
-abbrev pub FoundTurn : Bool → (run : List ℕ) (aside : Aside) (e c : Entry) (i p t : ℕ) (w : Walk) (r : Across) → Type 0
-FoundTurn true run aside e c i p t w r = OwnerTurn run aside e c i p t w r
-FoundTurn false run aside e c i p t w r = r ≡ Refused «QUEUED_CONTACT» i
 
 abbrev pub courierTurn : (run : List ℕ) → Entry → (i t : ℕ) → Walk → Across
 courierTurn run e i t w =
@@ -179,18 +167,13 @@ courierTurn run e i t w =
       «queued_no» = w .«queued_no»;
     })
 
-abbrev pub SettledAs : Kind → (run : List ℕ) (aside : Aside) (e c : Entry) (i p t : ℕ) (w : Walk) (r : Across) → Type 0
-SettledAs device run aside e c i p t w r = r ≡ deviceTurn run e w
-SettledAs contact run aside e c i p t w r = r ≡ contactTurn e i t w
-SettledAs queued run aside e c i p t w r = FoundTurn (ltb p i) run aside e c i p t w r
-SettledAs courier run aside e c i p t w r = r ≡ courierTurn run e i t w
-SettledAs unknown run aside e c i p t w r = r ≡ Going w
+abbrev pub settledAs : Kind → (run : List ℕ) → (e c : Entry) → (i p t : ℕ) → Owner → Walk → Across
+settledAs device run e c i p t o w = deviceTurn run e w
+settledAs contact run e c i p t o w = contactTurn e i t w
+settledAs queued run e c i p t o w = queuedTurn (partOf run c) e i p t o w
+settledAs courier run e c i p t o w = courierTurn run e i t w
+settledAs unknown run e c i p t o w = Going w
 
-abbrev pub Settled : (run : List ℕ) (aside : Aside) (e c : Entry) (i p t : ℕ) (state r : Across) → Type 0
-Settled run aside e c i p t (Going w) r = SettledAs (kindOf (e .kind)) run aside e c i p t w r
-Settled run aside e c i p t (Refused n j) r = r ≡ Refused n j
-
--- where the contact is the one kept, what is kept of it is what is seen of it
-abbrev pub Reusable : (run : List ℕ) (aside : Aside) (e c : Entry) (i p : ℕ) → Across → Type 0
-Reusable run aside e c i p (Going w) = p < ownerLimit e i (Going w) → p ≡ w .spot → OwnerStands (ownerSeen run aside c) (partOf run c) (w .owner)
-Reusable run aside e c i p (Refused n j) = Unit {0}
+abbrev pub settled : (run : List ℕ) → (e c : Entry) → (i p t : ℕ) → Owner → Across → Across
+settled run e c i p t o (Going w) = settledAs (kindOf (e .kind)) run e c i p t o w
+settled run e c i p t o (Refused n j) = Refused n j

@@ -3,9 +3,10 @@
 use Prim.Native.Nat.{ℕ}
 use mathlib.Core.List.{List}
 use mathlib.Core.Bool.{cond}
+use mathlib.Core.Option.{none}
 use mathlib.Core.Path.{_≡_}
 use lib.ListN.{drop}
-use lib.Dec.{T}
+use lib.Dec.{T, ltb}
 use Rattle.layout.specs.Form.{u32}
 use Rattle.layout.specs.Layout.{readRow}
 use Rattle.rows.specs.Checks.{rising}
@@ -13,7 +14,7 @@ use Rattle.rows.specs.Rows as rows
 use Rattle.lists.specs.Lists.{items, Stands}
 use Rattle.store.specs.declared.Entry.{Entry}
 use Rattle.store.specs.declared.Aside.{Aside}
-use Rattle.store.specs.Kinds.{contact, Seen, seenOf}
+use Rattle.store.specs.Kinds.{contact, Seen, nothing, seenOf}
 use Rattle.store.specs.Store.{partOf}
 use Rattle.store.specs.Aside.{isAside, asideSeen}
 use Rattle.across.specs.declared.Owner.{Owner}
@@ -35,8 +36,22 @@ pub record Searchable (row : List ℕ) (o : Owner) : Type 0 where
   pub highest : ℕ
   pub rises : T (rising 1 highest (unackedAt row o))
 
--- what is kept of a contact with this row is what is seen of it
-pub record OwnerStands (x : Seen) (row : List ℕ) (o : Owner) : Type 0 where
-  pub sent : o .«sent_msgno» ≡ x .«sent_msgno»
-  pub unacked : unackedAt row o ≡ x .unacked
-  pub searchable : Searchable row o
+-- what is said of a contact with this row
+abbrev pub ownerSays : (row : List ℕ) → Owner → Seen
+ownerSays row o = record { «next_contact» = 0; «sent_msgno» = o .«sent_msgno»; unacked = unackedAt row o; depositor = none }
+
+-- ... is what is seen of it, and its numbers can be searched
+abbrev pub OwnerStands : Seen → (row : List ℕ) → Owner → Type 0
+OwnerStands x row o = (ownerSays row o ≡ x) × Searchable row o
+
+-- nothing
+abbrev pub noOwner : Owner
+noOwner = record { unacked = 0; count = 0; «sent_msgno» = 0 }
+
+-- of the contact aside
+abbrev pub ownerAside : Aside → Owner
+ownerAside aside = record { unacked = 0; count = 0; «sent_msgno» = asideSeen aside .«sent_msgno» }
+
+-- what is seen of the contact that was found at p; nothing where none was found below upto
+abbrev pub ownerFound : (run : List ℕ) → Aside → Entry → (p upto : ℕ) → Seen
+ownerFound run aside c p upto = cond (ltb p upto) (ownerSeen run aside c) nothing

@@ -11,13 +11,12 @@ use store::Asked;
 use store::Entry;
 use store::Wanted;
 ghost use mathlib.Core.Path.{_≡_};
-ghost use Prim.Native.Nat.{_<_};
-ghost use lib.Dec.{ltb, eqb};
+ghost use lib.Dec.{eqb};
 ghost use Rattle.rows.specs.Checks.{any};
 ghost use Rattle.store.specs.Store.{partOf};
-ghost use Rattle.across.specs.Owner.{contactSeen, ownerSeen, unackedAt, Searchable, OwnerStands};
-ghost use Rattle.across.specs.Across.{begunFrom, ownerAside, contactOf, earlier, farLimit, chosen, ownerLimit, spotOf, twinOf, pairAbove, twinBelow, twinLimit};
-ghost use Rattle.across.specs.Across.{lowIn, nextContactIn, depositorIn, deviceTurn, contactTurn, FoundTurn, courierTurn, Settled, Reusable};
+ghost use Rattle.across.specs.Owner.{noOwner, contactSeen, ownerSeen, ownerAside, ownerFound, unackedAt, ownerSays, Searchable, OwnerStands};
+ghost use Rattle.across.specs.Across.{begunFrom, contactOf, earlier, farLimit, chosen, ownerLimit, spotOf, Reusable, twinOf, pairAbove, twinBelow, twinLimit};
+ghost use Rattle.across.specs.Across.{lowIn, nextContactIn, depositorIn, deviceTurn, contactTurn, queuedTurn, courierTurn, settled};
 
 // What is asked of a queued row's contact: sent_msgno, and where in its row the unacked numbers start and how many they are.
 pub struct Owner {
@@ -44,16 +43,23 @@ pub enum Across {
     Refused(u8, usize),
 }
 
+// Where no contact was found, or its row was refused.
+fn no_owner() -> Owner
+    ensures { λ r. ⌜ r ≡ noOwner ⌝ }
+{
+    Owner {
+        unacked: 0,
+        count: 0,
+        sent_msgno: 0,
+    }
+}
+
 // How the rounds before have left it.
 pub fn begin(asked: Asked) -> Across
     ensures { λ r. ⌜ r ≡ begunFrom asked ⌝ }
 {
     let Asked::Refused(number, place) = asked else {
-        let owner = Owner {
-            unacked: 0,
-            count: 0,
-            sent_msgno: 0,
-        };
+        let owner = no_owner();
         return Across::Going(Walk {
             next_contact: 0,
             contacts: 0,
@@ -98,11 +104,7 @@ fn owner_in(version: u32, row: &[u8]) -> Owner
     ensures { λ r. ⌜ OwnerStands (contactSeen version (now (row .entry))) (now (row .entry)) r ⌝ }
 {
     let ContactCheck::Fields(at) = contact::check_contact(version, row) else {
-        return Owner {
-            unacked: 0,
-            count: 0,
-            sent_msgno: 0,
-        };
+        return no_owner();
     };
     let unacked = at.numbers.unacked;
     Owner {
@@ -117,17 +119,23 @@ fn owner_aside(aside: Aside) -> Owner
     ensures { λ r. ⌜ r ≡ ownerAside aside ⌝ }
 {
     let Aside::Contact(_, sent_msgno) = aside else {
-        return Owner {
-            unacked: 0,
-            count: 0,
-            sent_msgno: 0,
-        };
+        return no_owner();
     };
     Owner {
         unacked: 0,
         count: 0,
         sent_msgno,
     }
+}
+
+fn owner_from(run: &[u8], aside: Aside, c: Entry) -> Owner
+    ensures { λ r. ⌜ OwnerStands (ownerSeen (now (run .entry)) aside c) (partOf (now (run .entry)) c) r ⌝ }
+{
+    if store::is_aside(c, aside) {
+        return owner_aside(aside);
+    }
+    let row = store::part_of(run, c);
+    owner_in(c.version, row)
 }
 
 // 29, by halves: the numbers rise.
@@ -206,6 +214,23 @@ pub fn spot_of(state: Across) -> usize
     w.spot
 }
 
+// What is asked of the contact c, found at p; nothing where none was found below `upto`. It is what is kept, where the last queued row's contact is the same one.
+pub fn owner_of(run: &[u8], aside: Aside, c: Entry, p: usize, upto: usize, state: Across) -> Owner
+    requires { ⌜ Reusable (now run) aside c p upto state ⌝ }
+    ensures { λ r. ⌜ (ownerSays (partOf (now (run .entry)) c) r ≡ ownerFound (now (run .entry)) aside c p upto) × Searchable (partOf (now (run .entry)) c) r ⌝ }
+{
+    if upto <= p {
+        return no_owner();
+    }
+    let Across::Going(w) = state else {
+        return owner_from(run, aside, c);
+    };
+    if p == w.spot {
+        return w.owner;
+    }
+    owner_from(run, aside, c)
+}
+
 pub fn twin_of(e: Entry) -> Wanted
     ensures { λ r. ⌜ r ≡ twinOf e ⌝ }
 {
@@ -247,7 +272,7 @@ pub fn twin_limit(e: Entry, i: usize, state: Across) -> usize
     twin_below(e, i, w)
 }
 
-// ---- one turn. The i-th entry is e; its contact's entry is c, found at p; its twin was found at t, or t is the limit of that search
+// ---- one turn. The i-th entry is e; its contact's entry is c, found at p, and owner what is asked of it; its twin was found at t, or t is the limit of that search
 
 fn settle_device(run: &[u8], e: Entry, w: Walk) -> Across
     ensures { λ r. ⌜ r ≡ deviceTurn (now (run .entry)) e w ⌝ }
@@ -273,38 +298,22 @@ fn settle_contact(e: Entry, i: usize, t: usize, w: Walk) -> Across
     Across::Going(after)
 }
 
-// The contact's fields are those kept where it is the same, and are read again where it is not.
-fn owner_of(run: &[u8], aside: Aside, c: Entry, p: usize, w: Walk) -> Owner
-    requires { ⌜ (p ≡ w .spot → OwnerStands (ownerSeen (now run) aside c) (partOf (now run) c) (w .owner)) ⌝ }
-    ensures { λ r. ⌜ OwnerStands (ownerSeen (now (run .entry)) aside c) (partOf (now (run .entry)) c) r ⌝ }
-{
-    if p == w.spot {
-        return w.owner;
-    }
-    if store::is_aside(c, aside) {
-        return owner_aside(aside);
-    }
-    let row = store::part_of(run, c);
-    owner_in(c.version, row)
-}
-
 fn settle_queued(
     run: &[u8],
-    aside: Aside,
     e: Entry,
     c: Entry,
     i: usize,
     p: usize,
     t: usize,
+    owner: Owner,
     w: Walk,
 ) -> Across
-    requires { ⌜ (p < i → p ≡ w .spot → OwnerStands (ownerSeen (now run) aside c) (partOf (now run) c) (w .owner)) ⌝ }
-    ensures { λ r. ⌜ FoundTurn (ltb p i) (now (run .entry)) aside e c i p t w r ⌝ }
+    requires { ⌜ Searchable (partOf (now run) c) owner ⌝ }
+    ensures { λ r. ⌜ r ≡ queuedTurn (partOf (now (run .entry)) c) e i p t owner w ⌝ }
 {
     if i <= p {
         return Across::Refused(question::QUEUED_CONTACT, i);
     }
-    let owner = owner_of(run, aside, c, p, w);
     if e.msgno < 1 {
         return Across::Refused(question::QUEUED_MSGNO, i);
     }
@@ -349,16 +358,16 @@ fn settle_courier(run: &[u8], e: Entry, i: usize, t: usize, w: Walk) -> Across
 
 pub fn settle(
     run: &[u8],
-    aside: Aside,
     e: Entry,
     c: Entry,
     i: usize,
     p: usize,
     t: usize,
+    owner: Owner,
     state: Across,
 ) -> Across
-    requires { ⌜ Reusable (now run) aside e c i p state ⌝ }
-    ensures { λ r. ⌜ Settled (now (run .entry)) aside e c i p t state r ⌝ }
+    requires { ⌜ Searchable (partOf (now run) c) owner ⌝ }
+    ensures { λ r. ⌜ r ≡ settled (now (run .entry)) e c i p t owner state ⌝ }
 {
     let Across::Going(w) = state else {
         return state;
@@ -367,7 +376,7 @@ pub fn settle(
     match kind {
         0 => settle_device(run, e, w),
         1 => settle_contact(e, i, t, w),
-        2 => settle_queued(run, aside, e, c, i, p, t, w),
+        2 => settle_queued(run, e, c, i, p, t, owner, w),
         3 => settle_courier(run, e, i, t, w),
         _ => Across::Going(w),
     }

@@ -9,10 +9,12 @@ use lib.ListN.{length}
 use Rattle.store.specs.declared.Entry.{Entry}
 use Rattle.store.specs.declared.Aside.{Aside}
 use Rattle.store.specs.declared.Wanted.{Wanted}
-use Rattle.store.specs.Store.{entryAt}
+use Rattle.store.specs.Store.{entryAt, partOf}
 use Rattle.store.specs.Find.{firstOf}
+use Rattle.across.specs.declared.Owner.{Owner}
 use Rattle.across.specs.declared.Across.{Across}
-use Rattle.across.specs.Across.{ownerOf, ownerLimit, spotOf, twinOf, twinLimit, Settled, Reusable}
+use Rattle.across.specs.Owner.{ownerFound, OwnerStands}
+use Rattle.across.specs.Across.{ownerOf, ownerLimit, spotOf, Reusable, twinOf, twinLimit, settled}
 use Rattle.across.specs.At.{At}
 use Rattle.across.proofs.Laws.{owner-below, limit-below, twin-below-limit, reusable, turned}
 
@@ -27,24 +29,33 @@ pub twin-places : (e : Entry) (i : ℕ) (s : Across) (upto n : ℕ) → upto ≡
 twin-places e i s upto n is l = (omega arith, omega (arith, is, twin-below-limit e i s, l))
 
 -- ---- what is found is what the definitions name
-module _ (run : List ℕ) (es : List Entry) (aside : Aside) (i : ℕ) (s : Across) (l : i < length es) (at : At run es aside i s) where
-  abbrev owner : ℕ
-  owner = ownerOf es (entryAt es i) (ownerLimit (entryAt es i) i s) (spotOf s)
+module _ (run : List ℕ) (es : List Entry) (aside : Aside) (i : ℕ) (s : Across) (l : i < length es) (at : At run es aside i s)
+    (e c : Entry) (limit spot p : ℕ) (is-e : e ≡ entryAt es i) (is-limit : limit ≡ ownerLimit e i s) (is-spot : spot ≡ spotOf s) (is-p : p ≡ ownerOf es e limit spot) (is-c : c ≡ entryAt es p) where
+  abbrev its-limit : ℕ
+  its-limit = ownerLimit (entryAt es i) i s
 
-  module _ (e c : Entry) (limit spot p : ℕ)
-      (is-e : e ≡ entryAt es i) (is-limit : limit ≡ ownerLimit e i s) (is-spot : spot ≡ spotOf s) (is-p : p ≡ ownerOf es e limit spot) (is-c : c ≡ entryAt es p) where
-    found : p ≡ owner
-    found = is-p ∙ (λ k. ownerOf es (is-e k) ((is-limit ∙ ap (λ x. ownerLimit x i s) is-e) k) (is-spot k))
+  abbrev its-place : ℕ
+  its-place = ownerOf es (entryAt es i) its-limit (spotOf s)
 
-    pub may-reuse : Reusable run aside e c i p s
-    may-reuse = subst (λ (x : Entry × Entry × ℕ). Reusable run aside (x .0) (x .1) i (x .2) s) (sym (λ k. (is-e k, (is-c ∙ ap (entryAt es) found) k, found k))) (reusable run es aside i s l at)
+  limited : limit ≡ its-limit
+  limited = is-limit ∙ ap (λ x. ownerLimit x i s) is-e
 
-    pub settled : (w : Wanted) (upto t : ℕ) (r : Across) → w ≡ twinOf e → upto ≡ twinLimit e i s → t ≡ firstOf es w 0 (upto - 0) → Settled run aside e c i p t s r → At run es aside (i + 1) r
-    settled w upto t r is-w is-upto is-t is-r = turned run es aside i s r l at
-        (subst (λ (x : Entry × Entry × ℕ × ℕ). Settled run aside (x .0) (x .1) i (x .2) (x .3) s r) (λ k. (is-e k, (is-c ∙ ap (entryAt es) found) k, found k, twin k)) is-r)
-      where
-        twin : t ≡ firstOf es (twinOf (entryAt es i)) 0 (twinLimit (entryAt es i) i s)
-        twin = is-t ∙ (ap (firstOf es w 0) (sub-zero upto) ∙ (λ k. firstOf es ((is-w ∙ ap twinOf is-e) k) 0 ((is-upto ∙ ap (λ x. twinLimit x i s) is-e) k)))
+  found : p ≡ its-place
+  found = is-p ∙ (λ k. ownerOf es (is-e k) (limited k) (is-spot k))
+
+  contact : c ≡ entryAt es its-place
+  contact = is-c ∙ ap (entryAt es) found
+
+  pub may-reuse : Reusable run aside c p limit s
+  may-reuse = subst (λ (x : Entry × ℕ × ℕ). Reusable run aside (x .0) (x .1) (x .2) s) (sym (λ k. (contact k, found k, limited k))) (reusable run es aside i s l at)
+
+  pub settled-at : (o : Owner) (w : Wanted) (upto t : ℕ) (r : Across) → OwnerStands (ownerFound run aside c p limit) (partOf run c) o
+      → w ≡ twinOf e → upto ≡ twinLimit e i s → t ≡ firstOf es w 0 (upto - 0) → r ≡ settled run e c i p t o s → At run es aside (i + 1) r
+  settled-at o w upto t r stands is-w is-upto is-t is-r = subst (At run es aside (i + 1)) (sym (is-r ∙ (λ k. settled run (is-e k) (contact k) i (found k) (twin k) o s)))
+      (turned run es aside i s o l at (subst (λ (x : Entry × ℕ × ℕ). OwnerStands (ownerFound run aside (x .0) (x .1) (x .2)) (partOf run (x .0)) o) (λ k. (contact k, found k, limited k)) stands))
+    where
+      twin : t ≡ firstOf es (twinOf (entryAt es i)) 0 (twinLimit (entryAt es i) i s)
+      twin = is-t ∙ (ap (firstOf es w 0) (sub-zero upto) ∙ (λ k. firstOf es ((is-w ∙ ap twinOf is-e) k) 0 ((is-upto ∙ ap (λ x. twinLimit x i s) is-e) k)))
 
 -- ---- a loop
 pub none-yet : (upto : ℕ) → 0 ≤ upto

@@ -100,10 +100,11 @@ fn across_at(run: &[u8], entries: &[Entry], aside: Aside, i: usize, state: Acros
     let spot = across::spot_of(state);
     let p = owner_at(entries, e, limit, spot);
     let c = entries::entry_at(entries, p);
+    let owner = across::owner_of(run, aside, c, p, limit, state);
     let twin = across::twin_of(e);
     let upto = across::twin_limit(e, i, state);
     let t = entries::find(entries, twin, 0, upto);
-    across::settle(run, aside, e, c, i, p, t, state)
+    across::settle(run, e, c, i, p, t, owner, state)
 }
 
 // 25 to 33, of the entries below `upto`.

@@ -16,11 +16,15 @@ enum-known-at c = search needs
 enum-told : tie.Need-enum-told
 enum-told c = search needs
 
+no-owner-requires : tie.Need-no-owner-requires
+no-owner-requires c κs = search needs
+
 returns : tie.Need-returns
 returns c =
-    let k = c .before .before in
+    let t = c .before in
+    let k = t .before .before in
     let a = k .before .before .args in
-    refused (a .version) (a .row .now) (learn (checkSays (a .row .now)) (k .check-contact .ensures .0) (c .enum-told .given .1))
+    rw (c .no-owner .ensures) (refused (a .version) (a .row .now) (learn (checkSays (a .row .now)) (k .check-contact .ensures .0) (t .enum-told .given .1)))
 
 returns-2 : tie.Need-returns-2
 returns-2 c =
@@ -32,4 +36,4 @@ returns-2 c =
     found (a .version) (a .row .now) (h .at .given .0 .0) (typed (a .row .now) (k .before .shared-slice-known .given)) accepted placed
 
 pub owner-in-spec : {M : Type 1} → statement M
-owner-in-spec = tie.close (tie.spec check-contact-requires enum-known-at enum-told returns returns-2)
+owner-in-spec = tie.close (tie.spec check-contact-requires enum-known-at enum-told no-owner-requires returns returns-2)

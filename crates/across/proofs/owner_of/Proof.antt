@@ -1,45 +1,58 @@
 -- `across::owner_of` meets its contract.
-use Prim.Native.Nat.{ℕ}
-use mathlib.Core.List.{List}
-use mathlib.Core.Path.{sym, _∙_, subst}
+use mathlib.Core.Path.{subst}
 use borrow.Author.Needs.{needs}
+use borrow.Author.Tests.{lt-ltb, le-ltb}
 use Rattle.store.specs.Store.{partOf}
-use Rattle.across.specs.Owner.{contactSeen, OwnerStands}
-use Rattle.across.proofs.Read.{left-aside}
+use Rattle.across.specs.Across.{Reusable}
+use Rattle.across.proofs.Read.{bare}
 use Rattle.across.proofs.owner_of.Statement.{statement}
 use Rattle.across.proofs.owner_of.Tie as tie
 
-abbrev start : tie.After-is-aside → tie.Start
-start c = c .before .before .before .before
+no-owner-requires : tie.Need-no-owner-requires
+no-owner-requires c κs = search needs
 
 returns : tie.Need-returns
-returns c = let t = c .before in t .before .before .before .pre (t .if1 .taken)
+returns c =
+    let t = c .before in
+    let a = t .before .before .args in
+    rw (le-ltb _ _ (t .if1 .taken), c .no-owner .ensures) (bare (partOf (a .run .now) (a .c)) 0)
 
-is-aside-requires : tie.Need-is-aside-requires
-is-aside-requires c κs = search needs
+enum-known-state : tie.Need-enum-known-state
+enum-known-state c = search needs
 
-owner-aside-requires : tie.Need-owner-aside-requires
-owner-aside-requires c κs = search needs
+enum-told : tie.Need-enum-told
+enum-told c = search needs
+
+owner-from-requires : tie.Need-owner-from-requires
+owner-from-requires c κs = search needs
 
 returns-2 : tie.Need-returns-2
-returns-2 c =
-    let t = c .before in
-    let a = start (t .before) .args in
-    rw (sym (t .before .is-aside .ensures) ∙ t .if2 .taken, c .owner-aside .ensures) (left-aside (a .aside) (partOf (a .run .now) (a .c)))
-
-part-of-requires : tie.Need-part-of-requires
-part-of-requires c κs = search needs
-
-owner-in-requires : tie.Need-owner-in-requires
-owner-in-requires c κs = search needs
+returns-2 c = let t = c .before .before .before in rw (lt-ltb _ _ (t .if1 .left)) (c .owner-from .ensures)
 
 returns-3 : tie.Need-returns-3
 returns-3 c =
-    let p = c .before in
-    let n = p .before in
-    let a = start (n .before) .args in
-    rw (sym (n .before .is-aside .ensures) ∙ n .if2 .left)
-    (subst (λ (row : List ℕ). OwnerStands (contactSeen (a .c .version) row) row (c .owner-in .result)) (p .part-of .ensures) (c .owner-in .ensures))
+    let s = c .before .before .before .before in
+    let m = s .before .before in
+    let b = m .before .before in
+    let a = b .args in
+    rw (lt-ltb _ _ (m .if1 .left)) (subst (Reusable (a .run .now) (a .aside) (a .c) (a .p) (a .upto)) (s .state .given .1) (b .pre) (m .if1 .left) (c .before .if2 .taken))
+
+owner-from-requires-2 : tie.Need-owner-from-requires-2
+owner-from-requires-2 c κs = search needs
+
+returns-4 : tie.Need-returns-4
+returns-4 c = let t = c .before .before .before .before .before .before in rw (lt-ltb _ _ (t .if1 .left)) (c .owner-from2 .ensures)
 
 pub owner-of-spec : {M : Type 1} → statement M
-owner-of-spec = tie.close (tie.spec returns is-aside-requires owner-aside-requires returns-2 part-of-requires owner-in-requires returns-3)
+owner-of-spec =
+    tie.close
+    (tie.spec
+    no-owner-requires
+    returns
+    enum-known-state
+    enum-told
+    owner-from-requires
+    returns-2
+    returns-3
+    owner-from-requires-2
+    returns-4)

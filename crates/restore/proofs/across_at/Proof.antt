@@ -36,7 +36,7 @@ use denote.Triple.Walked.{says, needs, Stays, walkOf, Walks, ends-at, walked, wa
 use Rattle.walks.proofs.Walk.{untok, retok, gone, drops, drops-go}
 use Rattle.walks.proofs.Held.{Held, number, of-struct, of-enum, vals, Lies, plus, lends, none, calls-held, into, local}
 use Rattle.across.specs.At.{At}
-use Rattle.restore.proofs.Across.{limit-place, owner-place, twin-places, may-reuse, settled}
+use Rattle.restore.proofs.Across.{limit-place, owner-place, twin-places, may-reuse, settled-at}
 use Rattle.across.specs.declared.Across.{Across}
 use Rattle.across.proofs.Across as AcrossT
 use Rattle.across.proofs.Across.Laws as AcrossL
@@ -46,6 +46,9 @@ use Rattle.store.proofs.Entry.Laws as EntryL
 use Rattle.store.specs.declared.Aside.{Aside}
 use Rattle.store.proofs.Aside as AsideT
 use Rattle.store.proofs.Aside.Laws as AsideL
+use Rattle.across.specs.declared.Owner.{Owner}
+use Rattle.across.proofs.Owner as OwnerT
+use Rattle.across.proofs.Owner.Laws as OwnerL
 use Rattle.store.specs.declared.Wanted.{Wanted}
 use Rattle.store.proofs.Wanted as WantedT
 use Rattle.store.proofs.Wanted.Laws as WantedL
@@ -61,6 +64,9 @@ use Rattle.across.proofs.spot_of.Met as across-spot-of-thm
 use Rattle.restore.proofs.owner_at as owner-at
 use Rattle.restore.proofs.owner_at.Symbol as owner-at-def
 use Rattle.restore.proofs.owner_at.Met as owner-at-thm
+use Rattle.across.proofs.owner_of as across-owner-of
+use Rattle.across.proofs.owner_of.Symbol as across-owner-of-def
+use Rattle.across.proofs.owner_of.Met as across-owner-of-thm
 use Rattle.across.proofs.twin_of as across-twin-of
 use Rattle.across.proofs.twin_of.Symbol as across-twin-of-def
 use Rattle.across.proofs.twin_of.Met as across-twin-of-thm
@@ -95,6 +101,9 @@ module _ {M : Type 1} (𝓤 : URA M) (H : Heap 𝓤) (A : Atoms 𝓤) (W : Given
   abbrev as-Entry : Held W EntryT.the-row
   as-Entry = of-struct W EntryT.the-type EntryL.the-laws EntryL.the-plain
 
+  abbrev as-Owner : Held W OwnerT.the-row
+  as-Owner = of-struct W OwnerT.the-type OwnerL.the-laws OwnerL.the-plain
+
   abbrev as-Wanted : Held W WantedT.the-row
   as-Wanted = of-struct W WantedT.the-type WantedL.the-laws WantedL.the-plain
 
@@ -110,6 +119,9 @@ module _ {M : Type 1} (𝓤 : URA M) (H : Heap 𝓤) (A : Atoms 𝓤) (W : Given
 
   abbrev Its-owner-at : Contract 𝓤
   Its-owner-at = tripleOf 𝓤 H A owner-at.signature (owner-at.spec 𝓤 H A mem calling)
+
+  abbrev Its-across-owner-of : Contract 𝓤
+  Its-across-owner-of = tripleOf 𝓤 H A across-owner-of.signature (across-owner-of.spec 𝓤 H A mem calling)
 
   abbrev Its-across-twin-of : Contract 𝓤
   Its-across-twin-of = tripleOf 𝓤 H A across-twin-of.signature (across-twin-of.spec 𝓤 H A mem calling)
@@ -128,6 +140,7 @@ module _ {M : Type 1} (𝓤 : URA M) (H : Heap 𝓤) (A : Atoms 𝓤) (W : Given
     pub across-owner-limit : Triple 𝓤 (C across-owner-limit-def.name) Its-across-owner-limit
     pub across-spot-of : Triple 𝓤 (C across-spot-of-def.name) Its-across-spot-of
     pub owner-at : Triple 𝓤 (C owner-at-def.name) Its-owner-at
+    pub across-owner-of : Triple 𝓤 (C across-owner-of-def.name) Its-across-owner-of
     pub across-twin-of : Triple 𝓤 (C across-twin-of-def.name) Its-across-twin-of
     pub across-twin-limit : Triple 𝓤 (C across-twin-limit-def.name) Its-across-twin-limit
     pub entries-find : Triple 𝓤 (C entries-find-def.name) Its-entries-find
@@ -174,23 +187,44 @@ module _ {M : Type 1} (𝓤 : URA M) (H : Heap 𝓤) (A : Atoms 𝓤) (W : Given
     abbrev to-c : (e : Entry) → (limit : ℕ) → (spot : ℕ) → (p : ℕ) → Its-entries-entry-at .Ghost
     to-c e limit spot p = (((κ₁, tt), (q₁, tt), tt, (entries, (p, tt)), (slice-vals entries, (vals as-w64 p, tt))), tt)
 
-    abbrev to-twin : (e : Entry) → (limit : ℕ) → (spot : ℕ) → (p : ℕ) → (c : Entry) → Its-across-twin-of .Ghost
-    to-twin e limit spot p c = ((tt, tt, tt, (e, tt), (vals as-Entry e, tt)), tt)
-
-    abbrev to-upto : (e : Entry) → (limit : ℕ) → (spot : ℕ) → (p : ℕ) → (c : Entry) → (twin : Wanted) → Its-across-twin-limit .Ghost
-    to-upto e limit spot p c twin = ((tt, tt, tt, (e, (i, (state, tt))), (vals as-Entry e, (vals as-w64 i, (vals as-Across state, tt)))), tt)
-
-    abbrev to-t : (e : Entry) → (limit : ℕ) → (spot : ℕ) → (p : ℕ) → (c : Entry) → (twin : Wanted) → (upto : ℕ) → Its-entries-find .Ghost
-    to-t e limit spot p c twin upto = (((κ₁, tt), (q₁, tt), tt, (entries, (twin, (0, (upto, tt)))), (slice-vals entries, (vals as-Wanted twin, (vals as-w64 0, (vals as-w64 upto, tt))))), tt)
-
-    abbrev to-r : (e : Entry) → (limit : ℕ) → (spot : ℕ) → (p : ℕ) → (c : Entry) → (twin : Wanted) → (upto : ℕ) → (t : ℕ) → Its-across-settle .Ghost
-    to-r e limit spot p c twin upto t = (
+    abbrev to-owner : (e : Entry) → (limit : ℕ) → (spot : ℕ) → (p : ℕ) → (c : Entry) → Its-across-owner-of .Ghost
+    to-owner e limit spot p c = (
       (
         (κ₀, tt),
         (q₀, tt),
         tt,
-        (run, (aside, (e, (c, (i, (p, (t, (state, tt)))))))),
-        (slice-vals run, (vals as-Aside aside, (vals as-Entry e, (vals as-Entry c, (vals as-w64 i, (vals as-w64 p, (vals as-w64 t, (vals as-Across state, tt)))))))),
+        (run, (aside, (c, (p, (limit, (state, tt)))))),
+        (slice-vals run, (vals as-Aside aside, (vals as-Entry c, (vals as-w64 p, (vals as-w64 limit, (vals as-Across state, tt)))))),
+      ),
+      tt,
+    )
+
+    abbrev to-twin : (e : Entry) → (limit : ℕ) → (spot : ℕ) → (p : ℕ) → (c : Entry) → (owner : Owner) → Its-across-twin-of .Ghost
+    to-twin e limit spot p c owner = ((tt, tt, tt, (e, tt), (vals as-Entry e, tt)), tt)
+
+    abbrev to-upto : (e : Entry) → (limit : ℕ) → (spot : ℕ) → (p : ℕ) → (c : Entry) → (owner : Owner) → (twin : Wanted) → Its-across-twin-limit .Ghost
+    to-upto e limit spot p c owner twin = ((tt, tt, tt, (e, (i, (state, tt))), (vals as-Entry e, (vals as-w64 i, (vals as-Across state, tt)))), tt)
+
+    abbrev to-t : (e : Entry) → (limit : ℕ) → (spot : ℕ) → (p : ℕ) → (c : Entry) → (owner : Owner) → (twin : Wanted) → (upto : ℕ) → Its-entries-find .Ghost
+    to-t e limit spot p c owner twin upto = (
+      (
+        (κ₁, tt),
+        (q₁, tt),
+        tt,
+        (entries, (twin, (0, (upto, tt)))),
+        (slice-vals entries, (vals as-Wanted twin, (vals as-w64 0, (vals as-w64 upto, tt)))),
+      ),
+      tt,
+    )
+
+    abbrev to-r : (e : Entry) → (limit : ℕ) → (spot : ℕ) → (p : ℕ) → (c : Entry) → (owner : Owner) → (twin : Wanted) → (upto : ℕ) → (t : ℕ) → Its-across-settle .Ghost
+    to-r e limit spot p c owner twin upto t = (
+      (
+        (κ₀, tt),
+        (q₀, tt),
+        tt,
+        (run, (e, (c, (i, (p, (t, (owner, (state, tt)))))))),
+        (slice-vals run, (vals as-Entry e, (vals as-Entry c, (vals as-w64 i, (vals as-w64 p, (vals as-w64 t, (vals as-Owner owner, (vals as-Across state, tt)))))))),
       ),
       tt,
     )
@@ -208,75 +242,87 @@ module _ {M : Type 1} (𝓤 : URA M) (H : Heap 𝓤) (A : Atoms 𝓤) (W : Given
           qed W (raw (toks 𝓤 A 2 (κ₀, (κ₁, tt)) (q₀, (q₁, tt))) ∷ ‵ (owns (typesAt (this.signature .params) (κ₀, (κ₁, tt))) (bound .0 .3) (bound .0 .4)) ∷ []) ∵
           untok ! 2 (κ₀, (κ₁, tt)) (q₀, (q₁, tt)) $ move ! (2 ∷ []) $ fsplit ! $ move ! (1 ∷ []) $ fsplit ! $ keep ! (3 ∷ 4 ∷ 2 ∷ 0 ∷ []) $ enter ! C Λ code.function (This .args bound) _ $
           alloc1 ! (λ l₀. alloc1 ! (λ l₁. alloc1 ! (λ l₂. alloc1 ! (λ l₃. alloc1 !
-          (λ l₄. alloc1 ! (λ l₅. alloc1 ! (λ l₆. alloc1 ! (λ l₇. alloc1 ! (λ l₈. alloc1 ! (λ l₉. alloc1 ! (λ l₁₀. alloc1 ! (λ l₁₁. alloc1 ! (λ l₁₂. alloc1 ! (λ l₁₃. alloc0 ! $ params1 ! $
-          pass1 ! (init ! 24 refl (shr-slice-lawful 𝓤 H A W (named 0) κ₀ (UInt w8) .typed run (slice-vals run) in-run .0)) $
-          pass1 ! (init ! 22 refl (shr-slice-lawful 𝓤 H A W (named 1) κ₁ EntryT.the-row .typed entries (slice-vals entries) in-entries .0)) $
-          pass1 ! (init ! 20 refl (as-Aside .lawful .typed aside _ in-aside .0)) $
-          pass1 ! (init ! 18 refl (as-w64 .lawful .typed i _ in-i .0)) $
-          pass1 ! (init ! 16 refl (as-Across .lawful .typed state _ in-state .0)) $
-          pass0 ! $ move ! (28 ∷ 29 ∷ 30 ∷ 31 ∷ []) $
+          (λ l₄. alloc1 ! (λ l₅. alloc1 ! (λ l₆. alloc1 ! (λ l₇. alloc1 ! (λ l₈. alloc1 !
+          (λ l₉. alloc1 ! (λ l₁₀. alloc1 ! (λ l₁₁. alloc1 ! (λ l₁₂. alloc1 ! (λ l₁₃. alloc1 ! (λ l₁₄. alloc0 ! $ params1 ! $
+          pass1 ! (init ! 26 refl (shr-slice-lawful 𝓤 H A W (named 0) κ₀ (UInt w8) .typed run (slice-vals run) in-run .0)) $
+          pass1 ! (init ! 24 refl (shr-slice-lawful 𝓤 H A W (named 1) κ₁ EntryT.the-row .typed entries (slice-vals entries) in-entries .0)) $
+          pass1 ! (init ! 22 refl (as-Aside .lawful .typed aside _ in-aside .0)) $
+          pass1 ! (init ! 20 refl (as-w64 .lawful .typed i _ in-i .0)) $
+          pass1 ! (init ! 18 refl (as-Across .lawful .typed state _ in-state .0)) $
+          pass0 ! $ move ! (30 ∷ 31 ∷ 32 ∷ 33 ∷ []) $
           -- e is entries::entry_at(entries, i)
           nothing ! $ plus ! as-w64 i in-i $ lends ! 3 (named 1) κ₁ EntryT.the-row entries refl $ move ! (2 ∷ 0 ∷ []) $
           calls-held ! fm entries-entry-at.ended (entries-entry-at.clauses 𝓤 H A mem calling) (known .entries-entry-at) to-e (factI 𝓤 _ (emp 𝓤) (asks .0)) as-Entry (λ r ws. id⊢ 𝓤 _)
-          (and-then ! (local ! (look ! 26 refl)) (and-then ! (local ! (look ! 22 refl)) (no-more !))) (λ e is-e in-e.
-          land ! (into !) (init ! 18 refl (as-Entry .lawful .typed e _ in-e .0)) $
+          (and-then ! (local ! (look ! 28 refl)) (and-then ! (local ! (look ! 24 refl)) (no-more !))) (λ e is-e in-e.
+          land ! (into !) (init ! 20 refl (as-Entry .lawful .typed e _ in-e .0)) $
           -- limit is across::owner_limit(e, i, state)
           nothing ! $ plus ! as-Across state in-state $ plus ! as-w64 i in-i $ plus ! as-Entry e in-e $
           calls-held ! fm across-owner-limit.ended (across-owner-limit.clauses 𝓤 H A mem calling) (known .across-owner-limit) (to-limit e) (id⊢ 𝓤 _) as-w64 (λ r ws. id⊢ 𝓤 _)
-          (and-then ! (local ! (look ! 19 refl)) (and-then ! (local ! (look ! 23 refl)) (and-then ! (local ! (look ! 21 refl)) (no-more !)))) (λ limit is-limit in-limit.
-          land ! (into !) (init ! 16 refl (as-w64 .lawful .typed limit _ in-limit .0)) $
+          (and-then ! (local ! (look ! 21 refl)) (and-then ! (local ! (look ! 25 refl)) (and-then ! (local ! (look ! 23 refl)) (no-more !)))) (λ limit is-limit in-limit.
+          land ! (into !) (init ! 18 refl (as-w64 .lawful .typed limit _ in-limit .0)) $
           -- spot is across::spot_of(state)
           nothing ! $ plus ! as-Across state in-state $
           calls-held ! fm across-spot-of.ended (across-spot-of.clauses 𝓤 H A mem calling) (known .across-spot-of) (to-spot e limit) (id⊢ 𝓤 _) as-w64 (λ r ws. id⊢ 𝓤 _)
-          (and-then ! (local ! (look ! 21 refl)) (no-more !)) (λ spot is-spot in-spot.
-          land ! (into !) (init ! 14 refl (as-w64 .lawful .typed spot _ in-spot .0)) $
+          (and-then ! (local ! (look ! 23 refl)) (no-more !)) (λ spot is-spot in-spot.
+          land ! (into !) (init ! 16 refl (as-w64 .lawful .typed spot _ in-spot .0)) $
           -- p is restore::owner_at(entries, e, limit, spot)
           nothing ! $ plus ! as-w64 spot in-spot $ plus ! as-w64 limit in-limit $ plus ! as-Entry e in-e $ lends ! 3 (named 1) κ₁ EntryT.the-row entries refl $ move ! (1 ∷ 0 ∷ []) $
           calls-held ! fm owner-at.ended (owner-at.clauses 𝓤 H A mem calling) (known .owner-at) (to-p e limit spot)
           (factI 𝓤 _ (emp 𝓤) (limit-place e i state limit (length (now entries)) is-limit (asks .0))) as-w64 (λ r ws. id⊢ 𝓤 _)
-          (and-then ! (local ! (look ! 26 refl)) (and-then ! (local ! (look ! 18 refl)) (and-then ! (local ! (look ! 16 refl)) (and-then ! (local ! (look ! 14 refl)) (no-more !)))))
+          (and-then ! (local ! (look ! 28 refl)) (and-then ! (local ! (look ! 20 refl)) (and-then ! (local ! (look ! 18 refl)) (and-then ! (local ! (look ! 16 refl)) (no-more !)))))
           (λ p is-p in-p.
-          land ! (into !) (init ! 12 refl (as-w64 .lawful .typed p _ in-p .0)) $
+          land ! (into !) (init ! 14 refl (as-w64 .lawful .typed p _ in-p .0)) $
           -- c is entries::entry_at(entries, p)
           nothing ! $ plus ! as-w64 p in-p $ lends ! 3 (named 1) κ₁ EntryT.the-row entries refl $ move ! (1 ∷ 0 ∷ []) $
           calls-held ! fm entries-entry-at.ended (entries-entry-at.clauses 𝓤 H A mem calling) (known .entries-entry-at) (to-c e limit spot p)
           (factI 𝓤 _ (emp 𝓤) (owner-place (now entries) e i state limit spot p (length (now entries)) is-limit is-p (asks .0))) as-Entry (λ r ws. id⊢ 𝓤 _)
-          (and-then ! (local ! (look ! 26 refl)) (and-then ! (local ! (look ! 12 refl)) (no-more !))) (λ c is-c in-c.
-          land ! (into !) (init ! 10 refl (as-Entry .lawful .typed c _ in-c .0)) $
+          (and-then ! (local ! (look ! 28 refl)) (and-then ! (local ! (look ! 14 refl)) (no-more !))) (λ c is-c in-c.
+          land ! (into !) (init ! 12 refl (as-Entry .lawful .typed c _ in-c .0)) $
+          -- owner is across::owner_of(run, aside, c, p, limit, state)
+          nothing ! $ plus ! as-Across state in-state $ plus ! as-w64 limit in-limit $ plus ! as-w64 p in-p $ plus ! as-Entry c in-c $ plus ! as-Aside aside in-aside $
+          lends ! 2 (named 0) κ₀ (UInt w8) run refl $ move ! (2 ∷ 0 ∷ []) $
+          calls-held ! fm across-owner-of.ended (across-owner-of.clauses 𝓤 H A mem calling) (known .across-owner-of) (to-owner e limit spot p c)
+          (factI 𝓤 _ (emp 𝓤) (may-reuse (now run) (now entries) aside i state (asks .0) (asks .1) e c limit spot p is-e is-limit is-spot is-p is-c)) as-Owner (λ r ws. id⊢ 𝓤 _)
+          (and-then ! (local ! (look ! 30 refl)) (and-then ! (local ! (look ! 26 refl))
+          (and-then ! (local ! (look ! 12 refl)) (and-then ! (local ! (look ! 14 refl)) (and-then ! (local ! (look ! 18 refl)) (and-then ! (local ! (look ! 22 refl)) (no-more !)))))))
+          (λ owner is-owner in-owner.
+          land ! (into !) (init ! 10 refl (as-Owner .lawful .typed owner _ in-owner .0)) $
           -- twin is across::twin_of(e)
           nothing ! $ plus ! as-Entry e in-e $
-          calls-held ! fm across-twin-of.ended (across-twin-of.clauses 𝓤 H A mem calling) (known .across-twin-of) (to-twin e limit spot p c) (id⊢ 𝓤 _) as-Wanted (λ r ws. id⊢ 𝓤 _)
-          (and-then ! (local ! (look ! 19 refl)) (no-more !)) (λ twin is-twin in-twin.
+          calls-held ! fm across-twin-of.ended (across-twin-of.clauses 𝓤 H A mem calling) (known .across-twin-of) (to-twin e limit spot p c owner) (id⊢ 𝓤 _) as-Wanted (λ r ws. id⊢ 𝓤 _)
+          (and-then ! (local ! (look ! 21 refl)) (no-more !)) (λ twin is-twin in-twin.
           land ! (into !) (init ! 8 refl (as-Wanted .lawful .typed twin _ in-twin .0)) $
           -- upto is across::twin_limit(e, i, state)
           nothing ! $ plus ! as-Across state in-state $ plus ! as-w64 i in-i $ plus ! as-Entry e in-e $
-          calls-held ! fm across-twin-limit.ended (across-twin-limit.clauses 𝓤 H A mem calling) (known .across-twin-limit) (to-upto e limit spot p c twin) (id⊢ 𝓤 _) as-w64 (λ r ws. id⊢ 𝓤 _)
-          (and-then ! (local ! (look ! 19 refl)) (and-then ! (local ! (look ! 23 refl)) (and-then ! (local ! (look ! 21 refl)) (no-more !)))) (λ upto is-upto in-upto.
+          calls-held ! fm across-twin-limit.ended (across-twin-limit.clauses 𝓤 H A mem calling) (known .across-twin-limit) (to-upto e limit spot p c owner twin) (id⊢ 𝓤 _) as-w64
+          (λ r ws. id⊢ 𝓤 _)
+          (and-then ! (local ! (look ! 21 refl)) (and-then ! (local ! (look ! 25 refl)) (and-then ! (local ! (look ! 23 refl)) (no-more !)))) (λ upto is-upto in-upto.
           land ! (into !) (init ! 6 refl (as-w64 .lawful .typed upto _ in-upto .0)) $
           -- t is entries::find(entries, twin, 0, upto)
           nothing ! $ plus ! as-w64 upto in-upto $ plus ! as-w64 0 (refl, lit< tt) $ plus ! as-Wanted twin in-twin $ lends ! 3 (named 1) κ₁ EntryT.the-row entries refl $
-          move ! (1 ∷ 0 ∷ []) $
-          calls-held ! fm entries-find.ended (entries-find.clauses 𝓤 H A mem calling) (known .entries-find) (to-t e limit spot p c twin upto)
+          move ! (2 ∷ 0 ∷ []) $
+          calls-held ! fm entries-find.ended (entries-find.clauses 𝓤 H A mem calling) (known .entries-find) (to-t e limit spot p c owner twin upto)
           (factI 𝓤 _ (emp 𝓤) (twin-places e i state upto (length (now entries)) is-upto (asks .0))) as-w64 (λ r ws. id⊢ 𝓤 _)
-          (and-then ! (local ! (look ! 26 refl)) (and-then ! (local ! (look ! 8 refl)) (and-then ! (lit ! tt) (and-then ! (local ! (look ! 6 refl)) (no-more !))))) (λ t is-t in-t.
+          (and-then ! (local ! (look ! 28 refl)) (and-then ! (local ! (look ! 8 refl)) (and-then ! (lit ! tt) (and-then ! (local ! (look ! 6 refl)) (no-more !))))) (λ t is-t in-t.
           land ! (into !) (init ! 4 refl (as-w64 .lawful .typed t _ in-t .0)) $
-          -- r is across::settle(run, aside, e, c, i, p, t, state)
-          nothing ! $ plus ! as-Across state in-state $ plus ! as-w64 t in-t $ plus ! as-w64 p in-p $ plus ! as-w64 i in-i $ plus ! as-Entry c in-c $ plus ! as-Entry e in-e $
-          plus ! as-Aside aside in-aside $ lends ! 2 (named 0) κ₀ (UInt w8) run refl $ move ! (2 ∷ 0 ∷ []) $
-          calls-held ! fm across-settle.ended (across-settle.clauses 𝓤 H A mem calling) (known .across-settle) (to-r e limit spot p c twin upto t)
-          (factI 𝓤 _ (emp 𝓤) (may-reuse (now run) (now entries) aside i state (asks .0) (asks .1) e c limit spot p is-e is-limit is-spot is-p is-c)) as-Across (λ r ws. id⊢ 𝓤 _)
-          (and-then ! (local ! (look ! 28 refl)) (and-then ! (local ! (look ! 24 refl))
-          (and-then ! (local ! (look ! 18 refl)) (and-then ! (local ! (look ! 10 refl))
-          (and-then ! (local ! (look ! 22 refl)) (and-then ! (local ! (look ! 12 refl)) (and-then ! (local ! (look ! 4 refl)) (and-then ! (local ! (look ! 20 refl)) (no-more !)))))))))
+          -- r is across::settle(run, e, c, i, p, t, owner, state)
+          nothing ! $ plus ! as-Across state in-state $ plus ! as-Owner owner in-owner $ plus ! as-w64 t in-t $ plus ! as-w64 p in-p $ plus ! as-w64 i in-i $ plus ! as-Entry c in-c $
+          plus ! as-Entry e in-e $ lends ! 2 (named 0) κ₀ (UInt w8) run refl $ move ! (2 ∷ 0 ∷ []) $
+          calls-held ! fm across-settle.ended (across-settle.clauses 𝓤 H A mem calling) (known .across-settle) (to-r e limit spot p c owner twin upto t) (factI 𝓤 _ (emp 𝓤) (is-owner .1))
+          as-Across (λ r ws. id⊢ 𝓤 _)
+          (and-then ! (local ! (look ! 30 refl)) (and-then ! (local ! (look ! 20 refl))
+          (and-then ! (local ! (look ! 12 refl)) (and-then ! (local ! (look ! 24 refl))
+          (and-then ! (local ! (look ! 14 refl)) (and-then ! (local ! (look ! 4 refl)) (and-then ! (local ! (look ! 10 refl)) (and-then ! (local ! (look ! 22 refl)) (no-more !)))))))))
           (λ r is-r in-r.
-          land ! (into !) (init ! 30 refl (as-Across .lawful .typed r _ in-r .0)) $
-          returns ! (look ! 30 refl) $
-          gone ! 30 refl refl $ gone ! 28 refl refl $ gone ! 26 refl refl $ gone ! 24 refl refl $ gone ! 22 refl refl $ gone ! 20 refl refl $ gone ! 18 refl refl $ gone ! 16 refl refl $
-          gone ! 14 refl refl $ gone ! 12 refl refl $ gone ! 10 refl refl $ gone ! 8 refl refl $ gone ! 6 refl refl $ gone ! 4 refl refl $ free0 ! $
+          land ! (into !) (init ! 32 refl (as-Across .lawful .typed r _ in-r .0)) $
+          returns ! (look ! 32 refl) $
+          gone ! 32 refl refl $ gone ! 30 refl refl $ gone ! 28 refl refl $ gone ! 26 refl refl $ gone ! 24 refl refl $ gone ! 22 refl refl $ gone ! 20 refl refl $ gone ! 18 refl refl $
+          gone ! 16 refl refl $ gone ! 14 refl refl $ gone ! 12 refl refl $ gone ! 10 refl refl $ gone ! 8 refl refl $ gone ! 6 refl refl $ gone ! 4 refl refl $ free0 ! $
           suffices ! _ (ends-at 𝓤 H A this.ended stayed clauses W bound (as-Across .val r) r (tt, (tt, (tt, (tt, (tt, tt))))) (tt, (tt, (tt, (tt, (tt, tt)))))) $
-          says ! (settled (now run) (now entries) aside i state (asks .0) (asks .1) e c limit spot p is-e is-limit is-spot is-p is-c twin upto t r is-twin is-upto is-t is-r) $
+          says ! (settled-at (now run) (now entries) aside i state (asks .0) (asks .1) e c limit spot p is-e is-limit is-spot is-p is-c owner twin upto t r is-owner is-twin is-upto is-t
+          is-r) $
           keep ! (0 ∷ 1 ∷ []) $ retok ! 2 (κ₀, (κ₁, tt)) (q₀, (q₁, tt)) $ frame ! $ nothing ! $ none ! $ none ! $ none ! $ none ! $ none ! $ frame ! $
-          owned ! AcrossT.the-row (Is AcrossT.the-row) (as-Across .makes) r _ in-r $ done !)))))))))))))))))))))))
+          owned ! AcrossT.the-row (Is AcrossT.the-row) (as-Across .makes) r _ in-r $ done !)))))))))))))))))))))))))
 
   module _ (𝓣 : Tables 𝓤 H) (known : Known (𝓣 .C)) where
     walks : Walks 𝓤 H A this.ended stayed (WpFn 𝓤 H (𝓣 .C) (𝓣 .Λ) code.function) clauses
@@ -306,6 +352,8 @@ across-at-spec 𝓤 H 𝓜 𝓖 𝓡 =
           across-spot-of-def.name across-spot-of-def.routine code.calls-across·spot-of (across-spot-of-thm.met 𝓤 H 𝓜 𝓖 𝓡);
       owner-at = cited 𝓤 H (Its-owner-at 𝓤 H (𝓖 .A) W (𝓜 .mem) (𝓡 .run)) 𝓜 𝓡 code.env
           owner-at-def.name owner-at-def.routine code.calls-restore·owner-at (owner-at-thm.met 𝓤 H 𝓜 𝓖 𝓡);
+      across-owner-of = cited 𝓤 H (Its-across-owner-of 𝓤 H (𝓖 .A) W (𝓜 .mem) (𝓡 .run)) 𝓜 𝓡 code.env
+          across-owner-of-def.name across-owner-of-def.routine code.calls-across·owner-of (across-owner-of-thm.met 𝓤 H 𝓜 𝓖 𝓡);
       across-twin-of = cited 𝓤 H (Its-across-twin-of 𝓤 H (𝓖 .A) W (𝓜 .mem) (𝓡 .run)) 𝓜 𝓡 code.env
           across-twin-of-def.name across-twin-of-def.routine code.calls-across·twin-of (across-twin-of-thm.met 𝓤 H 𝓜 𝓖 𝓡);
       across-twin-limit = cited 𝓤 H (Its-across-twin-limit 𝓤 H (𝓖 .A) W (𝓜 .mem) (𝓡 .run)) 𝓜 𝓡 code.env
