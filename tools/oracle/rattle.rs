@@ -3,6 +3,7 @@
 //! With `--cfg no_rattle` the model of questions.rs stands in, so that the tools can be tried alone.
 
 use crate::lent::Lists;
+use crate::store_model;
 use std::cell::RefCell;
 
 pub use side::{
@@ -12,6 +13,36 @@ pub use side::{
 
 /// Caps, day, beacon key, name length, the longest name, the static key.
 pub const LONGEST_CARD: usize = 1 + 4 + 32 + 1 + 48 + 1184;
+
+/// What restore answers, laid out as the C function hands it back: 0 with next_contact and next_slot, or the number of the
+/// question with the entry's index; 0 for what is not said.
+#[repr(C)]
+#[derive(Debug, Clone, Copy, PartialEq, Eq)]
+pub struct RestoreAnswer {
+    pub next_contact: u64,
+    pub next_slot: u64,
+    pub index: usize,
+    pub number: u32,
+}
+
+impl From<store_model::Answer> for RestoreAnswer {
+    fn from(answer: store_model::Answer) -> Self {
+        match answer {
+            Ok(granted) => RestoreAnswer {
+                next_contact: granted.next_contact,
+                next_slot: granted.next_slot,
+                index: 0,
+                number: 0,
+            },
+            Err(refusal) => RestoreAnswer {
+                next_contact: 0,
+                next_slot: 0,
+                index: refusal.index,
+                number: refusal.number,
+            },
+        }
+    }
+}
 
 thread_local! {
     /// Lists that are long enough for every row that is accepted.
@@ -25,7 +56,7 @@ pub fn contact(version: u32, row: &[u8], out: &mut [u8]) -> u32 {
 
 #[cfg(not(no_rattle))]
 mod side {
-    use super::LONGEST_CARD;
+    use super::{LONGEST_CARD, RestoreAnswer};
     use crate::lent::Lists;
     use crate::model::Range;
     use crate::store_model::{Entry, Store};
@@ -93,9 +124,7 @@ mod side {
             run_len: usize,
             entries: *const Entry,
             entries_len: usize,
-            answer: *mut u64,
-            answer_len: usize,
-        ) -> u32;
+        ) -> RestoreAnswer;
         fn sicklestar_contains(
             contiguous: u32,
             above: *const u32,
@@ -243,17 +272,14 @@ mod side {
         }
     }
 
-    /// 0, and next_contact and next_slot at the front of `answer`; or the number of the question, and the entry's index.
-    pub fn restore(store: &Store, answer: &mut [u64]) -> u32 {
-        // SAFETY: all slices are alive, of these lengths, and apart; an `Entry` is laid out as in C.
+    pub fn restore(store: &Store) -> RestoreAnswer {
+        // SAFETY: both slices are alive and of these lengths; an `Entry` and the answer are laid out as in C.
         unsafe {
             sicklestar_restore(
                 store.run.as_ptr(),
                 store.run.len(),
                 store.entries.as_ptr(),
                 store.entries.len(),
-                answer.as_mut_ptr(),
-                answer.len(),
             )
         }
     }
@@ -296,7 +322,7 @@ mod side {
 
 #[cfg(no_rattle)]
 mod side {
-    use super::LONGEST_CARD;
+    use super::{LONGEST_CARD, RestoreAnswer};
     use crate::covered::Covered;
     use crate::lent::Lists;
     use crate::model::{Range, Reading};
@@ -387,18 +413,8 @@ mod side {
         again(Ok(contact.row()), out)
     }
 
-    pub fn restore(store: &Store, answer: &mut [u64]) -> u32 {
-        let (number, places) = match store.restore() {
-            Ok(granted) => (0, vec![granted.next_contact, granted.next_slot]),
-            Err(refusal) => (refusal.number, vec![refusal.index as u64]),
-        };
-        match answer.get_mut(..places.len()) {
-            Some(front) => {
-                front.copy_from_slice(&places);
-                number
-            }
-            None => questions::OUTPUT,
-        }
+    pub fn restore(store: &Store) -> RestoreAnswer {
+        store.restore().into()
     }
 
     fn covered(contiguous: u32, above: &[u32], count: usize) -> Covered {

@@ -8,10 +8,10 @@ use crate::build::{self, FULL, Size};
 use crate::inputs::Random;
 use crate::model::Device;
 use crate::original_store::Rows;
-use crate::rattle;
+use crate::rattle::{self, RestoreAnswer};
 use crate::speed::{median, processor_time};
 use crate::store_build::{self, Counts, Plan, shuffle};
-use crate::store_model::{Granted, Store};
+use crate::store_model::Store;
 use std::hint::black_box;
 
 /// The median of so many runs is taken, each of at least so many nanoseconds; of a slow call fewer, of a very slow one one.
@@ -81,8 +81,7 @@ fn line(random: &mut Random, plan: &Plan, order: &str) -> (f64, f64) {
     let store = store_build::packed(plan.items(random));
     let rows = Rows::of(&store);
     assert_granted(&store, &rows);
-    let mut answer = [0; 2];
-    let rattle = each(|| black_box(rattle::restore(black_box(&store), &mut answer))) / 1e3;
+    let rattle = each(|| black_box(rattle::restore(black_box(&store)))) / 1e3;
     let rust = each(|| black_box(black_box(&rows).restore())) / 1e3;
     let (contacts, queued, courier) = (plan.contacts.len(), plan.queued.len(), plan.courier.len());
     println!(
@@ -101,19 +100,9 @@ fn assert_granted(store: &Store, rows: &Rows) {
         rows.faults(&rust, granted).is_empty(),
         "the Rust restores the same"
     );
-    let mut answer = [0; 2];
     assert_eq!(
-        rattle::restore(store, &mut answer),
-        0,
-        "the Rattle grants it"
-    );
-    let [next_contact, next_slot] = answer;
-    assert_eq!(
-        Granted {
-            next_contact,
-            next_slot
-        },
-        granted,
+        rattle::restore(store),
+        RestoreAnswer::from(Ok(granted)),
         "the Rattle answers the same"
     );
 }

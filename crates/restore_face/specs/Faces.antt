@@ -1,16 +1,10 @@
--- What restore tells Rust and C: a number, and the list lent for the answer, whole.
+-- What restore answers Rust and C.
 -- Assumes nothing.
-use Prim.Native.Nat.{ℕ}
-use mathlib.Core.List.{List, [], _∷_}
-use mathlib.Core.Bool.{cond}
-use lib.ListN.{length, drop}
-use lib.Dec.{leb}
-use Rattle.layout.specs.Write.{stored}
 use Rattle.restore.specs.declared.Restored.{Restored}
 use Rattle.restore.specs.declared.Restored.the-variants.{Granted, Refused}
-use Rattle.export.specs.Faces.{Leaves, leaves, zeroOr, shown}
+use Rattle.restore_face.specs.declared.RestoreAnswer.{RestoreAnswer}
 
 -- 0, next_contact and next_slot; or the question's number, and the entry's index
-abbrev pub toldIn : Restored → List ℕ → Leaves
-toldIn (Granted contact slot) lent = shown zeroOr (stored (contact ∷ slot ∷ []) lent)
-toldIn (Refused number place) lent = leaves number (cond (leb 2 (length lent)) (place ∷ drop 1 lent) lent)
+abbrev pub answerOf : Restored → RestoreAnswer
+answerOf (Granted contact slot) = record { «next_contact» = contact; «next_slot» = slot; index = 0; number = 0 }
+answerOf (Refused number place) = record { «next_contact» = 0; «next_slot» = 0; index = place; number = number }

@@ -1,41 +1,44 @@
-// Restore as Rust and C call it, under its C name. A slice passes as its pointer and its length; an entry has C's layout.
-use layout::question;
+// Restore as Rust and C call it, under its C name. A slice passes as its pointer and its length; an entry and the answer have C's layout.
+// Nothing is required of the caller, and nothing lent is written.
 use restore::Restored;
 use store::Entry;
 ghost use mathlib.Core.Path.{_≡_};
 ghost use Rattle.store.specs.Store.{storeOf, restore};
 ghost use Rattle.restore.specs.Restored.{answered};
-ghost use Rattle.export.specs.Faces.{leaves};
-ghost use Rattle.restore_face.specs.Faces.{toldIn};
+ghost use Rattle.restore_face.specs.Faces.{answerOf};
 
-// Where fewer than two places are lent, a granted restore answers 40 and a refused one its number, and they stay as they were.
-fn told(restored: Restored, answer: &mut [u64]) -> u32
-    ensures { λ r. ⌜ leaves r (now (answer .exit)) ≡ toldIn restored (now (answer .entry)) ⌝ }
+// Granted: number is 0, and next_contact and next_slot are the store's. Refused: number is the question's, and index the entry's. What is not said is 0.
+#[repr(C)]
+pub struct RestoreAnswer {
+    pub next_contact: u64,
+    pub next_slot: u64,
+    pub index: usize,
+    pub number: u32,
+}
+
+fn answer_of(restored: Restored) -> RestoreAnswer
+    ensures { λ r. ⌜ r ≡ answerOf restored ⌝ }
 {
     match restored {
-        Restored::Granted(contact, slot) => {
-            if answer.len() < 2 {
-                return question::OUTPUT as u32;
-            }
-            answer[0] = contact;
-            answer[1] = slot;
-            return 0;
-        }
-        Restored::Refused(number, place) => {
-            if answer.len() < 2 {
-                return number as u32;
-            }
-            answer[0] = place as u64;
-            return number as u32;
-        }
+        Restored::Granted(next_contact, next_slot) => RestoreAnswer {
+            next_contact,
+            next_slot,
+            index: 0,
+            number: 0,
+        },
+        Restored::Refused(number, index) => RestoreAnswer {
+            next_contact: 0,
+            next_slot: 0,
+            index,
+            number: number as u32,
+        },
     }
 }
 
-// 0, and next_contact and next_slot stand in the answer's first two places; or the question's number, and the entry's index stands in the first.
 #[no_mangle]
-pub extern "C" fn sicklestar_restore(run: &[u8], entries: &[Entry], answer: &mut [u64]) -> u32
-    ensures { λ r. ⌜ leaves r (now (answer .exit)) ≡ toldIn (answered (restore (storeOf (now (run .entry)) (now (entries .entry))))) (now (answer .entry)) ⌝ }
+pub extern "C" fn sicklestar_restore(run: &[u8], entries: &[Entry]) -> RestoreAnswer
+    ensures { λ r. ⌜ r ≡ answerOf (answered (restore (storeOf (now (run .entry)) (now (entries .entry))))) ⌝ }
 {
     let restored = restore::restore(run, entries);
-    told(restored, answer)
+    answer_of(restored)
 }

@@ -4,6 +4,7 @@ use super::small_stores;
 use crate::build::FULL;
 use crate::inputs::Random;
 use crate::original_store::{Rows, fitting};
+use crate::rattle::RestoreAnswer;
 use crate::store_build::{self, Counts};
 use crate::store_model::{self, Answer, CONTACT, COURIER, DEVICE, Entry, Refusal, Store};
 use crate::store_shrink;
@@ -22,8 +23,6 @@ const LARGE: Counts = Counts {
     queued: 300,
     courier: 300,
 };
-/// What stands in places of the answer that hold none.
-const UNTOUCHED: u64 = 0xa5a5_a5a5_a5a5_a5a5;
 /// What is shown of a long run.
 const SHOWN: usize = 1600;
 
@@ -193,34 +192,13 @@ fn found(store: &Store, seed: u64) -> Found {
     Found { due, faults, rust }
 }
 
-/// The Rattle answers the model's number and place, or next_contact and next_slot, and writes nothing else. Lent a shorter
-/// answer than two places it may say 40 in its stead, and writes nothing that is not due.
+/// The Rattle answers the model's number and place, or next_contact and next_slot, and writes nothing.
 fn rattle_faults(store: &Store, due: &Answer) -> Vec<String> {
     let before = store.clone();
     let mut faults = Vec::new();
-    let due_answer = match due {
-        Ok(granted) => [granted.next_contact, granted.next_slot],
-        Err(refusal) => [refusal.index as u64, UNTOUCHED],
-    };
-    let due_number = store_model::number(due);
-    for room in [2, 4, 0, 1] {
-        let mut answer = [UNTOUCHED; 4];
-        let number = rattle::restore(store, &mut answer[..room]);
-        let due = [due_answer[0], due_answer[1], UNTOUCHED, UNTOUCHED];
-        let (lent, beyond) = answer.split_at(room);
-        let mut same = number == due_number && lent == &due[..room];
-        if room < 2 {
-            let written = lent
-                .iter()
-                .zip(&due)
-                .all(|(one, due)| one == due || *one == UNTOUCHED);
-            same = written && [due_number, questions::OUTPUT].contains(&number);
-        }
-        if !same || beyond.iter().any(|place| *place != UNTOUCHED) {
-            faults.push(format!(
-                "Rattle with room for {room}: {number}, {answer:x?}"
-            ));
-        }
+    let answer = rattle::restore(store);
+    if answer != RestoreAnswer::from(*due) {
+        faults.push(format!("Rattle {answer:?}"));
     }
     if *store != before {
         faults.push("Rattle writes to the store".into());
