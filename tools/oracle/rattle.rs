@@ -14,6 +14,15 @@ pub use side::{
 /// Caps, day, beacon key, name length, the longest name, the static key.
 pub const LONGEST_CARD: usize = 1 + 4 + 32 + 1 + 48 + 1184;
 
+/// What the LEB128 writer answers, laid out as the C function hands it back: 0 with the length written, or the number of
+/// the question with 0.
+#[repr(C)]
+#[derive(Debug, Clone, Copy, PartialEq, Eq)]
+pub struct WriteAnswer {
+    pub length: usize,
+    pub number: u32,
+}
+
 /// What restore answers, laid out as the C function hands it back: 0 with next_contact and next_slot, or the number of the
 /// question with the entry's index; 0 for what is not said.
 #[repr(C)]
@@ -56,7 +65,7 @@ pub fn contact(version: u32, row: &[u8], out: &mut [u8]) -> u32 {
 
 #[cfg(not(no_rattle))]
 mod side {
-    use super::{LONGEST_CARD, RestoreAnswer};
+    use super::{LONGEST_CARD, RestoreAnswer, WriteAnswer};
     use crate::lent::Lists;
     use crate::model::Range;
     use crate::store_model::{Entry, Store};
@@ -69,7 +78,7 @@ mod side {
             answer: *mut u64,
             answer_len: usize,
         ) -> u32;
-        fn sicklestar_leb128(value: u32, out: *mut u8, out_len: usize) -> usize;
+        fn sicklestar_leb128(value: u32, out: *mut u8, out_len: usize) -> WriteAnswer;
         fn sicklestar_utf8(name: *const u8, len: usize) -> u32;
         fn sicklestar_card(input: *const u8, len: usize, out: *mut u8, out_len: usize) -> u32;
         fn sicklestar_device(
@@ -165,9 +174,9 @@ mod side {
         }
     }
 
-    /// The length written to the front of `out`, or 0 if `out` is too short.
-    pub fn leb128(value: u32, out: &mut [u8]) -> usize {
-        // SAFETY: the slice is alive and of this length.
+    /// Writes to the front of `out`.
+    pub fn leb128(value: u32, out: &mut [u8]) -> WriteAnswer {
+        // SAFETY: the slice is alive and of this length; the answer is laid out as in C.
         unsafe { sicklestar_leb128(value, out.as_mut_ptr(), out.len()) }
     }
 
@@ -322,7 +331,7 @@ mod side {
 
 #[cfg(no_rattle)]
 mod side {
-    use super::{LONGEST_CARD, RestoreAnswer};
+    use super::{LONGEST_CARD, RestoreAnswer, WriteAnswer};
     use crate::covered::Covered;
     use crate::lent::Lists;
     use crate::model::{Range, Reading};
@@ -339,14 +348,12 @@ mod side {
         }
     }
 
-    pub fn leb128(value: u32, out: &mut [u8]) -> usize {
+    pub fn leb128(value: u32, out: &mut [u8]) -> WriteAnswer {
         let bytes = questions::leb128(value);
-        match out.get_mut(..bytes.len()) {
-            Some(front) => {
-                front.copy_from_slice(&bytes);
-                bytes.len()
-            }
-            None => 0,
+        let length = bytes.len();
+        match again(Ok(bytes), out) {
+            0 => WriteAnswer { length, number: 0 },
+            number => WriteAnswer { length: 0, number },
         }
     }
 

@@ -1,12 +1,42 @@
 // The functions that Rust and C call, under their C names; `rt staticlib export` makes the library. A slice passes as its pointer and its length.
-// None requires anything of its caller. A call answers 0 or a length where it is granted; what a refused call was lent stays as it was.
+// None requires anything of its caller. A granted call answers 0, a refused one the question's number; what a refused call was lent stays as it was.
 use card::Card;
 use data::Leb128Field;
 use layout::question;
 use rows::Verdict;
 use rows::Written;
 ghost use mathlib.Core.Path.{_≡_};
-ghost use Rattle.export.specs.Faces.{leaves, readLeb128, writeLeb128, isUtf8, rewriteCard};
+ghost use Rattle.rows.specs.Answers.{writtenSays};
+ghost use Rattle.export.specs.Faces.{leaves, zeroOr, lengthOr, readLeb128, writeLeb128, isUtf8, rewriteCard};
+
+// Granted: number is 0, and length is how many bytes were written. Refused: number is the question's, and length is 0.
+#[repr(C)]
+pub struct WriteAnswer {
+    pub length: usize,
+    pub number: u32,
+}
+
+fn length_or(written: Written) -> WriteAnswer
+    ensures { λ r. ⌜ r ≡ lengthOr (writtenSays written) ⌝ }
+{
+    match written {
+        Written::Length(length) => WriteAnswer { length, number: 0 },
+        Written::Refused(number) => WriteAnswer {
+            length: 0,
+            number: number as u32,
+        },
+    }
+}
+
+// 0 where the call was granted, the question's number otherwise: what other crates' faces answer too.
+pub fn zero_or(written: Written) -> u32
+    ensures { λ r. ⌜ r ≡ zeroOr (writtenSays written) ⌝ }
+{
+    match written {
+        Written::Length(_) => 0,
+        Written::Refused(number) => number as u32,
+    }
+}
 
 // The number that the input begins with: 0, and its value and how many bytes it took stand in the answer's first two places; or the question's number.
 #[no_mangle]
@@ -26,15 +56,12 @@ pub extern "C" fn sicklestar_read_leb128(input: &[u8], answer: &mut [u64]) -> u3
     }
 }
 
-// Writes the value to the front of the output: the length written, or 0 where the output is too short.
+// Writes the value to the front of the output.
 #[no_mangle]
-pub extern "C" fn sicklestar_leb128(value: u32, out: &mut [u8]) -> usize
+pub extern "C" fn sicklestar_leb128(value: u32, out: &mut [u8]) -> WriteAnswer
     ensures { λ r. ⌜ leaves r (now (out .exit)) ≡ writeLeb128 value (now (out .entry)) ⌝ }
 {
-    match data::leb128(value, out) {
-        Written::Length(n) => return n,
-        Written::Refused(_) => return 0,
-    }
+    length_or(data::leb128(value, out))
 }
 
 // Whether the name is UTF-8: 1 or 0.
@@ -55,8 +82,5 @@ pub extern "C" fn sicklestar_card(input: &[u8], out: &mut [u8]) -> u32
     if let Verdict::Refused(number) = verdict {
         return number as u32;
     }
-    match decoded.card.encode(out) {
-        Written::Length(_) => return 0,
-        Written::Refused(number) => return number as u32,
-    }
+    zero_or(decoded.card.encode(out))
 }

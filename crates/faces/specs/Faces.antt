@@ -12,7 +12,7 @@ use Rattle.received.specs.declared.Planned.{Planned}
 use Rattle.received.specs.declared.Planned.the-variants.{Change, Refused}
 
 -- ---- a row read, and written again: what reading it asks, then room for it
-unfoldable pub rewriteRow : {A : Type 0} → Layout A → List ℕ → List ℕ → Leaves
+unfoldable pub rewriteRow : {A : Type 0} → Layout A → List ℕ → List ℕ → Leaves ℕ
 rewriteRow l row out = shown zeroOr (writes l row out)
 
 -- ---- a range covered

@@ -4,7 +4,6 @@ use layout::question;
 use received::Change;
 use received::Planned;
 use rows::Verdict;
-use rows::Written;
 ghost use mathlib.Core.Path.{_≡_};
 ghost use Prim.Native.Nat.{_≤_};
 ghost use lib.ListN.{length};
@@ -14,19 +13,8 @@ ghost use Rattle.rows.specs.Rows.{device, queued, courier};
 ghost use Rattle.received.specs.Ranges.{contains, covers};
 ghost use Rattle.received.specs.Lent.{receivedIn};
 ghost use Rattle.received.specs.declared.Planned.the-variants as planned;
-ghost use Rattle.rows.specs.Answers.{writtenSays};
-ghost use Rattle.export.specs.Faces.{leaves, zeroOr};
+ghost use Rattle.export.specs.Faces.{leaves};
 ghost use Rattle.faces.specs.Faces.{rewriteRow, covered, answered, insertRange};
-
-// 0 where a row was written, the question's number otherwise: what other crates' faces answer too.
-pub fn zero_or(written: Written) -> u32
-    ensures { λ r. ⌜ r ≡ zeroOr (writtenSays written) ⌝ }
-{
-    match written {
-        Written::Length(_) => 0,
-        Written::Refused(number) => number as u32,
-    }
-}
 
 // Reads a device row, and writes it again to the front of the output.
 #[no_mangle]
@@ -38,7 +26,7 @@ pub extern "C" fn sicklestar_device(version: u32, row: &[u8], out: &mut [u8]) ->
     if let Verdict::Refused(number) = verdict {
         return number as u32;
     }
-    zero_or(read.device.row(out))
+    export::zero_or(read.device.row(out))
 }
 
 // Reads a queued row, and writes it again to the front of the output.
@@ -52,7 +40,7 @@ pub extern "C" fn sicklestar_queued(version: u32, row: &[u8], out: &mut [u8]) ->
         return number as u32;
     }
     let sealed = sealed::sealed_text(row, read.sealed_at);
-    zero_or(read.queued.row(sealed, out))
+    export::zero_or(read.queued.row(sealed, out))
 }
 
 // Reads a courier row, and writes it again to the front of the output.
@@ -66,7 +54,7 @@ pub extern "C" fn sicklestar_courier(version: u32, row: &[u8], out: &mut [u8]) -
         return number as u32;
     }
     let sealed = sealed::sealed_text(row, read.sealed_at);
-    zero_or(read.held.row(sealed, out))
+    export::zero_or(read.held.row(sealed, out))
 }
 
 // 1 or 0.

@@ -8,5 +8,5 @@ ghost use Rattle.veil.specs.Veil.{veilOf};
 pub extern "C" fn sicklestar_veil(kind: u32, version: u32, row: &[u8], out: &mut [u8]) -> u32
     ensures { λ r. ⌜ leaves r (now (out .exit)) ≡ shown zeroOr (veilOf kind version (now (row .entry)) (now (out .entry))) ⌝ }
 {
-    faces::zero_or(veil::veil(kind, version, row, out))
+    export::zero_or(veil::veil(kind, version, row, out))
 }

@@ -1,6 +1,7 @@
 //! LEB128: `data::read_leb128` and `data::leb128`.
 
 use crate::inputs::{BYTES, Random, each_sequence};
+use crate::rattle::WriteAnswer;
 use crate::tally::{Tally, hex};
 use crate::{data, questions, rattle};
 
@@ -66,16 +67,26 @@ fn compare_write(tally: &mut Tally, value: u32, size: usize) {
     if fits {
         due[..rust.len()].copy_from_slice(&rust);
     }
-    let due_length = if fits { rust.len() } else { 0 };
+    let due_answer = if fits {
+        WriteAnswer {
+            length: rust.len(),
+            number: 0,
+        }
+    } else {
+        WriteAnswer {
+            length: 0,
+            number: questions::OUTPUT,
+        }
+    };
     let mut answer = UNTOUCHED;
     let number = rattle::read_leb128(&rust, &mut answer);
-    let same = (written, out) == (due_length, due)
+    let same = (written, out) == (due_answer, due)
         && rust == questions::leb128(value)
         && data::read_leb128(&rust) == Some((value, rust.len()))
         && (number, answer) == (0, [value.into(), rust.len() as u64]);
-    tally.count(due_length as u32, same, || {
+    tally.count(due_answer.number, same, || {
         let (rust, out) = (hex(&rust), hex(&out));
-        format!("{value} into {size}: Rust {rust}, Rattle {written} {out}, read back {number} {answer:x?}")
+        format!("{value} into {size}: Rust {rust}, Rattle {written:?} {out}, read back {number} {answer:x?}")
     });
 }
 

@@ -1,6 +1,7 @@
 -- `veil_face::sicklestar_veil` meets its contract: what `veil` answered, as a number.
 use borrow.Author.Needs.{needs}
-use Rattle.veil_face.proofs.Answers.{answered}
+use Rattle.export.specs.Faces.{zeroOr}
+use Rattle.export.proofs.Faces.{answered}
 use Rattle.veil_face.proofs.sicklestar_veil.Statement.{statement}
 use Rattle.veil_face.proofs.sicklestar_veil.Tie as tie
 
@@ -14,7 +15,7 @@ same-length : tie.Need-same-length
 same-length c = search needs
 
 returns : tie.Need-returns
-returns c = answered (c .zero-or .ensures) (c .before .before .before .veil .ensures)
+returns c = answered zeroOr (c .zero-or .ensures) (c .before .before .before .veil .ensures)
 
 pub sicklestar-veil-spec : {M : Type 1} → statement M
 sicklestar-veil-spec =
