@@ -4,7 +4,7 @@
 use crate::model::{Contact, Range};
 
 /// What stands in places that hold no item.
-const FILL: u8 = 0xa5;
+pub const FILL: u8 = 0xa5;
 const FILL_NUMBER: u32 = 0xa5a5_a5a5;
 
 #[derive(Clone, Default, PartialEq)]

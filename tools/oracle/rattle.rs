@@ -257,7 +257,7 @@ mod side {
         unsafe { sicklestar_check_contact(version, row.as_ptr(), row.len()) }
     }
 
-    /// As `copy`, with the lists that the items are read into: 36 comes after 24, and 40 when they are filled.
+    /// As `copy`, with the lists that the items are read into: 36 comes after 24, then 40, and only then they are filled.
     pub fn contact_lists(version: u32, row: &[u8], lists: &mut Lists, out: &mut [u8]) -> u32 {
         // SAFETY: all slices are alive, of these lengths, and apart.
         unsafe {
@@ -416,8 +416,11 @@ mod side {
         if !long.all(|(lent, needed)| needed <= lent) {
             return questions::LISTS;
         }
-        lists.put(&items);
-        again(Ok(contact.row()), out)
+        let number = again(Ok(contact.row()), out);
+        if number == 0 {
+            lists.put(&items);
+        }
+        number
     }
 
     pub fn restore(store: &Store) -> RestoreAnswer {

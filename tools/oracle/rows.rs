@@ -1,7 +1,7 @@
 //! The three sides of a row behind one trait: the model of model.rs, the Rust of original.rs, the Rattle of rattle.rs.
 
 use crate::inputs::Random;
-use crate::lent::Lists;
+use crate::lent::{FILL, Lists};
 use crate::model::{self, Reading};
 use crate::original::{NEXT_CONTACT, Restored, Store};
 use crate::{build, questions, rattle};
@@ -86,8 +86,8 @@ impl Row for model::Contact {
     }
 
     /// `check` answers the same. Lists as long as the items, or longer by what is no item, are filled, and nothing behind
-    /// the items, also where the output is too short, which is 40; one that is too short is 36, and after this or any
-    /// number before it no list is changed.
+    /// the items. One that is too short is 36, also where the output is too short, which alone is 40; after any number no
+    /// list and no byte of the output is changed.
     fn more_faults(answer: &Result<Self, u32>, version: u32, row: &[u8]) -> Vec<String> {
         let mut faults = Vec::new();
         let check = rattle::check_contact(version, row);
@@ -96,14 +96,14 @@ impl Row for model::Contact {
         }
         let mut ask = |lists: Lists, room: usize, due: u32| {
             let mut left = lists.blank();
-            let due_left = if [0, questions::OUTPUT].contains(&due) {
-                lists
+            let mut out = vec![FILL; room];
+            let (due_left, due_out) = if due == 0 {
+                (lists, row.to_vec())
             } else {
-                left.clone()
+                (left.clone(), out.clone())
             };
-            let mut out = vec![0; room];
             let number = rattle::contact_lists(version, row, &mut left, &mut out);
-            if number != due || left != due_left {
+            if number != due || left != due_left || out != due_out {
                 let lengths = left.lengths();
                 faults.push(format!("lists of {lengths:?}: due {due}, Rattle {number}"));
             }
@@ -112,6 +112,7 @@ impl Row for model::Contact {
             Ok(contact) => contact,
             Err(number) => {
                 ask(Lists::default().resized(FEW), row.len(), *number);
+                ask(Lists::default().resized(FEW), 0, *number);
                 return faults;
             }
         };
@@ -128,6 +129,7 @@ impl Row for model::Contact {
                 let mut more = [100; 5];
                 more[list] = -1;
                 ask(items.resized(more), row.len(), questions::LISTS);
+                ask(items.resized(more), row.len() - 1, questions::LISTS);
             }
         }
         faults

@@ -365,7 +365,7 @@ fn contact_from(row: &[u8], at: ContactAt) -> Contact
 }
 
 // Question 36, of lists of these lengths: whether each is long enough for the row's items.
-fn long_enough(
+pub fn long_enough(
     at: ContactAt,
     chains: usize,
     skipped: usize,

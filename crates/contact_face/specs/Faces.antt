@@ -3,14 +3,10 @@
 use Prim.Native.Nat.{ℕ}
 use mathlib.Core.List.{List}
 use Rattle.layout.specs.Layout.{Answer, accepted, refusedBy, readRow}
-use Rattle.layout.specs.Write as write
 use Rattle.rows.specs.Rows.{contact}
-use Rattle.rows.specs.declared.Verdict.{Verdict}
-use Rattle.rows.specs.declared.Verdict.the-variants as verdict
 use Rattle.export.specs.Faces.{zeroOr}
-use Rattle.contact.specs.Contact.{Lists, Left, reads}
-use Rattle.contact.specs.declared.Contact.{Contact}
-use Rattle.contact_put.specs.Row.{writesContact}
+use Rattle.contact.specs.Contact.{Lists}
+use Rattle.rewrite.specs.Rewrite.{Left}
 
 -- ---- a row checked
 abbrev pub numberOf : {A : Type 0} → Answer A → ℕ
@@ -30,17 +26,5 @@ pub record Leaves : Type 0 where
 abbrev pub leaves : ℕ → Lists → List ℕ → Leaves
 leaves number lists out = record { number = number; lists = lists; out = out }
 
-abbrev pub shown : Lists → write.Left → Leaves
-shown lists left = leaves (zeroOr (left .answer)) lists (left .out)
-
--- a row that was not read is not written
-abbrev pub writtenAfter : Verdict → Contact → Lists → List ℕ → Leaves
-writtenAfter verdict.Accepted c lists out = shown lists (writesContact c lists out)
-writtenAfter (verdict.Refused q) c lists out = leaves q lists out
-
-abbrev pub afterReading : Left → List ℕ → Leaves
-afterReading left out = writtenAfter (left .answer .verdict) (left .answer .contact) (left .lists) out
-
--- the lists are as reading leaves them, whatever writing answers
-unfoldable pub rewriteContact : ℕ → List ℕ → Lists → List ℕ → Leaves
-rewriteContact version row lists out = afterReading (reads version row lists) out
+abbrev pub shown : Left → Leaves
+shown left = leaves (zeroOr (left .answer)) (left .lists) (left .out)

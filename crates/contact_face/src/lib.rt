@@ -1,11 +1,10 @@
 // The functions on contact rows that Rust and C call, under their C names. A slice passes as its pointer and its length.
-// Neither requires anything of its caller. A granted call answers 0, a refused one the question's number.
+// Neither requires anything of its caller. A granted call answers 0, a refused one the question's number; what a refused call was lent stays as it was.
 use contact::ContactCheck;
-use rows::Verdict;
-use rows::Written;
 ghost use mathlib.Core.Path.{_≡_};
 ghost use Rattle.contact.specs.Contact.{listsBefore, listsAfter};
-ghost use Rattle.contact_face.specs.Faces.{leaves, checkNumber, rewriteContact};
+ghost use Rattle.rewrite.specs.Rewrite.{rewrites};
+ghost use Rattle.contact_face.specs.Faces.{checkNumber, leaves, shown};
 
 // Whether a contact row is accepted; nothing is copied.
 #[no_mangle]
@@ -18,7 +17,7 @@ pub extern "C" fn sicklestar_check_contact(version: u32, row: &[u8]) -> u32
     }
 }
 
-// Reads a contact row into the lent lists, and writes it again to the front of the output. Where the output is too short, the lists are filled all the same.
+// Reads a contact row into the lent lists, and writes it again to the front of the output.
 #[no_mangle]
 pub extern "C" fn sicklestar_contact(
     version: u32,
@@ -30,16 +29,16 @@ pub extern "C" fn sicklestar_contact(
     expired: &mut [u32],
     out: &mut [u8],
 ) -> u32
-    ensures { λ r. ⌜ leaves r (listsAfter chains skipped above unacked expired) (now (out .exit)) ≡ rewriteContact version (now (row .entry)) (listsBefore chains skipped above unacked expired) (now (out .entry)) ⌝ }
+    ensures { λ r. ⌜ leaves r (listsAfter chains skipped above unacked expired) (now (out .exit)) ≡ shown (rewrites version (now (row .entry)) (listsBefore chains skipped above unacked expired) (now (out .entry))) ⌝ }
 {
-    let read = contact::read_contact(version, row, chains, skipped, above, unacked, expired);
-    let verdict = read.verdict;
-    if let Verdict::Refused(number) = verdict {
-        return number as u32;
-    }
-    let contact = read.contact;
-    match contact_row::write_contact(contact, chains, skipped, above, unacked, expired, out) {
-        Written::Length(_) => return 0,
-        Written::Refused(number) => return number as u32,
-    }
+    export::zero_or(rewrite::rewrite_contact(
+        version,
+        row,
+        chains,
+        skipped,
+        above,
+        unacked,
+        expired,
+        out,
+    ))
 }

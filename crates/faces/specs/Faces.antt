@@ -1,21 +1,15 @@
--- What the functions on rows and covered numbers for Rust and C answer, and what they leave in what is lent to them.
+-- What covering a range answers Rust and C, and what it leaves in what is lent to it.
 -- Assumes nothing.
 use Prim.Native.Nat.{ℕ}
 use mathlib.Core.List.{List, [], _∷_}
 use lib.ListN.{length}
 use Rattle.layout.specs.Form.{flagByte}
-use Rattle.layout.specs.Layout.{Layout}
-use Rattle.layout.specs.Write.{Written, wrote, refuses, Left, stored, writes}
-use Rattle.export.specs.Faces.{Leaves, zeroOr, shown}
+use Rattle.layout.specs.Write.{Written, wrote, refuses, Left, stored}
+use Rattle.export.specs.Faces.{zeroOr}
 use Rattle.received.specs.Lent.{receivedIn, planOf, listAfter}
 use Rattle.received.specs.declared.Planned.{Planned}
 use Rattle.received.specs.declared.Planned.the-variants.{Change, Refused}
 
--- ---- a row read, and written again: what reading it asks, then room for it
-unfoldable pub rewriteRow : {A : Type 0} → Layout A → List ℕ → List ℕ → Leaves ℕ
-rewriteRow l row out = shown zeroOr (writes l row out)
-
--- ---- a range covered
 -- the number answered, and both lent lists whole
 pub record Covered : Type 0 where
   pub number : ℕ

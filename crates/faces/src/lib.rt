@@ -3,58 +3,40 @@
 use layout::question;
 use received::Change;
 use received::Planned;
-use rows::Verdict;
 ghost use mathlib.Core.Path.{_≡_};
 ghost use Prim.Native.Nat.{_≤_};
 ghost use lib.ListN.{length};
 ghost use Rattle.layout.specs.Form.{flagByte};
-ghost use Rattle.layout.specs.Write.{wrote};
+ghost use Rattle.layout.specs.Write.{wrote, writes};
 ghost use Rattle.rows.specs.Rows.{device, queued, courier};
 ghost use Rattle.received.specs.Ranges.{contains, covers};
 ghost use Rattle.received.specs.Lent.{receivedIn};
 ghost use Rattle.received.specs.declared.Planned.the-variants as planned;
-ghost use Rattle.export.specs.Faces.{leaves};
-ghost use Rattle.faces.specs.Faces.{rewriteRow, covered, answered, insertRange};
+ghost use Rattle.export.specs.Faces.{leaves, shown, zeroOr};
+ghost use Rattle.faces.specs.Faces.{covered, answered, insertRange};
 
 // Reads a device row, and writes it again to the front of the output.
 #[no_mangle]
 pub extern "C" fn sicklestar_device(version: u32, row: &[u8], out: &mut [u8]) -> u32
-    ensures { λ r. ⌜ leaves r (now (out .exit)) ≡ rewriteRow (device version) (now (row .entry)) (now (out .entry)) ⌝ }
+    ensures { λ r. ⌜ leaves r (now (out .exit)) ≡ shown zeroOr (writes (device version) (now (row .entry)) (now (out .entry))) ⌝ }
 {
-    let read = device_row::read_device(version, row);
-    let verdict = read.verdict;
-    if let Verdict::Refused(number) = verdict {
-        return number as u32;
-    }
-    export::zero_or(read.device.row(out))
+    export::zero_or(rewrite::rewrite_device(version, row, out))
 }
 
 // Reads a queued row, and writes it again to the front of the output.
 #[no_mangle]
 pub extern "C" fn sicklestar_queued(version: u32, row: &[u8], out: &mut [u8]) -> u32
-    ensures { λ r. ⌜ leaves r (now (out .exit)) ≡ rewriteRow (queued version) (now (row .entry)) (now (out .entry)) ⌝ }
+    ensures { λ r. ⌜ leaves r (now (out .exit)) ≡ shown zeroOr (writes (queued version) (now (row .entry)) (now (out .entry))) ⌝ }
 {
-    let read = queued_row::read_queued(version, row);
-    let verdict = read.verdict;
-    if let Verdict::Refused(number) = verdict {
-        return number as u32;
-    }
-    let sealed = sealed::sealed_text(row, read.sealed_at);
-    export::zero_or(read.queued.row(sealed, out))
+    export::zero_or(rewrite::rewrite_queued(version, row, out))
 }
 
 // Reads a courier row, and writes it again to the front of the output.
 #[no_mangle]
 pub extern "C" fn sicklestar_courier(version: u32, row: &[u8], out: &mut [u8]) -> u32
-    ensures { λ r. ⌜ leaves r (now (out .exit)) ≡ rewriteRow (courier version) (now (row .entry)) (now (out .entry)) ⌝ }
+    ensures { λ r. ⌜ leaves r (now (out .exit)) ≡ shown zeroOr (writes (courier version) (now (row .entry)) (now (out .entry))) ⌝ }
 {
-    let read = courier_row::read_courier(version, row);
-    let verdict = read.verdict;
-    if let Verdict::Refused(number) = verdict {
-        return number as u32;
-    }
-    let sealed = sealed::sealed_text(row, read.sealed_at);
-    export::zero_or(read.held.row(sealed, out))
+    export::zero_or(rewrite::rewrite_courier(version, row, out))
 }
 
 // 1 or 0.

@@ -3,7 +3,6 @@ use super::ABOVE;
 use super::CHAINS;
 use super::EXPIRED;
 use super::NOTHING;
-use super::SHOW;
 use super::SKIPPED;
 use super::STATE;
 use super::Script;
@@ -173,7 +172,7 @@ fn veil_line(s: Script, line: &[u8], run: &mut [u8], out: &mut [u8]) -> Script {
 }
 
 // What reading a contact row and writing it again answers, with lists of these lengths, which a word has with commas.
-fn read_contact(version: u32, word: &[u8], row: &[u8], out: &mut [u8]) -> u32 {
+fn read_contact(version: u32, word: &[u8], row: &[u8], out: &mut [u8]) -> Written {
     let mut chains = [0u8; 13056];
     let mut skipped = [0u8; 23000];
     let mut above = [0u32; 15360];
@@ -184,7 +183,7 @@ fn read_contact(version: u32, word: &[u8], row: &[u8], out: &mut [u8]) -> u32 {
     let a = 2 * at_most(script::number(word, b',', 2), ABOVE);
     let u = at_most(script::number(word, b',', 3), UNACKED);
     let e = 2 * at_most(script::number(word, b',', 4), EXPIRED);
-    contact_face::sicklestar_contact(
+    rewrite::rewrite_contact(
         version,
         row,
         &mut chains[0..c],
@@ -196,29 +195,25 @@ fn read_contact(version: u32, word: &[u8], row: &[u8], out: &mut [u8]) -> u32 {
     )
 }
 
-// What reading a row and writing it again answers: 0, or the question's number.
-fn read_row(kind: u64, version: u32, word: &[u8], row: &[u8], out: &mut [u8]) -> u32 {
+// What reading a row and writing it again answers.
+fn read_row(kind: u64, version: u32, word: &[u8], row: &[u8], out: &mut [u8]) -> Written {
     if kind == store::DEVICE as u64 {
-        return faces::sicklestar_device(version, row, out);
+        return rewrite::rewrite_device(version, row, out);
     }
     if kind == store::QUEUED as u64 {
-        return faces::sicklestar_queued(version, row, out);
+        return rewrite::rewrite_queued(version, row, out);
     }
     if kind == store::CONTACT as u64 {
         return read_contact(version, word, row, out);
     }
-    faces::sicklestar_courier(version, row, out)
+    rewrite::rewrite_courier(version, row, out)
 }
 
 fn read_bytes(s: Script, line: &[u8], run: &[u8], n: usize, out: &mut [u8]) -> Script {
     let kind = script::number(line, b' ', 1);
     let version = narrow(script::number(line, b' ', 2));
     let word = script::word(line, b' ', 3);
-    let number = read_row(kind, version, word, row_in(s, run, n), out);
-    if number == 0 {
-        return s.asks(SHOW, call_code::WROTE, n as u64, 0, 0);
-    }
-    s.asks(SHOW, call_code::NO, number as u64, 0, 0)
+    s.shows(read_row(kind, version, word, row_in(s, run, n), out))
 }
 
 fn read_line(s: Script, line: &[u8], run: &mut [u8], out: &mut [u8]) -> Script {

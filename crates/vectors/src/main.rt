@@ -189,14 +189,14 @@ fn card(case: &[u8], bytes: &mut [u8], again: &mut [u8]) -> bool {
     }
 }
 
-// What the function of contact rows answers, with lists that are long enough for a row of 2,048 bytes.
-fn contact_answer(version: u32, row: &[u8], again: &mut [u8]) -> u32 {
+// Reads a contact row and writes it again, with lists that are long enough for a row of 2,048 bytes.
+fn contact_again(version: u32, row: &[u8], again: &mut [u8]) -> Written {
     let mut chains = [0u8; 2448];
     let mut skipped = [0u8; 2048];
     let mut above = [0u32; 512];
     let mut unacked = [0u32; 512];
     let mut expired = [0u32; 512];
-    contact_face::sicklestar_contact(
+    rewrite::rewrite_contact(
         version,
         row,
         &mut chains,
@@ -208,13 +208,13 @@ fn contact_answer(version: u32, row: &[u8], again: &mut [u8]) -> u32 {
     )
 }
 
-// What the function of the letter answers to a row.
-fn row_answer(letter: u8, version: u32, row: &[u8], again: &mut [u8]) -> u32 {
+// Reads a row of the letter's kind and writes it again.
+fn row_again(letter: u8, version: u32, row: &[u8], again: &mut [u8]) -> Written {
     match letter {
-        b'D' => faces::sicklestar_device(version, row, again),
-        b'Q' => faces::sicklestar_queued(version, row, again),
-        b'P' => contact_answer(version, row, again),
-        _ => faces::sicklestar_courier(version, row, again),
+        b'D' => rewrite::rewrite_device(version, row, again),
+        b'Q' => rewrite::rewrite_queued(version, row, again),
+        b'P' => contact_again(version, row, again),
+        _ => rewrite::rewrite_courier(version, row, again),
     }
 }
 
@@ -228,11 +228,12 @@ fn row(letter: u8, case: &[u8], bytes: &mut [u8], again: &mut [u8]) -> bool {
         return false;
     };
     let row = cases::first(bytes, n);
-    let number = row_answer(letter, version, row, again);
-    if number == 0 {
-        return is_number(cases::rest(blob), 0) && check::same(row, cases::first(again, n));
+    match row_again(letter, version, row, again) {
+        Written::Length(size) => {
+            is_number(cases::rest(blob), 0) && check::same(row, cases::first(again, size))
+        }
+        Written::Refused(number) => is_number(cases::rest(blob), number as u64),
     }
-    is_number(cases::rest(blob), number as u64)
 }
 
 // ---- stores

@@ -1,44 +1,13 @@
--- `faces::sicklestar_courier` meets its contract: the verdict says whether the row was refused, and what `row` leaves is the row stored.
+-- `faces::sicklestar_courier` meets its contract: what `rewrite_courier` answered, as a number.
 -- Assumes nothing.
-use Prim.Native.Nat.{ℕ}
-use mathlib.Core.List.{List}
-use mathlib.Core.Path.{sym, ap, _∙_}
 use borrow.Author.Needs.{needs}
-use Rattle.layout.specs.Write.{writes}
-use Rattle.layout.proofs.At.{typed}
-use Rattle.rows.specs.Rows.{courier}
-use Rattle.courier_row.specs.Row.{image}
-use Rattle.courier_row.specs.declared.HeldRead.{HeldRead}
-use Rattle.courier_row.proofs.RoundTrip.{courier-laws}
-use Rattle.faces.proofs.Again.{refused-row, granted-row}
+use Rattle.export.specs.Faces.{zeroOr}
+use Rattle.export.proofs.Faces.{answered}
 use Rattle.faces.proofs.sicklestar_courier.Statement.{statement}
 use Rattle.faces.proofs.sicklestar_courier.Tie as tie
 
-read-courier-requires : tie.Need-read-courier-requires
-read-courier-requires c κs = search needs
-
-enum-known-verdict : tie.Need-enum-known-verdict
-enum-known-verdict c = search needs
-
-cast-result : tie.Need-cast-result
-cast-result c = search needs
-
-returns : tie.Need-returns
-returns c =
-    let known = c .before in
-    let read = known .before .before in
-    let s = read .before .before .before in
-    refused-row (courier (s .args .version)) (s .args .row .now) (s .args .out .now)
-    (ap (λ (x : HeldRead). x .verdict) (sym (read .read-courier .ensures)) ∙ known .verdict .given .1)
-
-enum-told : tie.Need-enum-told
-enum-told c = search needs
-
-sealed-text-requires : tie.Need-sealed-text-requires
-sealed-text-requires c κs = search needs
-
-row-requires : tie.Need-row-requires
-row-requires c κs = search needs
+rewrite-courier-requires : tie.Need-rewrite-courier-requires
+rewrite-courier-requires c κs = search needs
 
 zero-or-requires : tie.Need-zero-or-requires
 zero-or-requires c κs = search needs
@@ -46,25 +15,9 @@ zero-or-requires c κs = search needs
 same-length : tie.Need-same-length
 same-length c = search needs
 
-returns-2 : tie.Need-returns-2
-returns-2 c =
-    let left = c .before .before .before in
-    let text = left .before .before in
-    let told = text .before in
-    let read = told .before .before in
-    let s = read .before .before .before in
-    let row = s .args .row .now in
-    let out = s .args .out .now in
-    let by = typed row (read .before .before .shared-slice-known .given) in
-    let is = read .read-courier .ensures in
-    let accepted = told .enum-told .given .1 in
-    rw (c .zero-or .ensures)
-    (granted-row (courier (s .args .version)) row out (ap (λ (x : HeldRead). x .verdict) (sym is) ∙ accepted)
-    (left .row .ensures
-    ∙ ap (λ (t : List ℕ). writes (courier 3) (image (read .read-courier .result .held) t) out) (text .sealed-text .ensures)
-    ∙ courier-laws .read-write (s .args .version) row by (read .read-courier .result) is accepted out))
+returns : tie.Need-returns
+returns c = answered zeroOr (c .zero-or .ensures) (c .before .before .before .rewrite-courier .ensures)
 
 pub sicklestar-courier-spec : {M : Type 1} → statement M
 sicklestar-courier-spec =
-    tie.close
-    (tie.spec read-courier-requires enum-known-verdict cast-result returns enum-told sealed-text-requires row-requires zero-or-requires same-length returns-2)
+    tie.close (tie.spec rewrite-courier-requires zero-or-requires same-length returns)

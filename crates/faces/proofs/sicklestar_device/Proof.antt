@@ -1,36 +1,13 @@
--- `faces::sicklestar_device` meets its contract: the verdict says whether the row was refused, and what `row` leaves is the row stored.
+-- `faces::sicklestar_device` meets its contract: what `rewrite_device` answered, as a number.
 -- Assumes nothing.
-use mathlib.Core.Path.{sym, ap, _∙_}
 use borrow.Author.Needs.{needs}
-use Rattle.layout.proofs.At.{typed}
-use Rattle.rows.specs.Rows.{device}
-use Rattle.device_row.specs.declared.DeviceRead.{DeviceRead}
-use Rattle.faces.proofs.Again.{refused-row, granted-row, device-read-write}
+use Rattle.export.specs.Faces.{zeroOr}
+use Rattle.export.proofs.Faces.{answered}
 use Rattle.faces.proofs.sicklestar_device.Statement.{statement}
 use Rattle.faces.proofs.sicklestar_device.Tie as tie
 
-read-device-requires : tie.Need-read-device-requires
-read-device-requires c κs = search needs
-
-enum-known-verdict : tie.Need-enum-known-verdict
-enum-known-verdict c = search needs
-
-cast-result : tie.Need-cast-result
-cast-result c = search needs
-
-returns : tie.Need-returns
-returns c =
-    let known = c .before in
-    let read = known .before .before in
-    let s = read .before .before .before in
-    refused-row (device (s .args .version)) (s .args .row .now) (s .args .out .now)
-    (ap (λ (x : DeviceRead). x .verdict) (sym (read .read-device .ensures)) ∙ known .verdict .given .1)
-
-enum-told : tie.Need-enum-told
-enum-told c = search needs
-
-row-requires : tie.Need-row-requires
-row-requires c κs = search needs
+rewrite-device-requires : tie.Need-rewrite-device-requires
+rewrite-device-requires c κs = search needs
 
 zero-or-requires : tie.Need-zero-or-requires
 zero-or-requires c κs = search needs
@@ -38,22 +15,9 @@ zero-or-requires c κs = search needs
 same-length : tie.Need-same-length
 same-length c = search needs
 
-returns-2 : tie.Need-returns-2
-returns-2 c =
-    let left = c .before .before .before in
-    let told = left .before .before in
-    let read = told .before .before in
-    let s = read .before .before .before in
-    let row = s .args .row .now in
-    let out = s .args .out .now in
-    let by = typed row (read .before .before .shared-slice-known .given) in
-    let is = read .read-device .ensures in
-    rw (c .zero-or .ensures)
-    (granted-row (device (s .args .version)) row out
-    (ap (λ (x : DeviceRead). x .verdict) (sym is) ∙ told .enum-told .given .1)
-    (left .row .ensures ∙ device-read-write (s .args .version) row by (read .read-device .result) is (told .enum-told .given .1) out))
+returns : tie.Need-returns
+returns c = answered zeroOr (c .zero-or .ensures) (c .before .before .before .rewrite-device .ensures)
 
 pub sicklestar-device-spec : {M : Type 1} → statement M
 sicklestar-device-spec =
-    tie.close
-    (tie.spec read-device-requires enum-known-verdict cast-result returns enum-told row-requires zero-or-requires same-length returns-2)
+    tie.close (tie.spec rewrite-device-requires zero-or-requires same-length returns)

@@ -16,26 +16,24 @@ use Rattle.rows.proofs.RoundTrip.{three, rewritten, accepted-not}
 use Rattle.device_row.specs.Row as spec
 use Rattle.device_row.specs.Row.{deviceRead, image}
 use Rattle.device_row.specs.declared.DeviceRead.{DeviceRead}
-use Rattle.export.specs.Faces.{leaves, zeroOr, shown}
-use Rattle.faces.specs.Faces.{rewriteRow}
 
 module _ {A : Type 0} (l : Layout A) (row out : List ℕ) where
   refused-by : (a : Answer A) {q : ℕ} → verdictOf a ≡ Refused q → judged a row out ≡ record { answer = refuses q; out = out }
   refused-by (accepted v) e = absurd (accepted-not e)
   refused-by (refusedBy p) e = cc
 
-  pub refused-row : {q : ℕ} → verdictOf (readRow l row) ≡ Refused q → leaves q out ≡ rewriteRow l row out
-  unfolding rewriteRow write.writes
-  refused-row e = ap (λ (x : Left). shown zeroOr x) (sym (refused-by (readRow l row) e))
+  pub refused-row : {q : ℕ} → verdictOf (readRow l row) ≡ Refused q → record { answer = refuses q; out = out } ≡ writes l row out
+  unfolding write.writes
+  refused-row e = sym (refused-by (readRow l row) e)
 
   stored-by : (a : Answer A) → verdictOf a ≡ Accepted → judged a row out ≡ stored row out
   stored-by (accepted v) e = refl
   stored-by (refusedBy p) e = absurd (accepted-not (sym e))
 
   -- what a writer left that stores the row
-  pub granted-row : verdictOf (readRow l row) ≡ Accepted → {left : Left} → left ≡ stored row out → shown zeroOr left ≡ rewriteRow l row out
-  unfolding rewriteRow write.writes
-  granted-row e w = ap (λ (x : Left). shown zeroOr x) (w ∙ sym (stored-by (readRow l row) e))
+  pub granted-row : verdictOf (readRow l row) ≡ Accepted → {left : Left} → left ≡ stored row out → left ≡ writes l row out
+  unfolding write.writes
+  granted-row e w = w ∙ sym (stored-by (readRow l row) e)
 
 -- the law of queued and courier rows, of a device row
 pub device-read-write : (version : ℕ) (row : List ℕ) → Bytes row → (read : DeviceRead) → read ≡ deviceRead (readRow (device version) row) → read .verdict ≡ Accepted
