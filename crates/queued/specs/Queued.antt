@@ -1,19 +1,21 @@
--- What the answers about a queued row say: which value stands at the places that a check found.
+-- What the answers about a queued row say: where its parts stand.
 -- Assumes nothing.
 use Prim.Native.Nat.{ℕ, _+_, _≤_}
 use mathlib.Core.List.{List}
 use mathlib.Core.Option.{Option, none, some}
 use lib.ListN.{length, take, drop}
 use Rattle.layout.specs.Field.{Field, takes, refuses}
-use Rattle.layout.specs.Layout.{Answer, accepted, refusedBy}
+use Rattle.layout.specs.Layout.{group, optionalLayout, Answer, accepted, refusedBy}
+use Rattle.offsets.specs.Offset.{offset}
 use Rattle.rows.specs.Values as value
+use Rattle.rows.specs.Rows.{ownEnvelope, queued}
 use Rattle.data.specs.declared.Leb128Field.{Leb128Field}
 use Rattle.data.specs.declared.Leb128Field.the-variants as leb
 use Rattle.queued.specs.declared.EnvelopeAt.{EnvelopeAt}
 use Rattle.queued.specs.declared.EnvelopeField.{EnvelopeField}
 use Rattle.queued.specs.declared.EnvelopeField.the-variants as envelopeField
 use Rattle.queued.specs.declared.OwnEnvelopeAt.{OwnEnvelopeAt}
-use Rattle.queued.specs.declared.OwnEnvelopeAt.the-variants as ownAt
+use Rattle.queued.specs.declared.OwnEnvelopeAt.the-variants as own
 use Rattle.queued.specs.declared.OwnEnvelopeField.{OwnEnvelopeField}
 use Rattle.queued.specs.declared.OwnEnvelopeField.the-variants as ownField
 use Rattle.queued.specs.declared.QueuedAt.{QueuedAt}
@@ -24,7 +26,56 @@ abbrev pub lebRefusal : Leb128Field → ℕ
 lebRefusal (leb.Value n next) = 0
 lebRefusal (leb.Refused q) = q
 
--- the envelope that stands at these places of the row
+-- ---- an own envelope that stands at a place: its numbers, and where its runs start
+abbrev pub envelopeAt : ℕ → value.OwnEnvelope → EnvelopeAt
+envelopeAt from e = record {
+  tag = from + offset ownEnvelope 0 e;
+  s = from + offset ownEnvelope 1 e;
+  «expiry_min» = e .«expiry_min»;
+  copies = e .copies;
+  renewed = e .renewed;
+}
+
+abbrev pub envelopeSays : EnvelopeField → Field EnvelopeAt
+envelopeSays (envelopeField.Value at next) = takes at next
+envelopeSays (envelopeField.Refused q) = refuses q
+
+abbrev pub envelopeRefusal : EnvelopeField → ℕ
+envelopeRefusal (envelopeField.Value at next) = 0
+envelopeRefusal (envelopeField.Refused q) = q
+
+-- ... behind its flag
+abbrev pub ownAt : ℕ → Option value.OwnEnvelope → OwnEnvelopeAt
+ownAt from none = own.Absent
+ownAt from (some e) = own.Present (envelopeAt (from + offset (optionalLayout (group ownEnvelope)) 1 (some e)) e)
+
+abbrev pub ownSays : OwnEnvelopeField → Field OwnEnvelopeAt
+ownSays (ownField.Value at next) = takes at next
+ownSays (ownField.Refused q) = refuses q
+
+abbrev pub ownRefusal : OwnEnvelopeField → ℕ
+ownRefusal (ownField.Value at next) = 0
+ownRefusal (ownField.Refused q) = q
+
+-- ---- a queued row: its numbers, and where its runs start
+abbrev pub queuedAt : ℕ → value.Queued → QueuedAt
+queuedAt version q = record {
+  «created_s» = q .«created_s»;
+  envelope = ownAt (offset (queued version) 1 q) (q .envelope);
+  «gen_» = q .gen;
+  idx = q .idx;
+  sealed = offset (queued version) 4 q;
+}
+
+abbrev pub checked : ℕ → Answer value.Queued → QueuedCheck
+checked version (accepted q) = check.Fields (queuedAt version q)
+checked version (refusedBy n) = check.Refused n
+
+abbrev pub checkRefusal : QueuedCheck → ℕ
+checkRefusal (check.Fields at) = 0
+checkRefusal (check.Refused q) = q
+
+-- ---- the queued row that stands at places of a row, and that these lie in it
 abbrev pub envelopeFrom : List ℕ → EnvelopeAt → value.OwnEnvelope
 envelopeFrom row at = record {
   tag = take 16 (drop (at .tag) row);
@@ -34,45 +85,18 @@ envelopeFrom row at = record {
   renewed = at .renewed;
 }
 
--- the places lie in the row
 pub record EnvelopePlaces (row : List ℕ) (at : EnvelopeAt) : Type 0 where
   pub tag : at .tag + 16 ≤ length row
   pub s : at .s + 16 ≤ length row
 
-abbrev pub envelopeSays : List ℕ → EnvelopeField → Field value.OwnEnvelope
-envelopeSays row (envelopeField.Value at next) = takes (envelopeFrom row at) next
-envelopeSays row (envelopeField.Refused q) = refuses q
-
-abbrev pub EnvelopePlaced : List ℕ → EnvelopeField → Type 0
-EnvelopePlaced row (envelopeField.Value at next) = EnvelopePlaces row at
-EnvelopePlaced row (envelopeField.Refused q) = Unit {0}
-
-abbrev pub envelopeRefusal : EnvelopeField → ℕ
-envelopeRefusal (envelopeField.Value at next) = 0
-envelopeRefusal (envelopeField.Refused q) = q
-
--- ... if the row has one
 abbrev pub ownFrom : List ℕ → OwnEnvelopeAt → Option value.OwnEnvelope
-ownFrom row ownAt.Absent = none
-ownFrom row (ownAt.Present at) = some (envelopeFrom row at)
+ownFrom row own.Absent = none
+ownFrom row (own.Present at) = some (envelopeFrom row at)
 
 abbrev pub OwnPlaces : List ℕ → OwnEnvelopeAt → Type 0
-OwnPlaces row ownAt.Absent = Unit {0}
-OwnPlaces row (ownAt.Present at) = EnvelopePlaces row at
+OwnPlaces row own.Absent = Unit {0}
+OwnPlaces row (own.Present at) = EnvelopePlaces row at
 
-abbrev pub ownSays : List ℕ → OwnEnvelopeField → Field (Option value.OwnEnvelope)
-ownSays row (ownField.Value at next) = takes (ownFrom row at) next
-ownSays row (ownField.Refused q) = refuses q
-
-abbrev pub OwnPlaced : List ℕ → OwnEnvelopeField → Type 0
-OwnPlaced row (ownField.Value at next) = OwnPlaces row at
-OwnPlaced row (ownField.Refused q) = Unit {0}
-
-abbrev pub ownRefusal : OwnEnvelopeField → ℕ
-ownRefusal (ownField.Value at next) = 0
-ownRefusal (ownField.Refused q) = q
-
--- the queued row that stands at these places of the row
 abbrev pub queuedFrom : List ℕ → QueuedAt → value.Queued
 queuedFrom row at = record {
   «created_s» = at .«created_s»;
@@ -85,15 +109,3 @@ queuedFrom row at = record {
 pub record Places (row : List ℕ) (at : QueuedAt) : Type 0 where
   pub envelope : OwnPlaces row (at .envelope)
   pub sealed : at .sealed ≤ length row
-
-abbrev pub checkSays : List ℕ → QueuedCheck → Answer value.Queued
-checkSays row (check.Fields at) = accepted (queuedFrom row at)
-checkSays row (check.Refused q) = refusedBy q
-
-abbrev pub checkRefusal : QueuedCheck → ℕ
-checkRefusal (check.Fields at) = 0
-checkRefusal (check.Refused q) = q
-
-abbrev pub Placed : List ℕ → QueuedCheck → Type 0
-Placed row (check.Fields at) = Places row at
-Placed row (check.Refused q) = Unit {0}

@@ -11,8 +11,8 @@ ghost use lib.ListN.{drop};
 ghost use Rattle.layout.specs.Field.{readAt};
 ghost use Rattle.layout.specs.Layout.{group, optional, readRow};
 ghost use Rattle.rows.specs.Rows.{ownEnvelope, queued};
-ghost use Rattle.queued.specs.Queued.{lebRefusal, envelopeSays, EnvelopePlaced, envelopeRefusal, ownSays, OwnPlaced, ownRefusal};
-ghost use Rattle.queued.specs.Queued.{checkSays, Placed, checkRefusal};
+ghost use Rattle.offsets.specs.Offset.{located};
+ghost use Rattle.queued.specs.Queued.{lebRefusal, envelopeAt, envelopeSays, envelopeRefusal, ownAt, ownSays, ownRefusal, checked, checkRefusal};
 
 // An own envelope's numbers, and where its runs start.
 pub struct EnvelopeAt {
@@ -101,7 +101,7 @@ fn leb128_refusal(field: Leb128Field) -> u8
 
 // The fields of an own envelope.
 fn envelope_at(row: &[u8], at: usize) -> EnvelopeField
-    ensures { λ r. ⌜ (envelopeSays (now (row .entry)) r ≡ readAt (group ownEnvelope) (now (row .entry)) at) × EnvelopePlaced (now (row .entry)) r ⌝ }
+    ensures { λ r. ⌜ envelopeSays r ≡ located (envelopeAt at) (readAt (group ownEnvelope) (now (row .entry)) at) ⌝ }
 {
     let RunField::Value(tag, at1) = fields::run_at(row, at, 16) else {
         return EnvelopeField::Refused(question::FIELD);
@@ -133,7 +133,7 @@ fn envelope_at(row: &[u8], at: usize) -> EnvelopeField
 
 // The flag, and the envelope if it is 1.
 fn own_envelope_at(row: &[u8], at: usize) -> OwnEnvelopeField
-    ensures { λ r. ⌜ (ownSays (now (row .entry)) r ≡ readAt (optional (group ownEnvelope)) (now (row .entry)) at) × OwnPlaced (now (row .entry)) r ⌝ }
+    ensures { λ r. ⌜ ownSays r ≡ located (ownAt at) (readAt (optional (group ownEnvelope)) (now (row .entry)) at) ⌝ }
 {
     let flag = fields::flag_at(row, at);
     let FlagField::Value(present, at1) = flag else {
@@ -151,7 +151,7 @@ fn own_envelope_at(row: &[u8], at: usize) -> OwnEnvelopeField
 
 // The questions of a queued row; nothing is copied.
 pub fn check_queued(version: u32, row: &[u8]) -> QueuedCheck
-    ensures { λ r. ⌜ (checkSays (now (row .entry)) r ≡ readRow (queued version) (now (row .entry))) × Placed (now (row .entry)) r ⌝ }
+    ensures { λ r. ⌜ r ≡ checked version (readRow (queued version) (now (row .entry))) ⌝ }
 {
     if version != rows::BLOB_VERSION {
         return QueuedCheck::Refused(question::VERSION);

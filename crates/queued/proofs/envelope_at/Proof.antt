@@ -1,7 +1,7 @@
 -- `queued::envelope_at` meets its contract: one step of the layout for each field.
 use Prim.Native.Nat.{ℕ, _+_}
 use mathlib.Core.List.{List}
-use mathlib.Core.Path.{_≡_, sym, ap, subst, _∙_}
+use mathlib.Core.Path.{_≡_, ap, _∙_}
 use native.Mathlib.Omega.{arith}
 use lib.ListN.{take, drop}
 use borrow.Author.Needs.{needs}
@@ -10,11 +10,16 @@ use Rattle.layout.specs.Form.{bytes, u8, u32, flag}
 use Rattle.layout.specs.Layout.{group}
 use Rattle.layout.specs.RowLaws.{Bytes}
 use Rattle.layout.proofs.Front.{number-lawful, flag-lawful}
-use Rattle.layout.proofs.At.{Took, took, refused-at, takes-at, refuses-at, learn, typed}
+use Rattle.layout.proofs.At.{Took, took, refused-at, learn, typed}
 use Rattle.layout.proofs.Steps.{Reached, start, field-yes, field-no, done-yes}
+use Rattle.rows.specs.Values.{OwnEnvelope}
 use Rattle.rows.specs.Rows.{ownEnvelope}
-use Rattle.fields.specs.Says.{Ends, u8Says, u32Says, flagSays, flagRefusal}
+use Rattle.fields.specs.Says.{u8Says, u32Says, flagSays, flagRefusal}
 use Rattle.fields.proofs.Runs.{run-took, run-short}
+use Rattle.offsets.specs.Offset.{offset}
+use Rattle.offsets.proofs.Offset.{locates, locates-not}
+use Rattle.offsets.proofs.Runs.{Run, run-starts}
+use Rattle.queued.specs.Queued.{envelopeAt}
 use Rattle.queued.proofs.envelope_at.Statement.{statement}
 use Rattle.queued.proofs.envelope_at.Tie as tie
 
@@ -46,8 +51,8 @@ tag-end c = c .before .tag .given .0 .1 .0
 tag-took : (c : tie.After-known-told) → Took (bytes plain 16) (row (s1 c)) (from (s1 c)) (take 16 (drop (tag c) (row (s1 c)))) (tag-end c)
 tag-took c = run-took _ _ plain 16 (c .before .before .before .run-at .ensures .0) (by (s1 c)) (c .before .tag .given .1)
 
-tag-ends : (c : tie.After-known-told) → tag-end c ≡ tag c + 16
-tag-ends c = subst (Ends 16) (c .before .tag .given .1) (c .before .before .before .run-at .ensures .1)
+tag-run : (c : tie.After-known-told) → Run (from (s1 c)) (take 16 (drop (tag c) (row (s1 c)))) (tag c) (tag-end c)
+tag-run c = run-starts _ _ 16 (by (s1 c)) (omega arith) (c .before .before .before .run-at .ensures) (c .before .tag .given .1)
 
 abbrev r1 : (c : tie.After-known-told) → Read (s1 c)
 r1 c = field-yes (r0 (s1 c) .so) (tag-took c)
@@ -67,8 +72,8 @@ key-end c = c .before .s .given .0 .1 .0
 key-took : (c : tie.After-known-told2) → Took (bytes veiled 16) (row (s2 c)) (tag-end (k1 c)) (take 16 (drop (key c) (row (s2 c)))) (key-end c)
 key-took c = run-took _ _ veiled 16 (c .before .before .before .run-at2 .ensures .0) (by (s2 c)) (c .before .s .given .1)
 
-key-ends : (c : tie.After-known-told2) → key-end c ≡ key c + 16
-key-ends c = subst (Ends 16) (c .before .s .given .1) (c .before .before .before .run-at2 .ensures .1)
+key-run : (c : tie.After-known-told2) → Run (tag-end (k1 c)) (take 16 (drop (key c) (row (s2 c)))) (key c) (key-end c)
+key-run c = run-starts _ _ 16 (by (s2 c)) (omega arith) (c .before .before .before .run-at2 .ensures) (c .before .s .given .1)
 
 abbrev r2 : (c : tie.After-known-told2) → Read (s2 c)
 r2 c = field-yes (r1 (k1 c) .so) (key-took c)
@@ -89,6 +94,10 @@ r4 c =
     field-yes (r3 (c .before .before .before .before) .so)
     (took _ _ u8 (number-lawful 1) (by (s4 c)) (learn u8Says (c .before .before .before .byte-at .ensures) (c .before .copies .given .1)))
 
+its-places : (from : ℕ) (e : OwnEnvelope) {tag key : ℕ} → tag ≡ from + offset ownEnvelope 0 e → key ≡ from + offset ownEnvelope 1 e
+    → record { tag = tag; s = key; «expiry_min» = e .«expiry_min»; copies = e .copies; renewed = e .renewed } ≡ envelopeAt from e
+its-places from e t k = λ i. record { tag = t i; s = k i; «expiry_min» = e .«expiry_min»; copies = e .copies; renewed = e .renewed }
+
 -- ---- what is asked
 
 run-at-requires : tie.Need-run-at-requires
@@ -103,7 +112,7 @@ enum-told c = search needs
 returns : tie.Need-returns
 returns c =
     let stop = field-no (r0 (c .before .before .before) .so) (run-short _ _ plain 16 (c .before .before .run-at .ensures .0) (c .enum-told .given .1)) in
-    (sym (refuses-at _ _ (group ownEnvelope) stop), tt)
+    locates-not _ _ (group ownEnvelope) (envelopeAt _) stop
 
 run-at-requires-2 : tie.Need-run-at-requires-2
 run-at-requires-2 c κs = search needs
@@ -117,7 +126,7 @@ enum-told-2 c = search needs
 returns-2 : tie.Need-returns-2
 returns-2 c =
     let stop = field-no (r1 (c .before .before .before) .so) (run-short _ _ veiled 16 (c .before .before .run-at2 .ensures .0) (c .enum-told2 .given .1)) in
-    (sym (refuses-at _ _ (group ownEnvelope) stop), tt)
+    locates-not _ _ (group ownEnvelope) (envelopeAt _) stop
 
 u32-at-requires : tie.Need-u32-at-requires
 u32-at-requires c κs = search needs
@@ -131,7 +140,7 @@ enum-told-3 c = search needs
 returns-3 : tie.Need-returns-3
 returns-3 c =
     let stop = field-no (r2 (c .before .before .before) .so) (refused-at _ _ u32 (learn u32Says (c .before .before .u32-at .ensures) (c .enum-told3 .given .1))) in
-    (sym (refuses-at _ _ (group ownEnvelope) stop), tt)
+    locates-not _ _ (group ownEnvelope) (envelopeAt _) stop
 
 byte-at-requires : tie.Need-byte-at-requires
 byte-at-requires c κs = search needs
@@ -145,7 +154,7 @@ enum-told-4 c = search needs
 returns-4 : tie.Need-returns-4
 returns-4 c =
     let stop = field-no (r3 (c .before .before .before) .so) (refused-at _ _ u8 (learn u8Says (c .before .before .byte-at .ensures) (c .enum-told4 .given .1))) in
-    (sym (refuses-at _ _ (group ownEnvelope) stop), tt)
+    locates-not _ _ (group ownEnvelope) (envelopeAt _) stop
 
 flag-at-requires : tie.Need-flag-at-requires
 flag-at-requires c κs = search needs
@@ -163,16 +172,23 @@ returns-5 : tie.Need-returns-5
 returns-5 c =
     let told = c .before .enum-told5 .given .1 in
     let not = field-no (r4 (c .before .before .before .before) .so) (refused-at _ _ flag (learn flagSays (c .before .before .before .flag-at .ensures) told)) in
-    (rw (c .refusal .ensures ∙ ap flagRefusal told) (sym (refuses-at _ _ (group ownEnvelope) not)), tt)
+    rw (c .refusal .ensures ∙ ap flagRefusal told) (locates-not _ _ (group ownEnvelope) (envelopeAt _) not)
 
 returns-6 : tie.Need-returns-6
 returns-6 c =
     let k = c .before .before .before .before in
     let k2 = k .before .before .before .before .before .before .before .before in
-    let t = took _ _ flag flag-lawful (by (s4 k)) (learn flagSays (c .before .before .before .flag-at .ensures) (c .before .flag .given .1)) in (
-      sym (takes-at _ _ (group ownEnvelope) (done-yes (field-yes (r4 k .so) t .so)) (t .inside)),
-      record { tag = omega (arith, tag-ends (k1 k2), tag-took (k1 k2) .inside); s = omega (arith, key-ends k2, key-took k2 .inside) },
-    )
+    let t = took _ _ flag flag-lawful (by (s4 k)) (learn flagSays (c .before .before .before .flag-at .ensures) (c .before .flag .given .1)) in
+    let k1 = k1 k2 in
+    let e : OwnEnvelope = record {
+      tag = take 16 (drop (tag k1) (row (s4 k)));
+      s = take 16 (drop (key k2) (row (s4 k)));
+      «expiry_min» = k .before .before .before .before .before .expiry-min .given .0 .0;
+      copies = k .before .copies .given .0 .0;
+      renewed = c .before .flag .given .0 .0;
+    } in
+    locates _ _ (group ownEnvelope) (envelopeAt _) {b = e} (done-yes (field-yes (r4 k .so) t .so)) (t .inside)
+    (its-places (from (s4 k)) e (omega (arith, tag-run k1 .starts)) (omega (arith, tag-run k1 .ends, key-run k2 .starts)))
 
 pub envelope-at-spec : {M : Type 1} → statement M
 envelope-at-spec =

@@ -1,19 +1,25 @@
 -- `queued::own_envelope_at` meets its contract: the flag, and then the envelope or nothing.
-use Prim.Native.Nat.{ℕ}
+use Prim.Native.Nat.{ℕ, _+_}
 use mathlib.Core.List.{List}
 use mathlib.Core.Bool.{Bool, true, false}
-use mathlib.Core.Path.{sym, ap, subst, _∙_}
+use mathlib.Core.Option.{some}
+use mathlib.Core.Path.{_≡_, refl, ap, subst, _∙_}
+use native.Mathlib.Omega.{arith}
 use borrow.Author.Needs.{needs}
 use Rattle.layout.specs.Form.{flag}
-use Rattle.layout.specs.Layout.{group, optional}
+use Rattle.layout.specs.Field.{readAt, takes}
+use Rattle.layout.specs.Layout.{group, optional, optionalLayout}
 use Rattle.layout.specs.RowLaws.{Bytes}
 use Rattle.layout.proofs.Front.{flag-lawful}
-use Rattle.layout.proofs.At.{Took, took, refused-at, takes-at, refuses-at, learn, typed}
+use Rattle.layout.proofs.At.{Took, took, took-next, refused-at, learn, typed}
 use Rattle.layout.proofs.Steps.{optional-some, optional-none, optional-no-flag, optional-no}
 use Rattle.rows.specs.Rows.{ownEnvelope}
 use Rattle.rows.proofs.Lawful.{ownEnvelope-lawful}
 use Rattle.fields.specs.Says.{flagSays, flagRefusal}
-use Rattle.queued.specs.Queued.{envelopeSays, envelopeRefusal, EnvelopePlaced}
+use Rattle.offsets.specs.Offset.{offset}
+use Rattle.offsets.proofs.Offset.{not-past, locates, locates-not, located-at, located-not}
+use Rattle.queued.specs.Queued.{envelopeAt, envelopeSays, envelopeRefusal, ownAt}
+use Rattle.queued.specs.declared.OwnEnvelopeAt.the-variants.{Present}
 use Rattle.queued.proofs.own_envelope_at.Statement.{statement}
 use Rattle.queued.proofs.own_envelope_at.Tie as tie
 
@@ -30,8 +36,14 @@ abbrev s1 : tie.After-known-told → tie.After-shared-slice-known
 s1 c = c .before .before .before .before
 
 -- the flag as it was read
+flag-read : (c : tie.After-known-told) → readAt flag (row (s1 c)) (here (s1 c)) ≡ takes (c .before .flag .given .0 .0) (c .before .flag .given .0 .1 .0)
+flag-read c = learn flagSays (c .before .before .before .flag-at .ensures) (c .before .flag .given .1)
+
 flag-took : (c : tie.After-known-told) → Took flag (row (s1 c)) (here (s1 c)) (c .before .flag .given .0 .0) (c .before .flag .given .0 .1 .0)
-flag-took c = took _ _ flag flag-lawful (by (s1 c)) (learn flagSays (c .before .before .before .flag-at .ensures) (c .before .flag .given .1))
+flag-took c = took _ _ flag flag-lawful (by (s1 c)) (flag-read c)
+
+flag-next : (c : tie.After-known-told) → c .before .flag .given .0 .1 .0 ≡ here (s1 c) + 1
+flag-next c = took-next _ _ flag flag-lawful (by (s1 c)) (flag-read c) (not-past _ _ flag refl (flag-read c))
 
 set : (c : tie.Then1) → Took flag (row (s1 (c .before))) (here (s1 (c .before))) true (c .before .before .flag .given .0 .1 .0)
 set c = subst (λ (t : Bool). Took flag (row (s1 (c .before))) (here (s1 (c .before))) t (c .before .before .flag .given .0 .1 .0)) (c .if1 .taken) (flag-took (c .before))
@@ -56,7 +68,7 @@ returns c =
     let told = c .before .enum-told .given .1 in
     let s = c .before .before .before .before in
     let not = optional-no-flag (group ownEnvelope) (row s) (here s) (refused-at _ _ flag (learn flagSays (c .before .before .before .flag-at .ensures) told)) in
-    (rw (c .refusal .ensures ∙ ap flagRefusal told) (sym (refuses-at _ _ (optional (group ownEnvelope)) not)), tt)
+    rw (c .refusal .ensures ∙ ap flagRefusal told) (locates-not _ _ (optional (group ownEnvelope)) (ownAt _) not)
 
 envelope-at-requires : tie.Need-envelope-at-requires
 envelope-at-requires c κs = search needs
@@ -76,23 +88,25 @@ returns-2 c =
     let t = c .before .before .before .before in
     let s = s1 (t .before) in
     let not = optional-no (group ownEnvelope) (row s) (here s) (set t)
-    (refused-at _ _ (group ownEnvelope) (learn (envelopeSays (row s)) (c .before .before .before .envelope-at .ensures .0) told)) in
-    (rw (c .refusal2 .ensures ∙ ap envelopeRefusal told) (sym (refuses-at _ _ (optional (group ownEnvelope)) not)), tt)
+    (refused-at _ _ (group ownEnvelope) (located-not (envelopeAt _) _ (learn envelopeSays (c .before .before .before .envelope-at .ensures) told))) in
+    rw (c .refusal2 .ensures ∙ ap envelopeRefusal told) (locates-not _ _ (optional (group ownEnvelope)) (ownAt _) not)
 
 returns-3 : tie.Need-returns-3
 returns-3 c =
     let a = c .before .before .before in
     let t = a .before in
     let s = s1 (t .before) in
-    let its = took _ _ (group ownEnvelope) ownEnvelope-lawful (by s) (learn (envelopeSays (row s)) (a .envelope-at .ensures .0) (c .before .envelope .given .1)) in
-    let o = optional-some (group ownEnvelope) (row s) (here s) (set t) its in
-    (sym (takes-at _ _ (optional (group ownEnvelope)) (o .reads) (o .inside)), subst (EnvelopePlaced (row s)) (c .before .envelope .given .1) (a .envelope-at .ensures .1))
+    let its = located-at (envelopeAt _) _ (learn envelopeSays (a .envelope-at .ensures) (c .before .envelope .given .1)) in
+    let o = optional-some (group ownEnvelope) (row s) (here s) (set t) (took _ _ (group ownEnvelope) ownEnvelope-lawful (by s) (its .read)) in
+    let behind : c .before .before .before .before .before .before .flag .given .0 .1 .0 ≡ here s + offset (optionalLayout (group ownEnvelope)) 1 (some (its .value)) = omega (arith, flag-next (t .before)) in
+    locates _ _ (optional (group ownEnvelope)) (ownAt _) (o .reads) (o .inside)
+    (ap Present (its .place ∙ ap (λ (from : ℕ). envelopeAt from (its .value)) behind))
 
 returns-4 : tie.Need-returns-4
 returns-4 c =
     let s = s1 (c .before) in
     let o = optional-none (group ownEnvelope) (row s) (here s) (clear c) in
-    (sym (takes-at _ _ (optional (group ownEnvelope)) (o .reads) (o .inside)), tt)
+    locates _ _ (optional (group ownEnvelope)) (ownAt _) (o .reads) (o .inside) refl
 
 pub own-envelope-at-spec : {M : Type 1} → statement M
 own-envelope-at-spec =
