@@ -1,4 +1,4 @@
--- What the answers about a courier row say: its kind, and which value stands at the places that a check found.
+-- What the answers about a courier row say: its kind, and where its parts stand.
 -- Assumes nothing.
 use Prim.Native.Nat.{ℕ, _+_, _≤_}
 use mathlib.Core.List.{List}
@@ -11,13 +11,15 @@ use Rattle.layout.specs.Questions.{FIELD, CODE}
 use Rattle.layout.specs.Form.{Form, letter}
 use Rattle.layout.specs.Field.{Field, takes, refuses}
 use Rattle.layout.specs.Layout.{Answer, accepted, refusedBy}
+use Rattle.offsets.specs.Offset.{offset}
 use Rattle.rows.specs.Values as value
+use Rattle.rows.specs.Rows.{carried, tombstone}
 use Rattle.courier.specs.declared.Kind.{Kind}
 use Rattle.courier.specs.declared.Kind.the-variants.{Carried, Tombstone}
 use Rattle.courier.specs.declared.CarriedAt.{CarriedAt}
 use Rattle.courier.specs.declared.TombstoneAt.{TombstoneAt}
 use Rattle.courier.specs.declared.HeldAt.{HeldAt}
-use Rattle.courier.specs.declared.HeldAt.the-variants as heldAt
+use Rattle.courier.specs.declared.HeldAt.the-variants as held
 use Rattle.courier.specs.declared.KindField.{KindField}
 use Rattle.courier.specs.declared.KindField.the-variants as kindField
 use Rattle.courier.specs.declared.CarriedField.{CarriedField}
@@ -46,7 +48,53 @@ abbrev pub kindRefusal : KindField → ℕ
 kindRefusal (kindField.Value k next) = 0
 kindRefusal (kindField.Refused q) = q
 
--- what is carried at these places of the row
+-- ---- what is carried at a place: its numbers, and where its runs start
+abbrev pub carriedAt : ℕ → value.Carried → CarriedAt
+carriedAt from c = record {
+  depositor = record { 0 = c .depositor };
+  tag = from + offset carried 1 c;
+  c = from + offset carried 2 c;
+  «expiry_min» = c .«expiry_min»;
+  copies = c .copies;
+  sealed = from + offset carried 5 c;
+}
+
+-- it ends where the row ends
+abbrev pub carriedSays : List ℕ → CarriedField → Field CarriedAt
+carriedSays row (carriedField.Value at) = takes at (length row)
+carriedSays row (carriedField.Refused q) = refuses q
+
+abbrev pub carriedRefusal : CarriedField → ℕ
+carriedRefusal (carriedField.Value at) = 0
+carriedRefusal (carriedField.Refused q) = q
+
+-- ---- a tombstone at a place
+abbrev pub tombstoneAt : ℕ → value.Tombstone → TombstoneAt
+tombstoneAt from t = record { tag = from + offset tombstone 0 t; s = from + offset tombstone 1 t; «expiry_min» = t .«expiry_min» }
+
+abbrev pub tombstoneSays : TombstoneField → Field TombstoneAt
+tombstoneSays (tombstoneField.Value at next) = takes at next
+tombstoneSays tombstoneField.Short = refuses FIELD
+
+-- ---- a courier row: what it holds stands behind the byte of its kind
+abbrev pub heldAt : value.Courier → HeldAt
+heldAt (inl c) = held.Carried (carriedAt 1 c)
+heldAt (inr t) = held.Tombstone (tombstoneAt 1 t)
+
+abbrev pub checked : Answer value.Courier → CourierCheck
+checked (accepted h) = check.Fields (heldAt h)
+checked (refusedBy q) = check.Refused q
+
+abbrev pub checkRefusal : CourierCheck → ℕ
+checkRefusal (check.Fields at) = 0
+checkRefusal (check.Refused q) = q
+
+-- where the sealed text starts: a tombstone has none
+abbrev pub sealedAt : List ℕ → HeldAt → ℕ
+sealedAt row (held.Carried at) = at .sealed
+sealedAt row (held.Tombstone at) = length row
+
+-- ---- what stands at places of a row, and that these lie in it
 abbrev pub carriedFrom : List ℕ → CarriedAt → value.Carried
 carriedFrom row at = record {
   depositor = at .depositor .0;
@@ -57,25 +105,11 @@ carriedFrom row at = record {
   sealed = drop (at .sealed) row;
 }
 
--- the places lie in the row
 pub record CarriedPlaces (row : List ℕ) (at : CarriedAt) : Type 0 where
   pub tag : at .tag + 16 ≤ length row
   pub c : at .c + 16 ≤ length row
   pub sealed : at .sealed ≤ length row
 
-abbrev pub carriedSays : List ℕ → CarriedField → Field value.Carried
-carriedSays row (carriedField.Value at) = takes (carriedFrom row at) (length row)
-carriedSays row (carriedField.Refused q) = refuses q
-
-abbrev pub CarriedPlaced : List ℕ → CarriedField → Type 0
-CarriedPlaced row (carriedField.Value at) = CarriedPlaces row at
-CarriedPlaced row (carriedField.Refused q) = Unit {0}
-
-abbrev pub carriedRefusal : CarriedField → ℕ
-carriedRefusal (carriedField.Value at) = 0
-carriedRefusal (carriedField.Refused q) = q
-
--- the tombstone at these places of the row
 abbrev pub tombstoneFrom : List ℕ → TombstoneAt → value.Tombstone
 tombstoneFrom row at = record { tag = take 16 (drop (at .tag) row); s = take 16 (drop (at .s) row); «expiry_min» = at .«expiry_min» }
 
@@ -83,35 +117,10 @@ pub record TombstonePlaces (row : List ℕ) (at : TombstoneAt) : Type 0 where
   pub tag : at .tag + 16 ≤ length row
   pub s : at .s + 16 ≤ length row
 
-abbrev pub tombstoneSays : List ℕ → TombstoneField → Field value.Tombstone
-tombstoneSays row (tombstoneField.Value at next) = takes (tombstoneFrom row at) next
-tombstoneSays row tombstoneField.Short = refuses FIELD
-
-abbrev pub TombstonePlaced : List ℕ → TombstoneField → Type 0
-TombstonePlaced row (tombstoneField.Value at next) = TombstonePlaces row at
-TombstonePlaced row tombstoneField.Short = Unit {0}
-
 abbrev pub heldFrom : List ℕ → HeldAt → value.Courier
-heldFrom row (heldAt.Carried at) = inl (carriedFrom row at)
-heldFrom row (heldAt.Tombstone at) = inr (tombstoneFrom row at)
+heldFrom row (held.Carried at) = inl (carriedFrom row at)
+heldFrom row (held.Tombstone at) = inr (tombstoneFrom row at)
 
 abbrev pub Places : List ℕ → HeldAt → Type 0
-Places row (heldAt.Carried at) = CarriedPlaces row at
-Places row (heldAt.Tombstone at) = TombstonePlaces row at
-
-abbrev pub checkSays : List ℕ → CourierCheck → Answer value.Courier
-checkSays row (check.Fields at) = accepted (heldFrom row at)
-checkSays row (check.Refused q) = refusedBy q
-
-abbrev pub checkRefusal : CourierCheck → ℕ
-checkRefusal (check.Fields at) = 0
-checkRefusal (check.Refused q) = q
-
-abbrev pub Placed : List ℕ → CourierCheck → Type 0
-Placed row (check.Fields at) = Places row at
-Placed row (check.Refused q) = Unit {0}
-
--- where the sealed text starts: a tombstone has none
-abbrev pub sealedAt : List ℕ → HeldAt → ℕ
-sealedAt row (heldAt.Carried at) = at .sealed
-sealedAt row (heldAt.Tombstone at) = length row
+Places row (held.Carried at) = CarriedPlaces row at
+Places row (held.Tombstone at) = TombstonePlaces row at

@@ -9,8 +9,9 @@ ghost use lib.ListN.{drop};
 ghost use Rattle.layout.specs.Field.{readAt};
 ghost use Rattle.layout.specs.Layout.{group, readRow};
 ghost use Rattle.rows.specs.Rows.{carried, tombstone, courier};
-ghost use Rattle.courier.specs.Courier.{kindForm, kindSays, kindRefusal, carriedSays, CarriedPlaced, carriedRefusal, tombstoneSays, TombstonePlaced};
-ghost use Rattle.courier.specs.Courier.{checkSays, Placed, checkRefusal, sealedAt};
+ghost use Rattle.offsets.specs.Offset.{located};
+ghost use Rattle.courier.specs.Courier.{kindForm, kindSays, kindRefusal, carriedAt, carriedSays, carriedRefusal, tombstoneAt, tombstoneSays};
+ghost use Rattle.courier.specs.Courier.{checked, checkRefusal, sealedAt};
 
 // A contact's number, apart from slots and message numbers.
 pub struct ContactId(pub u64);
@@ -122,7 +123,7 @@ fn kind_at(row: &[u8], at: usize) -> KindField
 
 // What is carried, field by field: expiry and copies are asked before the next field is taken.
 fn carried_at(row: &[u8], at: usize) -> CarriedField
-    ensures { λ r. ⌜ (carriedSays (now (row .entry)) r ≡ readAt (group carried) (now (row .entry)) at) × CarriedPlaced (now (row .entry)) r ⌝ }
+    ensures { λ r. ⌜ carriedSays (now (row .entry)) r ≡ located (carriedAt at) (readAt (group carried) (now (row .entry)) at) ⌝ }
 {
     let U64Field::Value(depositor, at1) = fields::u64_at(row, at) else {
         return CarriedField::Refused(question::FIELD);
@@ -160,7 +161,7 @@ fn carried_at(row: &[u8], at: usize) -> CarriedField
 
 // A tombstone is not asked for its expiry.
 fn tombstone_at(row: &[u8], at: usize) -> TombstoneField
-    ensures { λ r. ⌜ (tombstoneSays (now (row .entry)) r ≡ readAt (group tombstone) (now (row .entry)) at) × TombstonePlaced (now (row .entry)) r ⌝ }
+    ensures { λ r. ⌜ tombstoneSays r ≡ located (tombstoneAt at) (readAt (group tombstone) (now (row .entry)) at) ⌝ }
 {
     let RunField::Value(tag, at1) = fields::run_at(row, at, 16) else {
         return TombstoneField::Short;
@@ -176,7 +177,7 @@ fn tombstone_at(row: &[u8], at: usize) -> TombstoneField
 
 // The questions of a courier row; nothing is copied.
 pub fn check_courier(version: u32, row: &[u8]) -> CourierCheck
-    ensures { λ r. ⌜ (checkSays (now (row .entry)) r ≡ readRow (courier version) (now (row .entry))) × Placed (now (row .entry)) r ⌝ }
+    ensures { λ r. ⌜ r ≡ checked (readRow (courier version) (now (row .entry))) ⌝ }
 {
     if version != rows::BLOB_VERSION {
         return CourierCheck::Refused(question::VERSION);

@@ -4,6 +4,7 @@ use Prim.Native.Nat.{ℕ, zero, suc, _+_, _≤_, _<_}
 use mathlib.Core.List.{List, [], _++_, append-assoc, append-nil}
 use mathlib.Core.Bool.{Bool, true, false, cond}
 use mathlib.Core.Option.{Option, none, some}
+use mathlib.Core.Logic.{inl, inr}
 use mathlib.Core.Path.{_≡_, refl, sym, ap, subst, _∙_}
 use native.Mathlib.Omega.{arith}
 use native.Mathlib.Nat.{zero-add}
@@ -13,7 +14,7 @@ use lib.Seq.{drop-drop, drop-append-seam, take-at}
 use borrow.Author.Tests.{leb-true, leb-false}
 use Rattle.layout.specs.Read.{value, refused, first}
 use Rattle.layout.specs.Veil.{Sensitivity}
-use Rattle.layout.specs.Form.{Form, bytes, toEnd}
+use Rattle.layout.specs.Form.{Form, bytes, toEnd, either}
 use Rattle.layout.specs.Field.{Field, readAt, takes, refuses}
 use Rattle.layout.specs.Layout.{Layout, done, field, ask, print, refusalOf, group, optional, optionalLayout}
 use Rattle.layout.specs.RowLaws.{Bytes}
@@ -126,6 +127,14 @@ module _ {row : List ℕ} {at : ℕ} where
 
   pub optional-stands : {B : Type 0} (f : Form B) {b : B} → Stands (optional f) (some b) row at → Stands f b row (at + offset (optionalLayout f) 1 (some b))
   optional-stands f {b} s = let k = field-stands row (optionalLayout f) 1 (some b) s in record { post = k .post; joins = k .joins; fits = k .fits; granted = k .granted }
+
+-- ---- behind the byte that says which of two
+module _ {B C : Type 0} (q : ℕ) (f : Form B) (g : Form C) {row : List ℕ} {at : ℕ} where
+  pub either-left : {b : B} → Stands (either q f g) (inl b) row at → Stands f b row (at + 1)
+  either-left s = record { post = s .post; joins = ap (λ (l : List ℕ). drop 1 l) (s .joins) ∙ drop-drop 1 at row; fits = s .fits; granted = s .granted }
+
+  pub either-right : {c : C} → Stands (either q f g) (inr c) row at → Stands g c row (at + 1)
+  either-right s = record { post = s .post; joins = ap (λ (l : List ℕ). drop 1 l) (s .joins) ∙ drop-drop 1 at row; fits = s .fits; granted = s .granted }
 
 takes≢refuses : {B : Type 0} {b : B} {n q : ℕ} → takes b n ≡ refuses q → ⊥
 takes≢refuses e = let z : _≡_ {A = ℕ} 0 1 = cc in omega arith

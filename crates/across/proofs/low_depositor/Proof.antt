@@ -1,14 +1,16 @@
 -- `across::low_depositor` meets its contract.
 use Prim.Native.Nat.{ℕ}
 use mathlib.Core.Bool.{Bool}
-use mathlib.Core.Path.{_≡_, ap, _∙_}
+use mathlib.Core.Path.{_≡_, sym, ap, subst, _∙_}
 use borrow.Author.Needs.{needs}
 use Rattle.layout.specs.Layout.{Answer}
-use Rattle.layout.proofs.At.{learn}
+use Rattle.layout.specs.RowLaws.{Bytes}
+use Rattle.layout.proofs.At.{learn, typed}
 use Rattle.rows.specs.Values.{Courier}
 use Rattle.rows.specs.Rows as rows
 use Rattle.store.specs.Kinds.{courier, seenOf}
-use Rattle.courier.specs.Courier.{checkSays}
+use Rattle.store.proofs.Parts.{bytes-part}
+use Rattle.courier.proofs.Placed.{checkSays, check-says}
 use Rattle.courier.specs.declared.CourierCheck.{CourierCheck}
 use Rattle.courier.specs.declared.CourierCheck.the-variants.{Fields}
 use Rattle.across.specs.Across.{lowIn, depositorIn}
@@ -25,7 +27,9 @@ shows : (c : tie.After-check-courier) {r : CourierCheck} → c .check-courier .r
 shows c is =
     let p = c .before in
     let a = p .before .before .args in
-    shown (rows.courier (a .e .version)) (low (a .next)) (p .part-of .ensures) (learn (checkSays (p .part-of .result .now)) (c .check-courier .ensures .0) is)
+    let row = p .part-of .result .now in
+    let by : Bytes row = subst Bytes (sym (p .part-of .ensures)) (bytes-part (a .run .now) (typed (a .run .now) (p .before .shared-slice-known .given)) (a .e)) in
+    shown (rows.courier (a .e .version)) (low (a .next)) (p .part-of .ensures) (learn (checkSays row) (check-says row by (a .e .version) (c .check-courier .ensures)) is)
 
 part-of-requires : tie.Need-part-of-requires
 part-of-requires c κs = search needs

@@ -1,25 +1,32 @@
 -- `courier::carried_at` meets its contract: one step of the layout for each field and question.
-use Prim.Native.Nat.{ℕ, _+_}
+use Prim.Native.Nat.{ℕ, _+_, _≤_}
 use mathlib.Core.List.{List}
 use mathlib.Core.Bool.{not}
-use mathlib.Core.Path.{_≡_, sym, ap, subst, _∙_}
+use mathlib.Core.Path.{_≡_, refl, sym, ap, _∙_}
 use native.Mathlib.Omega.{arith}
-use lib.ListN.{take, drop}
+use lib.ListN.{length, take, drop}
 use borrow.Author.Needs.{needs}
 use borrow.Author.Tests.{eq-eqb, ne-eqb}
 use Rattle.layout.specs.Questions.{«SEALED_LENGTH»}
 use Rattle.layout.specs.Veil.{plain, veiled}
 use Rattle.layout.specs.Form.{bytes, u8, u32, u64}
+use Rattle.layout.specs.Field.{readAt, takes}
 use Rattle.layout.specs.Layout.{group}
 use Rattle.layout.specs.RowLaws.{Bytes}
 use Rattle.layout.proofs.Front.{number-lawful}
-use Rattle.layout.proofs.At.{Took, took, refused-at, takes-at, refuses-at, learn, typed}
+use Rattle.layout.proofs.At.{Took, took, took-next, refused-at, takes-at, learn, typed}
 use Rattle.layout.proofs.Steps.{Reached, start, field-yes, field-no, ask-yes, ask-no, done-yes}
+use Rattle.rows.specs.Values.{Carried}
 use Rattle.rows.specs.Checks.{sealedCarried}
 use Rattle.rows.specs.Rows.{carried}
-use Rattle.fields.specs.Says.{Ends, u8Says, u32Says, u64Says}
+use Rattle.rows.proofs.Lawful.{carried-lawful}
+use Rattle.fields.specs.Says.{u8Says, u32Says, u64Says}
 use Rattle.fields.proofs.Runs.{run-took, run-short}
+use Rattle.offsets.specs.Offset.{offset}
+use Rattle.offsets.proofs.Offset.{Stands, stands, field-stands, offset-inside, to-end-starts, not-past, locates, locates-not}
+use Rattle.offsets.proofs.Runs.{Run, run-starts}
 use Rattle.sealed.proofs.Text.{text-took, text-refused}
+use Rattle.courier.specs.Courier.{carriedAt}
 use Rattle.courier.proofs.carried_at.Statement.{statement}
 use Rattle.courier.proofs.carried_at.Tie as tie
 
@@ -27,8 +34,11 @@ use Rattle.courier.proofs.carried_at.Tie as tie
 abbrev row : tie.After-shared-slice-known → List ℕ
 row s = s .before .args .row .now
 
+abbrev from : tie.After-shared-slice-known → ℕ
+from s = s .before .args .at
+
 abbrev Read : tie.After-shared-slice-known → Type 1
-Read s = Reached carried (row s) (s .before .args .at)
+Read s = Reached carried (row s) (from s)
 
 by : (s : tie.After-shared-slice-known) → Bytes (row s)
 by s = typed (row s) (s .shared-slice-known .given)
@@ -39,8 +49,17 @@ r0 s = start
 abbrev s1 : tie.After-known-told → tie.After-shared-slice-known
 s1 c = c .before .before .before .before
 
+abbrev depositor : tie.After-known-told → ℕ
+depositor c = c .before .depositor .given .0 .0
+
+depositor-read : (c : tie.After-known-told) → readAt u64 (row (s1 c)) (from (s1 c)) ≡ takes (depositor c) (c .before .depositor .given .0 .1 .0)
+depositor-read c = learn u64Says (c .before .before .before .u64-at .ensures) (c .before .depositor .given .1)
+
 abbrev r1 : (c : tie.After-known-told) → Read (s1 c)
-r1 c = field-yes (r0 (s1 c) .so) (took _ _ u64 (number-lawful 8) (by (s1 c)) (learn u64Says (c .before .before .before .u64-at .ensures) (c .before .depositor .given .1)))
+r1 c = field-yes (r0 (s1 c) .so) (took _ _ u64 (number-lawful 8) (by (s1 c)) (depositor-read c))
+
+depositor-next : (c : tie.After-known-told) → r1 c .here ≡ from (s1 c) + length (u64 .print (depositor c))
+depositor-next c = took-next _ _ u64 (number-lawful 8) (by (s1 c)) (depositor-read c) (not-past _ _ u64 refl (depositor-read c))
 
 abbrev k1 : tie.After-known-told2 → tie.After-known-told
 k1 c = c .before .before .before .before
@@ -57,8 +76,8 @@ tag-end c = c .before .tag .given .0 .1 .0
 tag-took : (c : tie.After-known-told2) → Took (bytes plain 16) (row (s2 c)) (r1 (k1 c) .here) (take 16 (drop (tag c) (row (s2 c)))) (tag-end c)
 tag-took c = run-took _ _ plain 16 (c .before .before .before .run-at .ensures .0) (by (s2 c)) (c .before .tag .given .1)
 
-tag-ends : (c : tie.After-known-told2) → tag-end c ≡ tag c + 16
-tag-ends c = subst (Ends 16) (c .before .tag .given .1) (c .before .before .before .run-at .ensures .1)
+tag-run : (c : tie.After-known-told2) → Run (r1 (k1 c) .here) (take 16 (drop (tag c) (row (s2 c)))) (tag c) (tag-end c)
+tag-run c = run-starts _ _ 16 (by (s2 c)) (omega arith) (c .before .before .before .run-at .ensures) (c .before .tag .given .1)
 
 abbrev r2 : (c : tie.After-known-told2) → Read (s2 c)
 r2 c = field-yes (r1 (k1 c) .so) (tag-took c)
@@ -78,8 +97,8 @@ commitment-end c = c .before .c .given .0 .1 .0
 c-took : (c : tie.After-known-told3) → Took (bytes plain 16) (row (s3 c)) (tag-end (k2 c)) (take 16 (drop (commitment c) (row (s3 c)))) (commitment-end c)
 c-took c = run-took _ _ plain 16 (c .before .before .before .run-at2 .ensures .0) (by (s3 c)) (c .before .c .given .1)
 
-c-ends : (c : tie.After-known-told3) → commitment-end c ≡ commitment c + 16
-c-ends c = subst (Ends 16) (c .before .c .given .1) (c .before .before .before .run-at2 .ensures .1)
+c-run : (c : tie.After-known-told3) → Run (tag-end (k2 c)) (take 16 (drop (commitment c) (row (s3 c)))) (commitment c) (commitment-end c)
+c-run c = run-starts _ _ 16 (by (s3 c)) (omega arith) (c .before .before .before .run-at2 .ensures) (c .before .c .given .1)
 
 abbrev r3 : (c : tie.After-known-told3) → Read (s3 c)
 r3 c = field-yes (r2 (k2 c) .so) (c-took c)
@@ -116,6 +135,13 @@ r6 c = field-yes (r5 (k4 c) .so) (copies-took c)
 abbrev r7 : (c : tie.Else2) → Read (s5 (c .before))
 r7 c = ask-yes (r6 (c .before) .so) (ap not (ne-eqb _ _ (c .if2 .left)))
 
+its-places : (row : List ℕ) (from : ℕ) → from ≤ length row → (c : Carried) → Stands (group carried) c row from → {tag c′ sealed : ℕ}
+    → tag ≡ from + offset carried 1 c → c′ ≡ from + offset carried 2 c → sealed ≤ length row → drop sealed row ≡ c .sealed
+    → record { depositor = record { 0 = c .depositor }; tag = tag; c = c′; «expiry_min» = c .«expiry_min»; copies = c .copies; sealed = sealed } ≡ carriedAt from c
+its-places row from past c s {sealed = sealed} tag c′ inside text =
+    let end = to-end-starts veiled «SEALED_LENGTH» sealedCarried (field-stands row carried 5 c s) (offset-inside row carried 5 c s past) sealed inside text in
+    λ i. record { depositor = record { 0 = c .depositor }; tag = tag i; c = c′ i; «expiry_min» = c .«expiry_min»; copies = c .copies; sealed = end i }
+
 -- ---- what is asked
 
 u64-at-requires : tie.Need-u64-at-requires
@@ -130,7 +156,7 @@ enum-told c = search needs
 returns : tie.Need-returns
 returns c =
     let stop = field-no (r0 (c .before .before .before) .so) (refused-at _ _ u64 (learn u64Says (c .before .before .u64-at .ensures) (c .enum-told .given .1))) in
-    (sym (refuses-at _ _ (group carried) stop), tt)
+    locates-not _ _ (group carried) (carriedAt _) stop
 
 run-at-requires : tie.Need-run-at-requires
 run-at-requires c κs = search needs
@@ -144,7 +170,7 @@ enum-told-2 c = search needs
 returns-2 : tie.Need-returns-2
 returns-2 c =
     let stop = field-no (r1 (c .before .before .before) .so) (run-short _ _ plain 16 (c .before .before .run-at .ensures .0) (c .enum-told2 .given .1)) in
-    (sym (refuses-at _ _ (group carried) stop), tt)
+    locates-not _ _ (group carried) (carriedAt _) stop
 
 run-at-requires-2 : tie.Need-run-at-requires-2
 run-at-requires-2 c κs = search needs
@@ -158,7 +184,7 @@ enum-told-3 c = search needs
 returns-3 : tie.Need-returns-3
 returns-3 c =
     let stop = field-no (r2 (c .before .before .before) .so) (run-short _ _ plain 16 (c .before .before .run-at2 .ensures .0) (c .enum-told3 .given .1)) in
-    (sym (refuses-at _ _ (group carried) stop), tt)
+    locates-not _ _ (group carried) (carriedAt _) stop
 
 u32-at-requires : tie.Need-u32-at-requires
 u32-at-requires c κs = search needs
@@ -172,10 +198,10 @@ enum-told-4 c = search needs
 returns-4 : tie.Need-returns-4
 returns-4 c =
     let stop = field-no (r3 (c .before .before .before) .so) (refused-at _ _ u32 (learn u32Says (c .before .before .u32-at .ensures) (c .enum-told4 .given .1))) in
-    (sym (refuses-at _ _ (group carried) stop), tt)
+    locates-not _ _ (group carried) (carriedAt _) stop
 
 returns-5 : tie.Need-returns-5
-returns-5 c = (sym (refuses-at _ _ (group carried) (ask-no (r4 (c .before) .so) (ap not (eq-eqb _ _ (c .if1 .taken))))), tt)
+returns-5 c = locates-not _ _ (group carried) (carriedAt _) (ask-no (r4 (c .before) .so) (ap not (eq-eqb _ _ (c .if1 .taken))))
 
 byte-at-requires : tie.Need-byte-at-requires
 byte-at-requires c κs = search needs
@@ -189,10 +215,10 @@ enum-told-5 c = search needs
 returns-6 : tie.Need-returns-6
 returns-6 c =
     let stop = field-no (r5 (c .before .before .before) .so) (refused-at _ _ u8 (learn u8Says (c .before .before .byte-at .ensures) (c .enum-told5 .given .1))) in
-    (sym (refuses-at _ _ (group carried) stop), tt)
+    locates-not _ _ (group carried) (carriedAt _) stop
 
 returns-7 : tie.Need-returns-7
-returns-7 c = (sym (refuses-at _ _ (group carried) (ask-no (r6 (c .before) .so) (ap not (eq-eqb _ _ (c .if2 .taken))))), tt)
+returns-7 c = locates-not _ _ (group carried) (carriedAt _) (ask-no (r6 (c .before) .so) (ap not (eq-eqb _ _ (c .if2 .taken))))
 
 sub-sealed-carried : tie.Need-sub-sealed-carried
 sub-sealed-carried c = omega (arith, copies-took (c .before) .inside)
@@ -204,22 +230,29 @@ returns-8 : tie.Need-returns-8
 returns-8 c =
     let e = c .before .before in
     let k = e .before in
-    let places = k3 (k4 k .before) in
-    let text = text-took veiled «SEALED_LENGTH» sealedCarried (row (s5 k)) (sealed k) (copies-took k .inside) (sym (c .before .sealed-carried .ensures) ∙ c .if3 .taken) in (
-      sym (takes-at _ _ (group carried) (done-yes (field-yes (r7 e .so) text .so)) (text .inside)),
-      record {
-        tag = omega (arith, tag-ends (k2 places), tag-took (k2 places) .inside);
-        c = omega (arith, c-ends places, c-took places .inside);
-        sealed = copies-took k .inside;
-      },
-    )
+    let k3 = k3 (k4 k .before) in
+    let k1 = k1 (k2 k3) in
+    let text = text-took veiled «SEALED_LENGTH» sealedCarried (row (s5 k)) (sealed k) (copies-took k .inside) (sym (c .before .sealed-carried .ensures) ∙ c .if3 .taken) in
+    let all = done-yes (field-yes (r7 e .so) text .so) in
+    let its : Carried = record {
+      depositor = depositor k1;
+      tag = take 16 (drop (tag (k2 k3)) (row (s5 k)));
+      c = take 16 (drop (commitment k3) (row (s5 k)));
+      «expiry_min» = k4 k .before .before .expiry-min .given .0 .0;
+      copies = k .before .copies .given .0 .0;
+      sealed = drop (sealed k) (row (s5 k));
+    } in
+    let stands = stands (group carried) carried-lawful (by (s5 k)) (takes-at _ _ (group carried) {b = its} all (text .inside)) in
+    locates _ _ (group carried) (carriedAt _) {b = its} all (text .inside)
+    (its-places (row (s5 k)) (from (s5 k)) (not-past _ _ u64 refl (depositor-read k1)) its stands
+    (omega (arith, depositor-next k1, tag-run (k2 k3) .starts)) (omega (arith, depositor-next k1, tag-run (k2 k3) .ends, c-run k3 .starts)) (copies-took k .inside) refl)
 
 returns-9 : tie.Need-returns-9
 returns-9 c =
     let e = c .before .before in
     let k = e .before in
     let unfit = text-refused veiled «SEALED_LENGTH» sealedCarried (row (s5 k)) (sealed k) (sym (c .before .sealed-carried .ensures) ∙ c .if3 .left) in
-    (sym (refuses-at _ _ (group carried) (field-no (r7 e .so) unfit)), tt)
+    locates-not _ _ (group carried) (carriedAt _) (field-no (r7 e .so) unfit)
 
 pub carried-at-spec : {M : Type 1} → statement M
 carried-at-spec =

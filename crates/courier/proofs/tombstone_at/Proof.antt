@@ -1,7 +1,7 @@
 -- `courier::tombstone_at` meets its contract: one step of the layout for each field.
 use Prim.Native.Nat.{ℕ, _+_}
 use mathlib.Core.List.{List}
-use mathlib.Core.Path.{_≡_, sym, subst}
+use mathlib.Core.Path.{_≡_}
 use native.Mathlib.Omega.{arith}
 use lib.ListN.{take, drop}
 use borrow.Author.Needs.{needs}
@@ -10,11 +10,16 @@ use Rattle.layout.specs.Form.{bytes, u32}
 use Rattle.layout.specs.Layout.{group}
 use Rattle.layout.specs.RowLaws.{Bytes}
 use Rattle.layout.proofs.Front.{number-lawful}
-use Rattle.layout.proofs.At.{Took, took, refused-at, takes-at, refuses-at, learn, typed}
+use Rattle.layout.proofs.At.{Took, took, refused-at, learn, typed}
 use Rattle.layout.proofs.Steps.{Reached, start, field-yes, field-no, done-yes}
+use Rattle.rows.specs.Values.{Tombstone}
 use Rattle.rows.specs.Rows.{tombstone}
-use Rattle.fields.specs.Says.{Ends, u32Says}
+use Rattle.fields.specs.Says.{u32Says}
 use Rattle.fields.proofs.Runs.{run-took, run-short}
+use Rattle.offsets.specs.Offset.{offset}
+use Rattle.offsets.proofs.Offset.{locates, locates-not}
+use Rattle.offsets.proofs.Runs.{Run, run-starts}
+use Rattle.courier.specs.Courier.{tombstoneAt}
 use Rattle.courier.proofs.tombstone_at.Statement.{statement}
 use Rattle.courier.proofs.tombstone_at.Tie as tie
 
@@ -46,8 +51,8 @@ tag-end c = c .before .tag .given .0 .1 .0
 tag-took : (c : tie.After-known-told) → Took (bytes plain 16) (row (s1 c)) (from (s1 c)) (take 16 (drop (tag c) (row (s1 c)))) (tag-end c)
 tag-took c = run-took _ _ plain 16 (c .before .before .before .run-at .ensures .0) (by (s1 c)) (c .before .tag .given .1)
 
-tag-ends : (c : tie.After-known-told) → tag-end c ≡ tag c + 16
-tag-ends c = subst (Ends 16) (c .before .tag .given .1) (c .before .before .before .run-at .ensures .1)
+tag-run : (c : tie.After-known-told) → Run (from (s1 c)) (take 16 (drop (tag c) (row (s1 c)))) (tag c) (tag-end c)
+tag-run c = run-starts _ _ 16 (by (s1 c)) (omega arith) (c .before .before .before .run-at .ensures) (c .before .tag .given .1)
 
 abbrev r1 : (c : tie.After-known-told) → Read (s1 c)
 r1 c = field-yes (r0 (s1 c) .so) (tag-took c)
@@ -67,11 +72,15 @@ key-end c = c .before .s .given .0 .1 .0
 key-took : (c : tie.After-known-told2) → Took (bytes veiled 16) (row (s2 c)) (tag-end (k1 c)) (take 16 (drop (key c) (row (s2 c)))) (key-end c)
 key-took c = run-took _ _ veiled 16 (c .before .before .before .run-at2 .ensures .0) (by (s2 c)) (c .before .s .given .1)
 
-key-ends : (c : tie.After-known-told2) → key-end c ≡ key c + 16
-key-ends c = subst (Ends 16) (c .before .s .given .1) (c .before .before .before .run-at2 .ensures .1)
+key-run : (c : tie.After-known-told2) → Run (tag-end (k1 c)) (take 16 (drop (key c) (row (s2 c)))) (key c) (key-end c)
+key-run c = run-starts _ _ 16 (by (s2 c)) (omega arith) (c .before .before .before .run-at2 .ensures) (c .before .s .given .1)
 
 abbrev r2 : (c : tie.After-known-told2) → Read (s2 c)
 r2 c = field-yes (r1 (k1 c) .so) (key-took c)
+
+its-places : (from : ℕ) (t : Tombstone) {tag key : ℕ} → tag ≡ from + offset tombstone 0 t → key ≡ from + offset tombstone 1 t
+    → record { tag = tag; s = key; «expiry_min» = t .«expiry_min» } ≡ tombstoneAt from t
+its-places from t tag key = λ i. record { tag = tag i; s = key i; «expiry_min» = t .«expiry_min» }
 
 -- ---- what is asked
 
@@ -87,7 +96,7 @@ enum-told c = search needs
 returns : tie.Need-returns
 returns c =
     let stop = field-no (r0 (c .before .before .before) .so) (run-short _ _ plain 16 (c .before .before .run-at .ensures .0) (c .enum-told .given .1)) in
-    (sym (refuses-at _ _ (group tombstone) stop), tt)
+    locates-not _ _ (group tombstone) (tombstoneAt _) stop
 
 run-at-requires-2 : tie.Need-run-at-requires-2
 run-at-requires-2 c κs = search needs
@@ -101,7 +110,7 @@ enum-told-2 c = search needs
 returns-2 : tie.Need-returns-2
 returns-2 c =
     let stop = field-no (r1 (c .before .before .before) .so) (run-short _ _ veiled 16 (c .before .before .run-at2 .ensures .0) (c .enum-told2 .given .1)) in
-    (sym (refuses-at _ _ (group tombstone) stop), tt)
+    locates-not _ _ (group tombstone) (tombstoneAt _) stop
 
 u32-at-requires : tie.Need-u32-at-requires
 u32-at-requires c κs = search needs
@@ -115,15 +124,20 @@ enum-told-3 c = search needs
 returns-3 : tie.Need-returns-3
 returns-3 c =
     let stop = field-no (r2 (c .before .before .before) .so) (refused-at _ _ u32 (learn u32Says (c .before .before .u32-at .ensures) (c .enum-told3 .given .1))) in
-    (sym (refuses-at _ _ (group tombstone) stop), tt)
+    locates-not _ _ (group tombstone) (tombstoneAt _) stop
 
 returns-4 : tie.Need-returns-4
 returns-4 c =
     let k2 = c .before .before .before .before in
-    let t = took _ _ u32 (number-lawful 4) (by (s2 k2)) (learn u32Says (c .before .before .before .u32-at .ensures) (c .before .expiry-min .given .1)) in (
-      sym (takes-at _ _ (group tombstone) (done-yes (field-yes (r2 k2 .so) t .so)) (t .inside)),
-      record { tag = omega (arith, tag-ends (k1 k2), tag-took (k1 k2) .inside); s = omega (arith, key-ends k2, key-took k2 .inside) },
-    )
+    let k1 = k1 k2 in
+    let t = took _ _ u32 (number-lawful 4) (by (s2 k2)) (learn u32Says (c .before .before .before .u32-at .ensures) (c .before .expiry-min .given .1)) in
+    let its : Tombstone = record {
+      tag = take 16 (drop (tag k1) (row (s2 k2)));
+      s = take 16 (drop (key k2) (row (s2 k2)));
+      «expiry_min» = c .before .expiry-min .given .0 .0;
+    } in
+    locates _ _ (group tombstone) (tombstoneAt _) {b = its} (done-yes (field-yes (r2 k2 .so) t .so)) (t .inside)
+    (its-places (from (s2 k2)) its (omega (arith, tag-run k1 .starts)) (omega (arith, tag-run k1 .ends, key-run k2 .starts)))
 
 pub tombstone-at-spec : {M : Type 1} → statement M
 tombstone-at-spec =
