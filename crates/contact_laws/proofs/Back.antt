@@ -24,7 +24,7 @@ use Rattle.lists.specs.Places as places
 use Rattle.received.specs.Lent.{pairs, flat}
 use Rattle.received.proofs.Pairs.{length-flat, pairs-flat}
 use Rattle.parts.specs.Parts.{Chained, chained, joined}
-use Rattle.parts.proofs.Parts as parts
+use Rattle.parts.specs.Parts as parts
 use Rattle.parts.proofs.Parts.{print-in-parts}
 use Rattle.lent.specs.Lent.{chainsBytes, skippedBytes}
 use Rattle.lent.proofs.Laws.{Filled, chains-filled, skipped-filled}

@@ -19,7 +19,7 @@ use Rattle.rows.specs.Values as value
 use Rattle.rows.specs.Rows.{pending, send, chain, skipped, contact}
 use Rattle.rows.proofs.Lawful.{pending-lawful, send-lawful}
 use Rattle.parts.specs.Parts.{Chained, paired, keys, chained, numbers, joined}
-use Rattle.parts.proofs.Parts as parts
+use Rattle.parts.specs.Parts as parts
 use Rattle.parts.proofs.Parts.{embed, embed-parse, in-parts, afterPaired, afterKeys, afterChained, consistent}
 use Rattle.parts.proofs.Lawful.{paired-lawful, keys-lawful, numbers-lawful}
 use Rattle.lists.specs.Places.{readPlaces}

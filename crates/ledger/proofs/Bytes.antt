@@ -17,7 +17,7 @@ use Rattle.rows.specs.Values.{Range, Contact}
 use Rattle.rows.specs.Checks.{all}
 use Rattle.rows.specs.Rows.{range, contact}
 use Rattle.parts.specs.Parts.{paired, keys, chained, numbers}
-use Rattle.parts.proofs.Parts as parts
+use Rattle.parts.specs.Parts as parts
 use Rattle.parts.proofs.Parts.{print-in-parts}
 use Rattle.received.specs.Ranges.{Received}
 use Rattle.received.proofs.Tests.{and-both}

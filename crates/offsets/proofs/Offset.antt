@@ -14,13 +14,14 @@ use lib.Seq.{drop-drop, drop-append-seam, take-at}
 use borrow.Author.Tests.{leb-true, leb-false}
 use Rattle.layout.specs.Read.{value, refused, first}
 use Rattle.layout.specs.Veil.{Sensitivity}
-use Rattle.layout.specs.Form.{Form, bytes, toEnd, either}
+use Rattle.layout.specs.Form.{Form, bytes, flag, toEnd, either}
 use Rattle.layout.specs.Field.{Field, readAt, takes, refuses}
 use Rattle.layout.specs.Layout.{Layout, done, field, ask, print, refusalOf, group, optional, optionalLayout}
 use Rattle.layout.specs.RowLaws.{Bytes}
 use Rattle.layout.proofs.Lawful.{Lawful}
-use Rattle.layout.proofs.Front.{none≢some}
-use Rattle.layout.proofs.At.{took, bytes-drop, takes-at, refuses-at}
+use Rattle.layout.proofs.Front.{flag-lawful, none≢some}
+use Rattle.layout.proofs.At.{Took, took, took-next, bytes-drop, takes-at, refuses-at}
+use Rattle.layout.proofs.Steps.{optional-no-flag}
 use Rattle.offsets.specs.Offset.{offset, located}
 
 -- what is printed of a value stands in a row, from a place on, and would be read there
@@ -147,6 +148,16 @@ not-past row at f {q = q} empty e = go (leb at (length row)) refl
     go true h = leb-true at (length row) h
     go false h = absurd (takes≢refuses {q = q} (sym e ∙ refuses-at row at f (rw (drop-of-length-le row {i = at} (omega (arith, leb-false at (length row) h))) empty)))
 
+pub optional-not-past : {B : Type 0} (row : List ℕ) (at : ℕ) (f : Form B) {next : ℕ} {o : Option B} → readAt (optional f) row at ≡ takes o next → at ≤ length row
+optional-not-past row at f read = not-past row at (optional f) (optional-no-flag f [] 0 refl) read
+
+-- ---- where the next field starts
+pub next-is : {B : Type 0} (row : List ℕ) (at : ℕ) (f : Form B) → Lawful f → Bytes row → at ≤ length row → {b : B} {next : ℕ} → Took f row at b next → next ≡ at + length (f .print b)
+next-is row at f law by inside t = took-next row at f law by (takes-at row at f (t .reads) (t .inside)) inside
+
+pub flag-next : (row : List ℕ) (at : ℕ) → Bytes row → {t : Bool} {next : ℕ} → readAt flag row at ≡ takes t next → next ≡ at + 1
+flag-next row at by read = took-next row at flag flag-lawful by read (not-past row at flag refl read)
+
 -- ---- what a reader that says where a field stands has to show
 module _ {B P : Type 0} (row : List ℕ) (at : ℕ) (f : Form B) (places : B → P) where
   pub locates : {b : B} {next : ℕ} {p : P} → f .read (drop at row) ≡ value b (drop next row) → next ≤ length row → p ≡ places b → takes p next ≡ located places (readAt f row at)
@@ -172,3 +183,30 @@ module _ {B P : Type 0} (places : B → P) where
   pub located-not : (x : Field B) {q : ℕ} → located places x ≡ refuses q → x ≡ refuses q
   located-not (takes b n) e = absurd (takes≢refuses e)
   located-not (refuses p) {q} e = let same : p ≡ q = cc in ap refuses same
+
+-- ---- a part of a row whose places were found: what is read there, which places they are, and that they lie in the row
+module _ {A P : Type 0} (l : Layout A) (row : List ℕ) (at : ℕ) (from : P → A) (places : A → P) (Inside : P → Type 0) where
+  pub record Part (p : P) (next : ℕ) : Type 0 where
+    pub read : readAt (group l) row at ≡ takes (from p) next
+    pub place : p ≡ places (from p)
+    pub inside : Inside p
+
+  -- by an answer r that says so
+  module _ {R : Type 0} (says : R → Field P) (found : Field A → R) (agrees : (x : Field A) → says (found x) ≡ located places x) {r : R} (answer : r ≡ found (readAt (group l) row at)) where
+    said-at : {y : Field P} → says r ≡ y → located places (readAt (group l) row at) ≡ y
+    said-at e = sym (agrees (readAt (group l) row at)) ∙ ap says (sym answer) ∙ e
+
+    pub part-found : Lawful (group l) → Bytes row → {q : ℕ} → (group l) .read [] ≡ refused q
+        → (at ≤ length row → (v : A) → Stands (group l) v row at → (from (places v) ≡ v) × Inside (places v)) → {p : P} {next : ℕ} → says r ≡ takes p next → Part p next
+    part-found law by empty is {p} {next} e =
+        let its = located-at places (readAt (group l) row at) (said-at e) in
+        let known = is (not-past row at (group l) empty (its .read)) (its .value) (stands (group l) law by (its .read)) in
+        let same : from p ≡ its .value = ap from (its .place) ∙ known .0 in
+        record {
+          read = its .read ∙ ap (λ (v : A). takes v next) (sym same);
+          place = its .place ∙ ap places (sym same);
+          inside = subst Inside (sym (its .place)) (known .1);
+        }
+
+    pub part-not : {q : ℕ} → says r ≡ refuses q → readAt (group l) row at ≡ refuses q
+    part-not e = located-not places (readAt (group l) row at) (said-at e)

@@ -14,7 +14,7 @@ use Rattle.layout.proofs.Steps.{Came, ask-is}
 use Rattle.rows.specs.Values.{Contact}
 use Rattle.rows.specs.Checks.{versionKnown, oneChainAtMost, gensDistinct, placesDistinct, fewSkipped, ackedSent, rising, canonical, noneAbove}
 use Rattle.rows.specs.Rows.{contact}
-use Rattle.parts.specs.Parts.{Paired, paired, Keys, keys, Chained, chained, Numbers, numbers, joined}
+use Rattle.parts.specs.Parts.{Paired, paired, Keys, keys, Chained, chained, Numbers, numbers, pairedOf, keysOf, chainedOf, numbersOf, joined}
 
 -- a layout whose values are parts of others, and what follows it
 pub embed : {A C : Type 0} → Layout A → (C → A) → (A → Layout C) → Layout C
@@ -33,34 +33,6 @@ embed-parse {A} {C} (field {B} f g l) get k row = go (f .read row) (λ b rest. e
     go (refused q) ih = refl
 embed-parse (ask q true l) get k row = embed-parse l get k row
 embed-parse (ask q false l) get k row = refl
-
--- ---- the parts of a contact
-abbrev pub pairedOf : Contact → Paired
-pairedOf c = record { role = c .role; verification = c .verification; «pair_id» = c .«pair_id»; th = c .th; «nonce_b» = c .«nonce_b»; card = c .card }
-
-abbrev pub keysOf : Contact → Keys
-keysOf c = record {
-  «door_a_to_b» = c .«door_a_to_b»;
-  «door_b_to_a» = c .«door_b_to_a»;
-  «route_key» = c .«route_key»;
-  «resume_index» = c .«resume_index»;
-  «chain_key» = c .«chain_key»;
-  «sent_msgno» = c .«sent_msgno»;
-}
-
-abbrev pub chainedOf : Contact → Chained
-chainedOf c = record { pending = c .pending; send = c .send; chains = c .chains; skipped = c .skipped }
-
-abbrev pub numbersOf : Contact → Numbers
-numbersOf c = record {
-  «peer_acked» = c .«peer_acked»;
-  «peer_read» = c .«peer_read»;
-  «read_marked» = c .«read_marked»;
-  contiguous = c .contiguous;
-  above = c .above;
-  unacked = c .unacked;
-  expired = c .expired;
-}
 
 -- ---- the questions 17 to 24, and the row's end before them
 abbrev pub consistent : Paired → Keys → Chained → Numbers → Layout Contact

@@ -102,7 +102,35 @@ numbers = do
     expired = expired;
   })
 
--- the contact that the four parts make
+-- ---- the parts of a contact
+abbrev pub pairedOf : Contact → Paired
+pairedOf c = record { role = c .role; verification = c .verification; «pair_id» = c .«pair_id»; th = c .th; «nonce_b» = c .«nonce_b»; card = c .card }
+
+abbrev pub keysOf : Contact → Keys
+keysOf c = record {
+  «door_a_to_b» = c .«door_a_to_b»;
+  «door_b_to_a» = c .«door_b_to_a»;
+  «route_key» = c .«route_key»;
+  «resume_index» = c .«resume_index»;
+  «chain_key» = c .«chain_key»;
+  «sent_msgno» = c .«sent_msgno»;
+}
+
+abbrev pub chainedOf : Contact → Chained
+chainedOf c = record { pending = c .pending; send = c .send; chains = c .chains; skipped = c .skipped }
+
+abbrev pub numbersOf : Contact → Numbers
+numbersOf c = record {
+  «peer_acked» = c .«peer_acked»;
+  «peer_read» = c .«peer_read»;
+  «read_marked» = c .«read_marked»;
+  contiguous = c .contiguous;
+  above = c .above;
+  unacked = c .unacked;
+  expired = c .expired;
+}
+
+-- ... and the contact that they make
 abbrev pub joined : Paired → Keys → Chained → Numbers → Contact
 joined p k c n = record {
   role = p .role;

@@ -23,9 +23,11 @@ ghost use Rattle.layout.specs.Field.{readAt};
 ghost use Rattle.layout.specs.Layout.{group, optional, sized};
 ghost use Rattle.rows.specs.Rows.{card, pending, send};
 ghost use Rattle.parts.specs.Parts.{paired, keys, chained, numbers};
-ghost use Rattle.parts.specs.Places.{cardSays, CardPlaced, cardRefusal, pairedSays, PairedPlaced, pairedRefusal, keysSays, keysRefusal};
-ghost use Rattle.parts.specs.Places.{pendingKeysSays, pendingSays, pendingRefusal, sendChainSays, sendChainRefusal, sendSays, sendRefusal};
-ghost use Rattle.parts.specs.Places.{chainedSays, ChainedListed, chainedRefusal, numbersSays, NumbersListed, numbersRefusal};
+ghost use Rattle.offsets.specs.Offset.{located};
+ghost use Rattle.parts.specs.Places.{cardAt, cardSays, cardRefusal, pairedFound, pairedRefusal, keysFound, keysRefusal};
+ghost use Rattle.parts.specs.Places.{pendingKeysAt, pendingKeysSays, pendingAt, pendingSays, pendingRefusal};
+ghost use Rattle.parts.specs.Places.{sendChainAt, sendChainSays, sendChainRefusal, sendAt, sendSays, sendRefusal};
+ghost use Rattle.parts.specs.Places.{chainedFound, chainedRefusal, numbersFound, numbersRefusal};
 
 // A card in the row: from start up to end, with its fields' places in that part.
 pub struct CardPlace {
@@ -53,7 +55,7 @@ impl CardField {
 
 // A card behind its length.
 fn card_at(row: &[u8], at: usize) -> CardField
-    ensures { λ r. ⌜ (cardSays (now (row .entry)) r ≡ readAt (sized (group card) «CARD_END») (now (row .entry)) at) × CardPlaced (now (row .entry)) r ⌝ }
+    ensures { λ r. ⌜ cardSays r ≡ located (cardAt at) (readAt (sized (group card) «CARD_END») (now (row .entry)) at) ⌝ }
 {
     let U16Field::Value(len, mid) = fields::u16_at(row, at) else {
         return CardField::Refused(question::FIELD);
@@ -97,7 +99,7 @@ impl PairedField {
 
 // The fields up to the card.
 pub fn paired_at(row: &[u8], at: usize) -> PairedField
-    ensures { λ r. ⌜ (pairedSays (now (row .entry)) r ≡ readAt (group paired) (now (row .entry)) at) × PairedPlaced (now (row .entry)) r ⌝ }
+    ensures { λ r. ⌜ r ≡ pairedFound at (readAt (group paired) (now (row .entry)) at) ⌝ }
 {
     let role_field = fields::role_at(row, at);
     let RoleField::Value(role, at1) = role_field else {
@@ -166,7 +168,7 @@ impl KeysField {
 
 // The fields from door_a_to_b to sent_msgno.
 pub fn keys_at(row: &[u8], at: usize) -> KeysField
-    ensures { λ r. ⌜ keysSays (now (row .entry)) r ≡ readAt (group keys) (now (row .entry)) at ⌝ }
+    ensures { λ r. ⌜ r ≡ keysFound at (readAt (group keys) (now (row .entry)) at) ⌝ }
 {
     let RunField::Value(door_a_to_b, at1) = fields::run_at(row, at, 32) else {
         return KeysField::Refused(question::FIELD);
@@ -230,7 +232,7 @@ impl PendingField {
 
 // chain_key and msg_seed.
 fn pending_keys_at(row: &[u8], at: usize) -> PendingKeysField
-    ensures { λ r. ⌜ pendingKeysSays (now (row .entry)) r ≡ readAt (group pending) (now (row .entry)) at ⌝ }
+    ensures { λ r. ⌜ pendingKeysSays r ≡ located (pendingKeysAt at) (readAt (group pending) (now (row .entry)) at) ⌝ }
 {
     let RunField::Value(chain_key, at1) = fields::run_at(row, at, 32) else {
         return PendingKeysField::Short;
@@ -243,7 +245,7 @@ fn pending_keys_at(row: &[u8], at: usize) -> PendingKeysField
 
 // The flag, and the keys if it is 1.
 fn pending_at(row: &[u8], at: usize) -> PendingField
-    ensures { λ r. ⌜ pendingSays (now (row .entry)) r ≡ readAt (optional (group pending)) (now (row .entry)) at ⌝ }
+    ensures { λ r. ⌜ pendingSays r ≡ located (pendingAt at) (readAt (optional (group pending)) (now (row .entry)) at) ⌝ }
 {
     let flag = fields::flag_at(row, at);
     let FlagField::Value(present, at1) = flag else {
@@ -307,7 +309,7 @@ impl SendField {
 
 // A send chain: gen, dir, idx, key.
 fn send_chain_at(row: &[u8], at: usize) -> SendChainField
-    ensures { λ r. ⌜ sendChainSays (now (row .entry)) r ≡ readAt (group send) (now (row .entry)) at ⌝ }
+    ensures { λ r. ⌜ sendChainSays r ≡ located (sendChainAt at) (readAt (group send) (now (row .entry)) at) ⌝ }
 {
     let U8Field::Value(gen_, at1) = fields::byte_at(row, at) else {
         return SendChainField::Refused(question::FIELD);
@@ -335,7 +337,7 @@ fn send_chain_at(row: &[u8], at: usize) -> SendChainField
 
 // The flag, and the send chain if it is 1.
 fn send_at(row: &[u8], at: usize) -> SendField
-    ensures { λ r. ⌜ sendSays (now (row .entry)) r ≡ readAt (optional (group send)) (now (row .entry)) at ⌝ }
+    ensures { λ r. ⌜ sendSays r ≡ located (sendAt at) (readAt (optional (group send)) (now (row .entry)) at) ⌝ }
 {
     let flag = fields::flag_at(row, at);
     let FlagField::Value(present, at1) = flag else {
@@ -378,7 +380,7 @@ impl ChainedField {
 
 // The fields from pending to skipped.
 pub fn chained_at(row: &[u8], at: usize) -> ChainedField
-    ensures { λ r. ⌜ (chainedSays (now (row .entry)) r ≡ readAt (group chained) (now (row .entry)) at) × ChainedListed (now (row .entry)) r ⌝ }
+    ensures { λ r. ⌜ r ≡ chainedFound at (readAt (group chained) (now (row .entry)) at) ⌝ }
 {
     let pending_field = pending_at(row, at);
     let PendingField::Value(pending, at1) = pending_field else {
@@ -437,7 +439,7 @@ impl NumbersField {
 
 // The fields from peer_acked to expired.
 pub fn numbers_at(row: &[u8], at: usize) -> NumbersField
-    ensures { λ r. ⌜ (numbersSays (now (row .entry)) r ≡ readAt (group numbers) (now (row .entry)) at) × NumbersListed (now (row .entry)) r ⌝ }
+    ensures { λ r. ⌜ r ≡ numbersFound at (readAt (group numbers) (now (row .entry)) at) ⌝ }
 {
     let U32Field::Value(peer_acked, at1) = fields::u32_at(row, at) else {
         return NumbersField::Refused(question::FIELD);

@@ -19,7 +19,7 @@ use Rattle.rows.specs.Values.{Contact}
 use Rattle.rows.specs.Rows.{role, verification, card, pending, send, chain, skipped, range, contact}
 use Rattle.rows.proofs.Lawful.{ranges-plain}
 use Rattle.rows.proofs.Proved.{proved}
-use Rattle.parts.specs.Parts.{paired, keys, chained, Numbers, numbers, joined}
+use Rattle.parts.specs.Parts.{paired, keys, chained, Numbers, numbers, pairedOf, keysOf, chainedOf, numbersOf, joined}
 use Rattle.parts.specs.Places.{run, pairedFrom, keysFrom, pendingFrom, sendFrom, chainedFrom, numbersFrom}
 use Rattle.parts.specs.declared.PairedAt.{PairedAt}
 use Rattle.parts.specs.declared.KeysAt.{KeysAt}
@@ -29,7 +29,6 @@ use Rattle.parts.specs.declared.SendAt.{SendAt}
 use Rattle.parts.specs.declared.SendAt.the-variants as sendAt
 use Rattle.parts.specs.declared.ChainedAt.{ChainedAt}
 use Rattle.parts.specs.declared.NumbersAt.{NumbersAt}
-use Rattle.parts.proofs.Parts.{pairedOf, keysOf, chainedOf, numbersOf}
 use Rattle.veil_parts.specs.Veiled.{Stands, veiledKeys, veiledPending, veiledSend, veiledChained}
 
 -- ---- a contact is printed part by part

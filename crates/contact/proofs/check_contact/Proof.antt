@@ -2,7 +2,7 @@
 use Prim.Native.Nat.{ℕ}
 use mathlib.Core.List.{List}
 use mathlib.Core.Option.{Option, none, some}
-use mathlib.Core.Path.{_≡_, sym, ap, subst, _∙_}
+use mathlib.Core.Path.{_≡_, sym, ap, _∙_}
 use lib.ListN.{drop}
 use borrow.Author.Needs.{needs}
 use borrow.Author.Tests.{eq-eqb, ne-eqb}
@@ -13,14 +13,16 @@ use Rattle.layout.proofs.At.{took, refused-at, learn, typed}
 use Rattle.layout.proofs.Steps.{Came, start, ask-no, end-no}
 use Rattle.rows.specs.Values as value
 use Rattle.rows.specs.Rows.{contact}
-use Rattle.parts.specs.Parts.{paired, keys, chained, numbers}
-use Rattle.parts.specs.Places.{pairedFrom, keysFrom, chainedFrom, numbersFrom, pairedSays, keysSays, chainedSays, numbersSays}
-use Rattle.parts.specs.Places.{pairedRefusal, keysRefusal, chainedRefusal, numbersRefusal, PairedPlaced, ChainedListed, NumbersListed}
+use Rattle.parts.specs.Parts.{paired, keys, chained, numbers, pairedOf, keysOf, chainedOf, numbersOf}
+use Rattle.offsets.proofs.Offset.{Part}
+use Rattle.parts.specs.Places.{pairedAt, pairedFrom, keysAt, keysFrom, chainedAt, chainedFrom, numbersAt, numbersFrom, CardPlaces, ChainedLists, NumbersLists}
+use Rattle.parts.specs.Places.{pairedRefusal, keysRefusal, chainedRefusal, numbersRefusal}
 use Rattle.parts.specs.declared.PairedAt.{PairedAt}
 use Rattle.parts.specs.declared.KeysAt.{KeysAt}
 use Rattle.parts.specs.declared.ChainedAt.{ChainedAt}
 use Rattle.parts.specs.declared.NumbersAt.{NumbersAt}
-use Rattle.parts.proofs.Parts.{embed, pairedOf, keysOf, chainedOf, numbersOf, afterPaired, afterKeys, afterChained, consistent, begun, part-yes, part-no}
+use Rattle.parts.proofs.Parts.{embed, afterPaired, afterKeys, afterChained, consistent, begun, part-yes, part-no}
+use Rattle.parts.proofs.Placed.{paired-part, paired-refused, keys-part, keys-refused, chained-part, chained-refused, numbers-part, numbers-refused}
 use Rattle.parts.proofs.Lawful.{paired-lawful, keys-lawful, chained-lawful, numbers-lawful}
 use Rattle.contact.specs.Consistent.{inconsistency, refusalIn}
 use Rattle.contact.specs.Check.{contactFrom, Places}
@@ -52,10 +54,13 @@ s1 c = e1 c .before
 abbrev p1 : tie.After-known-told → PairedAt
 p1 c = c .before .paired-field .given .0 .0
 
+paired-found : (c : tie.After-known-told) → Part paired (row (s1 c)) 0 (pairedFrom (row (s1 c))) (pairedAt 0) (λ p. CardPlaces (row (s1 c)) (p .card)) (p1 c) (c .before .paired-field .given .0 .1 .0)
+paired-found c = paired-part (row (s1 c)) (by (s1 c)) 0 (c .before .before .before .paired-at .ensures) (c .before .paired-field .given .1)
+
 c1 : (c : tie.After-known-told) → Came (contact (version (s1 c))) (row (s1 c)) 0 (afterPaired (pairedFrom (row (s1 c)) (p1 c))) (c .before .paired-field .given .0 .1 .0)
 c1 c =
     part-yes paired pairedOf afterPaired (c0 (e1 c))
-    (took _ _ (group paired) paired-lawful (by (s1 c)) (learn (pairedSays (row (s1 c))) (c .before .before .before .paired-at .ensures .0) (c .before .paired-field .given .1)))
+    (took _ _ (group paired) paired-lawful (by (s1 c)) (paired-found c .read))
 
 -- keys
 abbrev t1 : tie.After-known-told2 → tie.After-known-told
@@ -67,10 +72,13 @@ s2 c = s1 (t1 c)
 abbrev k2 : tie.After-known-told2 → KeysAt
 k2 c = c .before .keys-field .given .0 .0
 
+keys-found : (c : tie.After-known-told2) → Part keys (row (s2 c)) (t1 c .before .paired-field .given .0 .1 .0) (keysFrom (row (s2 c))) (keysAt (t1 c .before .paired-field .given .0 .1 .0)) (λ k. Unit {0}) (k2 c) (c .before .keys-field .given .0 .1 .0)
+keys-found c = keys-part (row (s2 c)) (by (s2 c)) (t1 c .before .paired-field .given .0 .1 .0) (c .before .before .before .keys-at .ensures) (c .before .keys-field .given .1)
+
 c2 : (c : tie.After-known-told2) → Came (contact (version (s2 c))) (row (s2 c)) 0 (afterKeys (pairedFrom (row (s2 c)) (p1 (t1 c))) (keysFrom (row (s2 c)) (k2 c))) (c .before .keys-field .given .0 .1 .0)
 c2 c =
     part-yes keys keysOf (afterKeys (pairedFrom (row (s2 c)) (p1 (t1 c)))) (c1 (t1 c))
-    (took _ _ (group keys) keys-lawful (by (s2 c)) (learn (keysSays (row (s2 c))) (c .before .before .before .keys-at .ensures) (c .before .keys-field .given .1)))
+    (took _ _ (group keys) keys-lawful (by (s2 c)) (keys-found c .read))
 
 -- chained
 abbrev t2 : tie.After-known-told3 → tie.After-known-told2
@@ -82,11 +90,14 @@ s3 c = s2 (t2 c)
 abbrev ch3 : tie.After-known-told3 → ChainedAt
 ch3 c = c .before .chained-field .given .0 .0
 
+chained-found : (c : tie.After-known-told3) → Part chained (row (s3 c)) (t2 c .before .keys-field .given .0 .1 .0) (chainedFrom (row (s3 c))) (chainedAt (t2 c .before .keys-field .given .0 .1 .0)) (ChainedLists (row (s3 c))) (ch3 c) (c .before .chained-field .given .0 .1 .0)
+chained-found c = chained-part (row (s3 c)) (by (s3 c)) (t2 c .before .keys-field .given .0 .1 .0) (c .before .before .before .chained-at .ensures) (c .before .chained-field .given .1)
+
 c3 : (c : tie.After-known-told3)
     → Came (contact (version (s3 c))) (row (s3 c)) 0 (afterChained (pairedFrom (row (s3 c)) (p1 (t1 (t2 c)))) (keysFrom (row (s3 c)) (k2 (t2 c))) (chainedFrom (row (s3 c)) (ch3 c))) (c .before .chained-field .given .0 .1 .0)
 c3 c =
     part-yes chained chainedOf (afterChained (pairedFrom (row (s3 c)) (p1 (t1 (t2 c)))) (keysFrom (row (s3 c)) (k2 (t2 c)))) (c2 (t2 c))
-    (took _ _ (group chained) chained-lawful (by (s3 c)) (learn (chainedSays (row (s3 c))) (c .before .before .before .chained-at .ensures .0) (c .before .chained-field .given .1)))
+    (took _ _ (group chained) chained-lawful (by (s3 c)) (chained-found c .read))
 
 -- numbers
 abbrev t3 : tie.After-known-told4 → tie.After-known-told3
@@ -98,6 +109,9 @@ s4 c = s3 (t3 c)
 abbrev n4 : tie.After-known-told4 → NumbersAt
 n4 c = c .before .numbers-field .given .0 .0
 
+numbers-found : (c : tie.After-known-told4) → Part numbers (row (s4 c)) (t3 c .before .chained-field .given .0 .1 .0) (numbersFrom (row (s4 c))) (numbersAt (t3 c .before .chained-field .given .0 .1 .0)) (NumbersLists (row (s4 c))) (n4 c) (c .before .numbers-field .given .0 .1 .0)
+numbers-found c = numbers-part (row (s4 c)) (by (s4 c)) (t3 c .before .chained-field .given .0 .1 .0) (c .before .before .before .numbers-at .ensures) (c .before .numbers-field .given .1)
+
 abbrev found : tie.After-known-told4 → ContactAt
 found c = record { paired = p1 (t1 (t2 (t3 c))); keys = k2 (t2 (t3 c)); chained = ch3 (t3 c); numbers = n4 c }
 
@@ -108,18 +122,11 @@ c4 : (c : tie.After-known-told4)
 c4 c =
     part-yes numbers numbersOf
     (consistent (pairedFrom (row (s4 c)) (found c .paired)) (keysFrom (row (s4 c)) (found c .keys)) (chainedFrom (row (s4 c)) (found c .chained))) (c3 (t3 c))
-    (took _ _ (group numbers) numbers-lawful (by (s4 c)) (learn (numbersSays (row (s4 c))) (c .before .before .before .numbers-at .ensures .0) (c .before .numbers-field .given .1)))
+    (took _ _ (group numbers) numbers-lawful (by (s4 c)) (numbers-found c .read))
 
 -- where everything stands
 places : (c : tie.After-known-told4) → Places (row (s4 c)) (found c)
-places c =
-    let k3 = t3 c in
-    let k1 = t1 (t2 k3) in
-    record {
-      card = subst (PairedPlaced (row (s4 c))) (k1 .before .paired-field .given .1) (k1 .before .before .before .paired-at .ensures .1);
-      chained = subst (ChainedListed (row (s4 c))) (k3 .before .chained-field .given .1) (k3 .before .before .before .chained-at .ensures .1);
-      numbers = subst (NumbersListed (row (s4 c))) (c .before .numbers-field .given .1) (c .before .before .before .numbers-at .ensures .1);
-    }
+places c = record { card = paired-found (t1 (t2 (t3 c))) .inside; chained = chained-found (t3 c) .inside; numbers = numbers-found c .inside }
 
 -- ---- what is asked
 returns : tie.Need-returns
@@ -141,7 +148,7 @@ returns-2 : tie.Need-returns-2
 returns-2 c =
     let told = c .before .enum-told .given .1 in
     let e = c .before .before .before .before in
-    let stop = part-no paired pairedOf afterPaired (c0 e) (refused-at _ _ (group paired) (learn (pairedSays (row (e .before))) (c .before .before .before .paired-at .ensures .0) told)) in
+    let stop = part-no paired pairedOf afterPaired (c0 e) (refused-at _ _ (group paired) (paired-refused (row (e .before)) (by (e .before)) 0 (c .before .before .before .paired-at .ensures) told)) in
     (rw (c .refusal .ensures ∙ ap pairedRefusal told) (sym (ap answer stop)), tt)
 
 keys-at-requires : tie.Need-keys-at-requires
@@ -160,7 +167,7 @@ returns-3 : tie.Need-returns-3
 returns-3 c =
     let told = c .before .enum-told2 .given .1 in
     let k = c .before .before .before .before in
-    let stop = part-no keys keysOf (afterKeys (pairedFrom (row (s1 k)) (p1 k))) (c1 k) (refused-at _ _ (group keys) (learn (keysSays (row (s1 k))) (c .before .before .before .keys-at .ensures) told)) in
+    let stop = part-no keys keysOf (afterKeys (pairedFrom (row (s1 k)) (p1 k))) (c1 k) (refused-at _ _ (group keys) (keys-refused (row (s1 k)) (by (s1 k)) _ (c .before .before .before .keys-at .ensures) told)) in
     (rw (c .refusal2 .ensures ∙ ap keysRefusal told) (sym (ap answer stop)), tt)
 
 chained-at-requires : tie.Need-chained-at-requires
@@ -180,7 +187,7 @@ returns-4 c =
     let told = c .before .enum-told3 .given .1 in
     let k = c .before .before .before .before in
     let stop = part-no chained chainedOf (afterChained (pairedFrom (row (s2 k)) (p1 (t1 k))) (keysFrom (row (s2 k)) (k2 k))) (c2 k)
-    (refused-at _ _ (group chained) (learn (chainedSays (row (s2 k))) (c .before .before .before .chained-at .ensures .0) told)) in
+    (refused-at _ _ (group chained) (chained-refused (row (s2 k)) (by (s2 k)) _ (c .before .before .before .chained-at .ensures) told)) in
     (rw (c .refusal3 .ensures ∙ ap chainedRefusal told) (sym (ap answer stop)), tt)
 
 numbers-at-requires : tie.Need-numbers-at-requires
@@ -200,7 +207,7 @@ returns-5 c =
     let told = c .before .enum-told4 .given .1 in
     let k = c .before .before .before .before in
     let stop = part-no numbers numbersOf (consistent (pairedFrom (row (s3 k)) (p1 (t1 (t2 k)))) (keysFrom (row (s3 k)) (k2 (t2 k))) (chainedFrom (row (s3 k)) (ch3 k))) (c3 k)
-    (refused-at _ _ (group numbers) (learn (numbersSays (row (s3 k))) (c .before .before .before .numbers-at .ensures .0) told)) in
+    (refused-at _ _ (group numbers) (numbers-refused (row (s3 k)) (by (s3 k)) _ (c .before .before .before .numbers-at .ensures) told)) in
     (rw (c .refusal4 .ensures ∙ ap numbersRefusal told) (sym (ap answer stop)), tt)
 
 returns-6 : tie.Need-returns-6

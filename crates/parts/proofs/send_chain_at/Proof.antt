@@ -1,19 +1,26 @@
 -- `parts::send_chain_at` meets its contract: one step of the layout for each field.
-use Prim.Native.Nat.{ℕ}
+use Prim.Native.Nat.{ℕ, _+_}
 use mathlib.Core.List.{List}
-use mathlib.Core.Path.{sym, ap, _∙_}
+use mathlib.Core.Path.{_≡_, refl, ap, _∙_}
+use native.Mathlib.Omega.{arith}
+use lib.ListN.{take, drop}
 use borrow.Author.Needs.{needs}
 use Rattle.layout.specs.Veil.{veiled}
 use Rattle.layout.specs.Form.{u8, u32}
 use Rattle.layout.specs.Layout.{group}
 use Rattle.layout.specs.RowLaws.{Bytes}
 use Rattle.layout.proofs.Front.{number-lawful}
-use Rattle.layout.proofs.At.{took, refused-at, takes-at, refuses-at, learn, typed}
+use Rattle.layout.proofs.At.{took, took-next, refused-at, learn, typed}
 use Rattle.layout.proofs.Steps.{Reached, start, field-yes, field-no, done-yes}
+use Rattle.rows.specs.Values.{Send}
 use Rattle.rows.specs.Rows.{dir, send}
 use Rattle.rows.proofs.Lawful.{dir-lawful}
 use Rattle.fields.specs.Says.{u8Says, u32Says, dirSays, dirRefusal}
 use Rattle.fields.proofs.Runs.{run-took, run-short}
+use Rattle.offsets.specs.Offset.{offset}
+use Rattle.offsets.proofs.Offset.{not-past, locates, locates-not}
+use Rattle.offsets.proofs.Runs.{run-starts}
+use Rattle.parts.specs.Places.{sendChainAt}
 use Rattle.parts.proofs.send_chain_at.Statement.{statement}
 use Rattle.parts.proofs.send_chain_at.Tie as tie
 
@@ -67,7 +74,7 @@ enum-told c = search needs
 returns : tie.Need-returns
 returns c =
     let stop = field-no (r0 (c .before .before .before) .so) (refused-at _ _ u8 (learn u8Says (c .before .before .byte-at .ensures) (c .enum-told .given .1))) in
-    sym (refuses-at _ _ (group send) stop)
+    locates-not _ _ (group send) (sendChainAt _) stop
 
 dir-at-requires : tie.Need-dir-at-requires
 dir-at-requires c κs = search needs
@@ -85,7 +92,7 @@ returns-2 : tie.Need-returns-2
 returns-2 c =
     let told = c .before .enum-told2 .given .1 in
     let not = field-no (r1 (c .before .before .before .before) .so) (refused-at _ _ dir (learn dirSays (c .before .before .before .dir-at .ensures) told)) in
-    rw (c .refusal .ensures ∙ ap dirRefusal told) (sym (refuses-at _ _ (group send) not))
+    rw (c .refusal .ensures ∙ ap dirRefusal told) (locates-not _ _ (group send) (sendChainAt _) not)
 
 u32-at-requires : tie.Need-u32-at-requires
 u32-at-requires c κs = search needs
@@ -99,7 +106,7 @@ enum-told-3 c = search needs
 returns-3 : tie.Need-returns-3
 returns-3 c =
     let stop = field-no (r2 (c .before .before .before) .so) (refused-at _ _ u32 (learn u32Says (c .before .before .u32-at .ensures) (c .enum-told3 .given .1))) in
-    sym (refuses-at _ _ (group send) stop)
+    locates-not _ _ (group send) (sendChainAt _) stop
 
 run-at-requires : tie.Need-run-at-requires
 run-at-requires c κs = search needs
@@ -113,13 +120,27 @@ enum-told-4 c = search needs
 returns-4 : tie.Need-returns-4
 returns-4 c =
     let stop = field-no (r3 (c .before .before .before) .so) (run-short _ _ veiled 32 (c .before .before .run-at .ensures .0) (c .enum-told4 .given .1)) in
-    sym (refuses-at _ _ (group send) stop)
+    locates-not _ _ (group send) (sendChainAt _) stop
 
 returns-5 : tie.Need-returns-5
 returns-5 c =
     let k = c .before .before .before .before in
-    let t = run-took _ _ veiled 32 (c .before .before .before .run-at .ensures .0) (by (s3 k)) (c .before .key .given .1) in
-    sym (takes-at _ _ (group send) (done-yes (field-yes (r3 k .so) t .so)) (t .inside))
+    let k2 = k .before .before .before .before in
+    let k1 = k2 .before .before .before .before in
+    let by = by (s3 k) in
+    let key = c .before .key .given .0 .0 in
+    let its : Send = record { gen = k1 .before .gen- .given .0 .0; dir = k2 .before .dir-field .given .0 .0; idx = k .before .idx .given .0 .0; key = take 32 (drop key (row (s3 k))) } in
+    let gen-read = learn u8Says (k1 .before .before .before .byte-at .ensures) (k1 .before .gen- .given .1) in
+    let dir-read = learn dirSays (k2 .before .before .before .dir-at .ensures) (k2 .before .dir-field .given .1) in
+    let idx-read = learn u32Says (k .before .before .before .u32-at .ensures) (k .before .idx .given .1) in
+    let gen-next = took-next _ _ u8 (number-lawful 1) by gen-read (not-past _ _ u8 refl gen-read) in
+    let dir-next = took-next _ _ dir dir-lawful by dir-read (took _ _ u8 (number-lawful 1) by gen-read .inside) in
+    let idx-next = took-next _ _ u32 (number-lawful 4) by idx-read (took _ _ dir dir-lawful by dir-read .inside) in
+    let key-run = run-starts _ _ 32 by (omega arith) (c .before .before .before .run-at .ensures) (c .before .key .given .1) in
+    let place : key ≡ s3 k .before .args .at + offset send 3 its = omega (arith, gen-next, dir-next, idx-next, key-run .starts) in
+    let t = run-took _ _ veiled 32 (c .before .before .before .run-at .ensures .0) by (c .before .key .given .1) in
+    locates _ _ (group send) (sendChainAt _) {b = its} (done-yes (field-yes (r3 k .so) t .so)) (t .inside)
+    (λ i. record { «gen_» = its .gen; dir = its .dir; idx = its .idx; key = place i })
 
 pub send-chain-at-spec : {M : Type 1} → statement M
 send-chain-at-spec =

@@ -11,13 +11,13 @@ use Rattle.layout.specs.Field.{readAt, takes}
 use Rattle.layout.specs.Layout.{group, optional, optionalLayout}
 use Rattle.layout.specs.RowLaws.{Bytes}
 use Rattle.layout.proofs.Front.{flag-lawful}
-use Rattle.layout.proofs.At.{Took, took, took-next, refused-at, learn, typed}
+use Rattle.layout.proofs.At.{Took, took, refused-at, learn, typed}
 use Rattle.layout.proofs.Steps.{optional-some, optional-none, optional-no-flag, optional-no}
 use Rattle.rows.specs.Rows.{ownEnvelope}
 use Rattle.rows.proofs.Lawful.{ownEnvelope-lawful}
 use Rattle.fields.specs.Says.{flagSays, flagRefusal}
 use Rattle.offsets.specs.Offset.{offset}
-use Rattle.offsets.proofs.Offset.{not-past, locates, locates-not, located-at, located-not}
+use Rattle.offsets.proofs.Offset.{flag-next, locates, locates-not, located-at, located-not}
 use Rattle.queued.specs.Queued.{envelopeAt, envelopeSays, envelopeRefusal, ownAt}
 use Rattle.queued.specs.declared.OwnEnvelopeAt.the-variants.{Present}
 use Rattle.queued.proofs.own_envelope_at.Statement.{statement}
@@ -41,9 +41,6 @@ flag-read c = learn flagSays (c .before .before .before .flag-at .ensures) (c .b
 
 flag-took : (c : tie.After-known-told) → Took flag (row (s1 c)) (here (s1 c)) (c .before .flag .given .0 .0) (c .before .flag .given .0 .1 .0)
 flag-took c = took _ _ flag flag-lawful (by (s1 c)) (flag-read c)
-
-flag-next : (c : tie.After-known-told) → c .before .flag .given .0 .1 .0 ≡ here (s1 c) + 1
-flag-next c = took-next _ _ flag flag-lawful (by (s1 c)) (flag-read c) (not-past _ _ flag refl (flag-read c))
 
 set : (c : tie.Then1) → Took flag (row (s1 (c .before))) (here (s1 (c .before))) true (c .before .before .flag .given .0 .1 .0)
 set c = subst (λ (t : Bool). Took flag (row (s1 (c .before))) (here (s1 (c .before))) t (c .before .before .flag .given .0 .1 .0)) (c .if1 .taken) (flag-took (c .before))
@@ -98,7 +95,7 @@ returns-3 c =
     let s = s1 (t .before) in
     let its = located-at (envelopeAt _) _ (learn envelopeSays (a .envelope-at .ensures) (c .before .envelope .given .1)) in
     let o = optional-some (group ownEnvelope) (row s) (here s) (set t) (took _ _ (group ownEnvelope) ownEnvelope-lawful (by s) (its .read)) in
-    let behind : c .before .before .before .before .before .before .flag .given .0 .1 .0 ≡ here s + offset (optionalLayout (group ownEnvelope)) 1 (some (its .value)) = omega (arith, flag-next (t .before)) in
+    let behind : c .before .before .before .before .before .before .flag .given .0 .1 .0 ≡ here s + offset (optionalLayout (group ownEnvelope)) 1 (some (its .value)) = omega (arith, flag-next (row s) (here s) (by s) (flag-read (t .before))) in
     locates _ _ (optional (group ownEnvelope)) (ownAt _) (o .reads) (o .inside)
     (ap Present (its .place ∙ ap (λ (from : ℕ). envelopeAt from (its .value)) behind))
 
