@@ -1,12 +1,14 @@
--- What the answers about a contact row say: the value that stands at the places found.
+-- What the answers about a contact row say: where its parts stand.
 -- Assumes nothing.
 use Prim.Native.Nat.{ℕ, _+_, _≤_}
 use mathlib.Core.List.{List}
 use lib.ListN.{length}
 use Rattle.layout.specs.Layout.{Answer, accepted, refusedBy}
 use Rattle.rows.specs.Values as value
-use Rattle.parts.specs.Parts.{joined}
-use Rattle.parts.specs.Places.{pairedFrom, keysFrom, chainedFrom, numbersFrom, CardPlaces, ChainedLists, NumbersLists}
+use Rattle.offsets.specs.Offset.{offset}
+use Rattle.rows.specs.Rows.{contact}
+use Rattle.parts.specs.Parts.{pairedOf, keysOf, chainedOf, numbersOf, joined}
+use Rattle.parts.specs.Places.{pairedAt, pairedFrom, keysAt, keysFrom, chainedAt, chainedFrom, numbersAt, numbersFrom, CardPlaces, ChainedLists, NumbersLists}
 use Rattle.parts.specs.declared.PendingAt.{PendingAt}
 use Rattle.parts.specs.declared.PendingAt.the-variants as pendingAt
 use Rattle.parts.specs.declared.SendAt.{SendAt}
@@ -15,27 +17,31 @@ use Rattle.contact.specs.declared.ContactAt.{ContactAt}
 use Rattle.contact.specs.declared.ContactCheck.{ContactCheck}
 use Rattle.contact.specs.declared.ContactCheck.the-variants as check
 
--- the contact that stands at these places of the row
-abbrev pub contactFrom : List ℕ → ContactAt → value.Contact
-contactFrom row at = joined (pairedFrom row (at .paired)) (keysFrom row (at .keys)) (chainedFrom row (at .chained)) (numbersFrom row (at .numbers))
+-- ---- a contact row: where its parts begin, and where their fields stand
+abbrev pub contactAt : ℕ → value.Contact → ContactAt
+contactAt version v = record {
+  paired = pairedAt (offset (contact version) 0 v) (pairedOf v);
+  keys = keysAt (offset (contact version) 7 v) (keysOf v);
+  chained = chainedAt (offset (contact version) 13 v) (chainedOf v);
+  numbers = numbersAt (offset (contact version) 17 v) (numbersOf v);
+}
 
--- the places lie in the row
-pub record Places (row : List ℕ) (at : ContactAt) : Type 0 where
-  pub card : CardPlaces row (at .paired .card)
-  pub chained : ChainedLists row (at .chained)
-  pub numbers : NumbersLists row (at .numbers)
-
-abbrev pub checkSays : List ℕ → ContactCheck → Answer value.Contact
-checkSays row (check.Fields at) = accepted (contactFrom row at)
-checkSays row (check.Refused q) = refusedBy q
-
-abbrev pub Placed : List ℕ → ContactCheck → Type 0
-Placed row (check.Fields at) = Places row at
-Placed row (check.Refused q) = Unit {0}
+abbrev pub checked : ℕ → Answer value.Contact → ContactCheck
+checked version (accepted v) = check.Fields (contactAt version v)
+checked version (refusedBy q) = check.Refused q
 
 abbrev pub checkRefusal : ContactCheck → ℕ
 checkRefusal (check.Fields at) = 0
 checkRefusal (check.Refused q) = q
+
+-- ---- the contact that stands at places of a row, and that these lie in it
+abbrev pub contactFrom : List ℕ → ContactAt → value.Contact
+contactFrom row at = joined (pairedFrom row (at .paired)) (keysFrom row (at .keys)) (chainedFrom row (at .chained)) (numbersFrom row (at .numbers))
+
+pub record Places (row : List ℕ) (at : ContactAt) : Type 0 where
+  pub card : CardPlaces row (at .paired .card)
+  pub chained : ChainedLists row (at .chained)
+  pub numbers : NumbersLists row (at .numbers)
 
 -- ---- the runs lie in the row, so that they can be copied
 abbrev pub PendingRuns : List ℕ → PendingAt → Type 0

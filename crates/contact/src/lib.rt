@@ -25,7 +25,7 @@ ghost use Rattle.card.specs.Card.{cardOf};
 ghost use Rattle.parts.specs.Places.{ChainedLists, NumbersLists, chainedFrom, numbersFrom};
 ghost use Rattle.parts.specs.Places.{CardPlaces, cardIn, pendingFrom, sendFrom};
 ghost use Rattle.contact.specs.Consistent.{chainsRefusal, numbersRefusal, inconsistency, refusalIn};
-ghost use Rattle.contact.specs.Check.{contactFrom, Places, checkSays, Placed, checkRefusal};
+ghost use Rattle.contact.specs.Check.{contactFrom, Places, checked, checkRefusal};
 ghost use Rattle.contact.specs.Check.{PendingRuns, SendRuns, Filling};
 ghost use Rattle.contact.specs.Contact.{pendingKeysOf, sendPartOf, contactOf, zeroContact, lists, listsBefore, listsAfter, filled, Fillable, refusedBy, leaves, reads};
 
@@ -177,7 +177,7 @@ fn consistent_in_row(row: &[u8], at: ContactAt) -> Verdict
 
 // The questions of a contact row; nothing is copied.
 pub fn check_contact(version: u32, row: &[u8]) -> ContactCheck
-    ensures { λ r. ⌜ (checkSays (now (row .entry)) r ≡ readRow (layouts.contact version) (now (row .entry))) × Placed (now (row .entry)) r ⌝ }
+    ensures { λ r. ⌜ r ≡ checked version (readRow (layouts.contact version) (now (row .entry))) ⌝ }
 {
     if version != rows::BLOB_VERSION {
         return ContactCheck::Refused(question::VERSION);

@@ -7,7 +7,7 @@ use Rattle.layout.specs.Layout.{Answer, readRow}
 use Rattle.rows.specs.Values as value
 use Rattle.rows.specs.Rows.{contact}
 use Rattle.export.specs.Faces.{zeroOr}
-use Rattle.contact.specs.Check.{checkSays}
+use Rattle.contact.proofs.Placed.{checkSays}
 use Rattle.contact.specs.declared.ContactCheck.{ContactCheck}
 use Rattle.rewrite.specs.Rewrite.{Left}
 use Rattle.contact_face.specs.Faces.{numberOf, checkNumber, leaves, shown}

@@ -16,7 +16,7 @@ use Rattle.layout.specs.Read.{value, refused, first}
 use Rattle.layout.specs.Veil.{Sensitivity}
 use Rattle.layout.specs.Form.{Form, bytes, flag, toEnd, either}
 use Rattle.layout.specs.Field.{Field, readAt, takes, refuses}
-use Rattle.layout.specs.Layout.{Layout, done, field, ask, print, refusalOf, group, optional, optionalLayout}
+use Rattle.layout.specs.Layout.{Layout, done, field, ask, parse, print, refusalOf, group, optional, optionalLayout}
 use Rattle.layout.specs.RowLaws.{Bytes}
 use Rattle.layout.proofs.Lawful.{Lawful}
 use Rattle.layout.proofs.Front.{flag-lawful, none≢some}
@@ -104,6 +104,35 @@ module _ {A : Type 0} (row : List ℕ) where
   offset-inside l i v {from} s h =
       let long : length (print l v ++ s .post) ≡ length (drop from row) = ap (λ (bs : List ℕ). length bs) (s .joins) in
       omega (arith, short l i v, long, length-append (print l v) (s .post), length-drop from row)
+
+-- ---- behind the last field is the end
+module _ {A : Type 0} where
+  abbrev fields : Layout A → A → ℕ
+  fields (done a) v = 0
+  fields (field f get k) v = suc (fields (k (get v)) v)
+  fields (ask q t k) v = fields k v
+
+  pub whole : (l : Layout A) (v : A) → offset l (fields l v) v ≡ length (print l v)
+  unfolding print
+  whole (done a) v = refl
+  whole (field f get k) v = ap (λ (n : ℕ). length (f .print (get v)) + n) (whole (k (get v)) v) ∙ sym (length-append (f .print (get v)) (print (k (get v)) v))
+  whole (ask q t k) v = whole k v
+
+-- ---- one layout behind another
+pub record Behind {A : Type 0} (l : Layout A) (a : A) (row : List ℕ) (at : ℕ) (rest : List ℕ) : Type 0 where
+  pub here : Stands (group l) a row at
+  pub rest-is : rest ≡ drop (at + length (print l a)) row
+
+pub behind : {A : Type 0} (l : Layout A) → Lawful (group l) → (row : List ℕ) → Bytes row → (at : ℕ) {mid : List ℕ} → mid ≡ drop at row
+    → {a : A} {rest : List ℕ} → parse l mid ≡ value a rest → Behind l a row at rest
+behind l law row by at same {a} {rest} e =
+    let read : parse l (drop at row) ≡ value a rest = ap (λ (m : List ℕ). parse l m) (sym same) ∙ e in
+    let bytes = bytes-drop at row by in
+    let joins = law .joins (drop at row) a rest bytes read in
+    record {
+      here = record { post = rest; joins = joins; fits = law .fitted (drop at row) a rest bytes read; granted = law .granted (drop at row) a rest bytes read };
+      rest-is = sym (sym (drop-drop (length (print l a)) at row) ∙ ap (λ (m : List ℕ). drop (length (print l a)) m) (sym joins) ∙ drop-append-seam (print l a) rest);
+    }
 
 -- ---- runs, and a part behind a flag
 module _ {row : List ℕ} {at : ℕ} where

@@ -14,7 +14,8 @@ use Rattle.received.specs.Sets.{size}
 use Rattle.contact.specs.declared.ContactAt.{ContactAt}
 use Rattle.contact.specs.declared.ContactCheck.{ContactCheck}
 use Rattle.contact.specs.declared.ContactCheck.the-variants as check
-use Rattle.contact.specs.Check.{checkSays, Placed, Places}
+use Rattle.contact.specs.Check.{Places}
+use Rattle.contact.proofs.Placed.{checkSays, Placed}
 use Rattle.store.specs.declared.Entry.{Entry}
 use Rattle.store.specs.Kinds.{CONTACT}
 use Rattle.store.specs.Store.{partOf, within}

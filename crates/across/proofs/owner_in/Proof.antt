@@ -1,11 +1,25 @@
 -- `across::owner_in` meets its contract.
-use mathlib.Core.Path.{subst}
+use Prim.Native.Nat.{ℕ}
+use mathlib.Core.List.{List}
+use mathlib.Core.Path.{_≡_, subst}
 use borrow.Author.Needs.{needs}
+use Rattle.layout.specs.Layout.{readRow}
+use Rattle.layout.specs.RowLaws.{Bytes}
 use Rattle.layout.proofs.At.{learn, typed}
-use Rattle.contact.specs.Check.{checkSays, Placed}
+use Rattle.rows.specs.Rows.{contact}
+use Rattle.contact.proofs.Placed.{checkSays, Placed, check-says, check-placed}
 use Rattle.across.proofs.Read.{found, refused}
 use Rattle.across.proofs.owner_in.Statement.{statement}
 use Rattle.across.proofs.owner_in.Tie as tie
+
+abbrev row : tie.After-check-contact → List ℕ
+row k = k .before .before .args .row .now
+
+by : (k : tie.After-check-contact) → Bytes (row k)
+by k = typed (row k) (k .before .shared-slice-known .given)
+
+says : (k : tie.After-check-contact) → checkSays (row k) (k .check-contact .result) ≡ readRow (contact (k .before .before .args .version)) (row k)
+says k = check-says (row k) (by k) (k .before .before .args .version) (k .check-contact .ensures)
 
 check-contact-requires : tie.Need-check-contact-requires
 check-contact-requires c κs = search needs
@@ -23,17 +37,16 @@ returns : tie.Need-returns
 returns c =
     let t = c .before in
     let k = t .before .before in
-    let a = k .before .before .args in
-    rw (c .no-owner .ensures) (refused (a .version) (a .row .now) (learn (checkSays (a .row .now)) (k .check-contact .ensures .0) (t .enum-told .given .1)))
+    rw (c .no-owner .ensures) (refused (k .before .before .args .version) (row k) (learn (checkSays (row k)) (says k) (t .enum-told .given .1)))
 
 returns-2 : tie.Need-returns-2
 returns-2 c =
     let h = c .before .before in
     let k = h .before .before in
-    let a = k .before .before .args in
-    let accepted = learn (checkSays (a .row .now)) (k .check-contact .ensures .0) (h .at .given .1) in
-    let placed = subst (Placed (a .row .now)) (h .at .given .1) (k .check-contact .ensures .1) in
-    found (a .version) (a .row .now) (h .at .given .0 .0) (typed (a .row .now) (k .before .shared-slice-known .given)) accepted placed
+    let version = k .before .before .args .version in
+    let accepted = learn (checkSays (row k)) (says k) (h .at .given .1) in
+    let placed = subst (Placed (row k)) (h .at .given .1) (check-placed (row k) (by k) version (k .check-contact .ensures)) in
+    found version (row k) (h .at .given .0 .0) (by k) accepted placed
 
 pub owner-in-spec : {M : Type 1} → statement M
 owner-in-spec = tie.close (tie.spec check-contact-requires enum-known-at enum-told no-owner-requires returns returns-2)

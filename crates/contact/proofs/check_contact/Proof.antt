@@ -3,17 +3,19 @@ use Prim.Native.Nat.{ℕ}
 use mathlib.Core.List.{List}
 use mathlib.Core.Option.{Option, none, some}
 use mathlib.Core.Path.{_≡_, sym, ap, _∙_}
+use native.Mathlib.Omega.{arith}
 use lib.ListN.{drop}
 use borrow.Author.Needs.{needs}
 use borrow.Author.Tests.{eq-eqb, ne-eqb}
-use Rattle.layout.specs.Read.{said}
+use Rattle.layout.specs.Read.{Read, refused, said}
 use Rattle.layout.specs.Layout.{parse, group, answer}
 use Rattle.layout.specs.RowLaws.{Bytes}
-use Rattle.layout.proofs.At.{took, refused-at, learn, typed}
+use Rattle.layout.proofs.At.{took, took-next, refused-at, learn, typed}
 use Rattle.layout.proofs.Steps.{Came, start, ask-no, end-no}
 use Rattle.rows.specs.Values as value
 use Rattle.rows.specs.Rows.{contact}
 use Rattle.parts.specs.Parts.{paired, keys, chained, numbers, pairedOf, keysOf, chainedOf, numbersOf}
+use Rattle.offsets.specs.Offset.{offset}
 use Rattle.offsets.proofs.Offset.{Part}
 use Rattle.parts.specs.Places.{pairedAt, pairedFrom, keysAt, keysFrom, chainedAt, chainedFrom, numbersAt, numbersFrom, CardPlaces, ChainedLists, NumbersLists}
 use Rattle.parts.specs.Places.{pairedRefusal, keysRefusal, chainedRefusal, numbersRefusal}
@@ -25,9 +27,12 @@ use Rattle.parts.proofs.Parts.{embed, afterPaired, afterKeys, afterChained, con
 use Rattle.parts.proofs.Placed.{paired-part, paired-refused, keys-part, keys-refused, chained-part, chained-refused, numbers-part, numbers-refused}
 use Rattle.parts.proofs.Lawful.{paired-lawful, keys-lawful, chained-lawful, numbers-lawful}
 use Rattle.contact.specs.Consistent.{inconsistency, refusalIn}
-use Rattle.contact.specs.Check.{contactFrom, Places}
+use Rattle.contact.specs.Check.{contactAt, checked, contactFrom, Places}
 use Rattle.contact.specs.declared.ContactAt.{ContactAt}
+use Rattle.contact.specs.declared.ContactCheck.{ContactCheck}
+use Rattle.contact.specs.declared.ContactCheck.the-variants.{Fields, Refused}
 use Rattle.contact.proofs.Consistent.{all-asked}
+use Rattle.contact.proofs.Placed.{keys-begin, chained-begin, numbers-begin}
 use Rattle.contact.proofs.check_contact.Statement.{statement}
 use Rattle.contact.proofs.check_contact.Tie as tie
 
@@ -128,9 +133,34 @@ c4 c =
 places : (c : tie.After-known-told4) → Places (row (s4 c)) (found c)
 places c = record { card = paired-found (t1 (t2 (t3 c))) .inside; chained = chained-found (t3 c) .inside; numbers = numbers-found c .inside }
 
+-- ---- what is answered
+abbrev check : (s : tie.After-shared-slice-known) → Read value.Contact → ContactCheck
+check s x = checked (version s) (answer x)
+
+stopped : (s : tie.After-shared-slice-known) {q : ℕ} → parse (contact (version s)) (row s) ≡ refused q → Refused q ≡ check s (parse (contact (version s)) (row s))
+stopped s stop = sym (ap (check s) stop)
+
+found-at : (c : tie.After-known-told4) → found c ≡ contactAt (version (s4 c)) (contactFrom (row (s4 c)) (found c))
+found-at c =
+    let v = contactFrom (row (s4 c)) (found c) in
+    let k1 = t1 (t2 (t3 c)) in
+    let k2 = t2 (t3 c) in
+    let k3 = t3 c in
+    let by = by (s4 c) in
+    let end1 = took-next _ _ (group paired) paired-lawful by (paired-found k1 .read) (omega arith) in
+    let end2 = took-next _ _ (group keys) keys-lawful by (keys-found k2 .read) (took _ _ (group paired) paired-lawful by (paired-found k1 .read) .inside) in
+    let end3 = took-next _ _ (group chained) chained-lawful by (chained-found k3 .read) (took _ _ (group keys) keys-lawful by (keys-found k2 .read) .inside) in
+    let at-keys : k1 .before .paired-field .given .0 .1 .0 ≡ offset (contact (version (s4 c))) 7 v = omega (arith, end1, keys-begin (version (s4 c)) v) in
+    let at-chained : k2 .before .keys-field .given .0 .1 .0 ≡ offset (contact (version (s4 c))) 13 v = omega (arith, end1, end2, chained-begin (version (s4 c)) v) in
+    let at-numbers : k3 .before .chained-field .given .0 .1 .0 ≡ offset (contact (version (s4 c))) 17 v = omega (arith, end1, end2, end3, numbers-begin (version (s4 c)) v) in
+    let its-keys = keys-found k2 .place ∙ ap (λ (n : ℕ). keysAt n (keysOf v)) at-keys in
+    let its-chained = chained-found k3 .place ∙ ap (λ (n : ℕ). chainedAt n (chainedOf v)) at-chained in
+    let its-numbers = numbers-found c .place ∙ ap (λ (n : ℕ). numbersAt n (numbersOf v)) at-numbers in
+    λ i. record { paired = paired-found k1 .place i; keys = its-keys i; chained = its-chained i; numbers = its-numbers i }
+
 -- ---- what is asked
 returns : tie.Need-returns
-returns c = (sym (ap answer (ask-no (start {l = contact (version (c .before))} {row = row (c .before)} {from = 0} .so) (ne-eqb _ _ (c .if1 .taken)))), tt)
+returns c = stopped (c .before) (ask-no (start {l = contact (version (c .before))} {row = row (c .before)} {from = 0} .so) (ne-eqb _ _ (c .if1 .taken)))
 
 paired-at-requires : tie.Need-paired-at-requires
 paired-at-requires c κs = search needs
@@ -149,7 +179,7 @@ returns-2 c =
     let told = c .before .enum-told .given .1 in
     let e = c .before .before .before .before in
     let stop = part-no paired pairedOf afterPaired (c0 e) (refused-at _ _ (group paired) (paired-refused (row (e .before)) (by (e .before)) 0 (c .before .before .before .paired-at .ensures) told)) in
-    (rw (c .refusal .ensures ∙ ap pairedRefusal told) (sym (ap answer stop)), tt)
+    rw (c .refusal .ensures ∙ ap pairedRefusal told) (stopped (e .before) stop)
 
 keys-at-requires : tie.Need-keys-at-requires
 keys-at-requires c κs = search needs
@@ -168,7 +198,7 @@ returns-3 c =
     let told = c .before .enum-told2 .given .1 in
     let k = c .before .before .before .before in
     let stop = part-no keys keysOf (afterKeys (pairedFrom (row (s1 k)) (p1 k))) (c1 k) (refused-at _ _ (group keys) (keys-refused (row (s1 k)) (by (s1 k)) _ (c .before .before .before .keys-at .ensures) told)) in
-    (rw (c .refusal2 .ensures ∙ ap keysRefusal told) (sym (ap answer stop)), tt)
+    rw (c .refusal2 .ensures ∙ ap keysRefusal told) (stopped (s1 k) stop)
 
 chained-at-requires : tie.Need-chained-at-requires
 chained-at-requires c κs = search needs
@@ -188,7 +218,7 @@ returns-4 c =
     let k = c .before .before .before .before in
     let stop = part-no chained chainedOf (afterChained (pairedFrom (row (s2 k)) (p1 (t1 k))) (keysFrom (row (s2 k)) (k2 k))) (c2 k)
     (refused-at _ _ (group chained) (chained-refused (row (s2 k)) (by (s2 k)) _ (c .before .before .before .chained-at .ensures) told)) in
-    (rw (c .refusal3 .ensures ∙ ap chainedRefusal told) (sym (ap answer stop)), tt)
+    rw (c .refusal3 .ensures ∙ ap chainedRefusal told) (stopped (s2 k) stop)
 
 numbers-at-requires : tie.Need-numbers-at-requires
 numbers-at-requires c κs = search needs
@@ -208,10 +238,10 @@ returns-5 c =
     let k = c .before .before .before .before in
     let stop = part-no numbers numbersOf (consistent (pairedFrom (row (s3 k)) (p1 (t1 (t2 k)))) (keysFrom (row (s3 k)) (k2 (t2 k))) (chainedFrom (row (s3 k)) (ch3 k))) (c3 k)
     (refused-at _ _ (group numbers) (numbers-refused (row (s3 k)) (by (s3 k)) _ (c .before .before .before .numbers-at .ensures) told)) in
-    (rw (c .refusal4 .ensures ∙ ap numbersRefusal told) (sym (ap answer stop)), tt)
+    rw (c .refusal4 .ensures ∙ ap numbersRefusal told) (stopped (s3 k) stop)
 
 returns-6 : tie.Need-returns-6
-returns-6 c = (sym (ap answer (end-no (c4 (c .before)) (c .if2 .taken))), tt)
+returns-6 c = stopped (s4 (c .before)) (end-no (c4 (c .before)) (c .if2 .taken))
 
 consistent-in-row-requires : tie.Need-consistent-in-row-requires
 consistent-in-row-requires c κs = places (c .before)
@@ -237,12 +267,14 @@ module _ (c : tie.After-consistent-in-row) where
       ∙ ap (λ (x : Option ℕ). said x v (drop (k4 .before .numbers-field .given .0 .1 .0) (row (s4 k4)))) e
 
 returns-7 : tie.Need-returns-7
-returns-7 c = let r = c .before .before in (sym (ap answer (said-last r none (learn refusalIn (r .consistent-in-row .ensures) (c .enum-told5 .given .1)))), places (k4 r))
+returns-7 c =
+    let r = c .before .before in
+    ap Fields (found-at (k4 r)) ∙ sym (ap (check (s4 (k4 r))) (said-last r none (learn refusalIn (r .consistent-in-row .ensures) (c .enum-told5 .given .1))))
 
 returns-8 : tie.Need-returns-8
 returns-8 c =
     let r = c .before .before .before in
-    (sym (ap answer (said-last r (some (c .before .verdict .given .0 .0)) (learn refusalIn (r .consistent-in-row .ensures) (c .before .verdict .given .1)))), tt)
+    stopped (s4 (k4 r)) (said-last r (some (c .before .verdict .given .0 .0)) (learn refusalIn (r .consistent-in-row .ensures) (c .before .verdict .given .1)))
 
 pub check-contact-spec : {M : Type 1} → statement M
 check-contact-spec =

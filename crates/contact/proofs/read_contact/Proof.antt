@@ -11,11 +11,12 @@ use Rattle.layout.specs.RowLaws.{Bytes}
 use Rattle.layout.proofs.At.{learn, typed}
 use Rattle.rows.specs.Rows.{contact}
 use Rattle.rows.specs.declared.Verdict.the-variants.{Accepted}
-use Rattle.contact.specs.Check.{contactFrom, Places, checkSays, checkRefusal, Placed}
+use Rattle.contact.specs.Check.{contactFrom, Places, checkRefusal}
 use Rattle.contact.specs.Contact.{Lists, lists, leaves, refusedBy}
 use Rattle.contact.specs.declared.ContactAt.{ContactAt}
 use Rattle.contact.specs.declared.ContactRead.{ContactRead}
 use Rattle.contact.proofs.Filling.{filling}
+use Rattle.contact.proofs.Placed.{checkSays, Placed, check-says, check-placed}
 use Rattle.contact.proofs.Read.{not-read, too-short, is-read, counts, counts-are, fillable}
 use Rattle.contact.proofs.read_contact.Statement.{statement}
 use Rattle.contact.proofs.read_contact.Tie as tie
@@ -34,6 +35,9 @@ by : (c : tie.After-check-contact) → Bytes (row c)
 by c = typed (row c) (c .before .before .before .before .before .before .shared-slice-known .given)
 
 -- ---- what the check found
+says : (c : tie.After-check-contact) → checkSays (row c) (c .check-contact .result) ≡ readRow (contact (start c .args .version)) (row c)
+says c = check-says (row c) (by c) (start c .args .version) (c .check-contact .ensures)
+
 abbrev checked : tie.After-known-told → tie.After-check-contact
 checked c = c .before .before .before
 
@@ -41,10 +45,10 @@ abbrev at : tie.After-known-told → ContactAt
 at c = c .before .check .given .0 .0
 
 accepted : (c : tie.After-known-told) → readRow (contact (start (checked c) .args .version)) (row (checked c)) ≡ answer.accepted (contactFrom (row (checked c)) (at c))
-accepted c = learn (checkSays (row (checked c))) (checked c .check-contact .ensures .0) (c .before .check .given .1)
+accepted c = learn (checkSays (row (checked c))) (says (checked c)) (c .before .check .given .1)
 
 places : (c : tie.After-known-told) → Places (row (checked c)) (at c)
-places c = subst (Placed (row (checked c))) (c .before .check .given .1) (checked c .check-contact .ensures .1)
+places c = subst (Placed (row (checked c))) (c .before .check .given .1) (check-placed (row (checked c)) (by (checked c)) (start (checked c) .args .version) (checked c .check-contact .ensures))
 
 -- ---- the lists are long enough
 abbrev told : tie.Else1 → tie.After-known-told
@@ -74,7 +78,7 @@ returns c =
     let told = c .before .before .enum-told .given .1 in
     let k = c .before .before .before .before in
     ap (λ (r : ContactRead). leaves r (lent k)) (c .refused .ensures ∙ ap refusedBy (c .before .refusal .ensures ∙ ap checkRefusal told))
-    ∙ sym (not-read _ (row k) (lent k) (learn (checkSays (row k)) (k .check-contact .ensures .0) told))
+    ∙ sym (not-read _ (row k) (lent k) (learn (checkSays (row k)) (says k) told))
 
 long-enough-requires : tie.Need-long-enough-requires
 long-enough-requires c κs = search needs

@@ -12,7 +12,8 @@ use Rattle.rows.specs.Rows.{contact}
 use Rattle.put.proofs.Put.{_then_, wrote-long}
 use Rattle.parts.specs.Parts.{paired, keys, chained, numbers}
 use Rattle.parts.specs.Places.{pairedFrom, numbersFrom}
-use Rattle.contact.specs.Check.{contactFrom, Places, Placed, checkSays, checkRefusal}
+use Rattle.contact.specs.Check.{contactFrom, Places, checkRefusal}
+use Rattle.contact.proofs.Placed.{Placed, checkSays, check-says, check-placed}
 use Rattle.contact.specs.declared.ContactAt.{ContactAt}
 use Rattle.veil_parts.specs.Veiled.{Stands, veiledKeys, veiledChained}
 use Rattle.veil_parts.proofs.Whole.{paired-stands, veiled-copy, copy-long, numbers-run}
@@ -37,11 +38,14 @@ at f = f .before .check .given .0 .0
 by : (f : tie.After-known-told) → Bytes (row f)
 by f = typed (row f) (checked f .before .before .shared-slice-known .given)
 
+says : (k : tie.After-check-contact) → let a = k .before .before .before .args in checkSays (a .row .now) (k .check-contact .result) ≡ readRow (contact (a .version)) (a .row .now)
+says k = let a = k .before .before .before .args in check-says (a .row .now) (typed (a .row .now) (k .before .before .shared-slice-known .given)) (a .version) (k .check-contact .ensures)
+
 read : (f : tie.After-known-told) → readRow (contact (start f .args .version)) (row f) ≡ accepted (contactFrom (row f) (at f))
-read f = learn (checkSays (row f)) (checked f .check-contact .ensures .0) (f .before .check .given .1)
+read f = learn (checkSays (row f)) (says (checked f)) (f .before .check .given .1)
 
 places : (f : tie.After-known-told) → Places (row f) (at f)
-places f = subst (Placed (row f)) (f .before .check .given .1) (checked f .check-contact .ensures .1)
+places f = subst (Placed (row f)) (f .before .check .given .1) (check-placed (row f) (by f) (start f .args .version) (checked f .check-contact .ensures))
 
 stands : (f : tie.After-known-told) → Stands paired (row f) 0 (pairedFrom (row f) (at f .paired))
 stands f = paired-stands (start f .args .version) (row f) (by f) (at f .paired) (at f .keys) (at f .chained) (at f .numbers) (read f)
@@ -70,7 +74,7 @@ returns c =
     let k = c .before .before .before in
     let a = k .before .before .before .args in
     let told = c .before .enum-told .given .1 in
-    rw (c .refusal .ensures ∙ ap checkRefusal told) (copy-refused (contact (a .version)) (a .row .now) (a .out .now) (learn (checkSays (a .row .now)) (k .check-contact .ensures .0) told))
+    rw (c .refusal .ensures ∙ ap checkRefusal told) (copy-refused (contact (a .version)) (a .row .now) (a .out .now) (learn (checkSays (a .row .now)) (says k) told))
 
 returns-2 : tie.Need-returns-2
 returns-2 c =
