@@ -4,6 +4,7 @@ use Prim.Native.Nat.{ℕ, _+_, _≤_}
 use mathlib.Core.List.{List}
 use mathlib.Core.Bool.{Bool, true, cond}
 use lib.ListN.{length, take, drop}
+use Rattle.layout.specs.Questions.{«COURIER_CONFIG»}
 use Rattle.layout.specs.Layout.{Answer, accepted, refusedBy}
 use Rattle.rows.specs.Values as value
 use Rattle.rows.specs.Checks.{courierAllowed}
@@ -18,8 +19,13 @@ use Rattle.device.specs.declared.DeviceCheck.the-variants as check
 abbrev pub configOf : Bool → ℕ → ℕ → CourierConfig
 configOf enabled copies lifetime = record { «lifetime_min» = lifetime; copies = copies; enabled = enabled }
 
-unfoldable pub newConfig : Bool → ℕ → ℕ → ConfigAnswer
-newConfig enabled copies lifetime = cond (courierAllowed copies lifetime) (config.Config (configOf enabled copies lifetime)) config.Refused
+abbrev pub configSays : ConfigAnswer → Answer CourierConfig
+configSays (config.Config c) = accepted c
+configSays config.Refused = refusedBy «COURIER_CONFIG»
+
+-- question 11, of settings that are in no row yet
+unfoldable pub newConfig : Bool → ℕ → ℕ → Answer CourierConfig
+newConfig enabled copies lifetime = cond (courierAllowed copies lifetime) (accepted (configOf enabled copies lifetime)) (refusedBy «COURIER_CONFIG»)
 
 abbrev pub defaultConfig : CourierConfig
 defaultConfig = configOf true 6 1440

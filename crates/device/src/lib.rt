@@ -9,7 +9,7 @@ use layout::question;
 ghost use mathlib.Core.Path.{_≡_};
 ghost use Rattle.layout.specs.Layout.{readRow};
 ghost use Rattle.rows.specs.Rows as layouts;
-ghost use Rattle.device.specs.Device.{newConfig, defaultConfig, checkSays, Placed, checkRefusal};
+ghost use Rattle.device.specs.Device.{configSays, newConfig, defaultConfig, checkSays, Placed, checkRefusal};
 
 // The device's courier settings: the envelope lifetime in minutes, the copy budget, and whether it carries at all.
 pub struct CourierConfig {
@@ -18,7 +18,7 @@ pub struct CourierConfig {
     pub enabled: bool,
 }
 
-// What CourierConfig::new answers.
+// What CourierConfig::new answers: the settings, or that question 11 refused them.
 pub enum ConfigAnswer {
     Config(CourierConfig),
     Refused,
@@ -39,9 +39,9 @@ impl CourierConfig {
 
     pub const DEFAULT_LIFETIME_MIN: u16 = 1440;
 
-    // Refused outside the limits.
+    // Question 11.
     pub fn new(enabled: bool, copies: u8, lifetime_min: u16) -> ConfigAnswer
-        ensures { λ r. ⌜ r ≡ newConfig enabled copies «lifetime_min» ⌝ }
+        ensures { λ r. ⌜ configSays r ≡ newConfig enabled copies «lifetime_min» ⌝ }
     {
         if copies < Self::MIN_COPIES {
             return ConfigAnswer::Refused;

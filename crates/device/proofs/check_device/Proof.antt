@@ -18,7 +18,7 @@ use Rattle.rows.specs.Checks.{courierAllowed}
 use Rattle.rows.specs.Rows.{device}
 use Rattle.fields.specs.Says.{Ends, runSays, u8Says, u16Says, u32Says, u64Says, flagSays, flagRefusal}
 use Rattle.fields.proofs.Runs.{run-took, run-short}
-use Rattle.device.specs.Device.{configOf}
+use Rattle.device.specs.Device.{configOf, configSays}
 use Rattle.device.specs.declared.CourierConfig.{CourierConfig}
 use Rattle.device.proofs.Config.{config-yes, config-no}
 use Rattle.device.proofs.check_device.Statement.{statement}
@@ -133,7 +133,7 @@ abbrev config : tie.After-known-told8 → CourierConfig
 config c = configOf (e5 c .before .carries .given .0 .0) (e6 c .before .copies .given .0 .0) (e7 c .before .lifetime-min .given .0 .0)
 
 allowed : (c : tie.After-known-told8) → (courierAllowed (config c .copies) (config c .«lifetime_min») ≡ true) × (c .before .courier .given .0 .0 ≡ config c)
-allowed c = config-yes _ _ _ (sym (c .before .before .before .new .ensures) ∙ c .before .courier .given .1)
+allowed c = config-yes _ _ _ (learn configSays (c .before .before .before .new .ensures) (c .before .courier .given .1))
 
 abbrev r8 : (c : tie.After-known-told8) → Read (s8 c)
 r8 c = ask-yes (r7 (c .before .before .before .before) .so) (allowed c .0)
@@ -258,7 +258,7 @@ enum-told-8 : tie.Need-enum-told-8
 enum-told-8 c = search needs
 
 returns-9 : tie.Need-returns-9
-returns-9 c = (sym (ap answer (ask-no (r7 (c .before .before .before) .so) (config-no _ _ _ (sym (c .before .before .new .ensures) ∙ c .enum-told8 .given .1)))), tt)
+returns-9 c = (sym (ap answer (ask-no (r7 (c .before .before .before) .so) (config-no _ _ _ (learn configSays (c .before .before .new .ensures) (c .enum-told8 .given .1))))), tt)
 
 returns-10 : tie.Need-returns-10
 returns-10 c = (sym (ap answer (end-no (r8 (c .before) .so) (c .if2 .taken))), tt)
