@@ -1,3 +1,4 @@
 pub mod Owned
+pub mod Else
 pub mod Thin
 pub mod Range

@@ -1,4 +1,4 @@
--- Two numbers, one behind the other, are a range.
+-- Two numbers, one behind the other, are a range; where either is refused, so is the range.
 -- Assumes nothing.
 use Prim.Native.Nat.{ℕ, _+_, _-_, _≤_}
 use mathlib.Core.List.{List}
@@ -18,10 +18,8 @@ use Rattle.layout.specs.Layout.{group}
 use Rattle.layout.proofs.At.{Took, takes-at, refuses-at, refused-at}
 use Rattle.layout.proofs.Steps.{Reached, start, field-yes, field-no, done-yes}
 use Rattle.rows.specs.Rows.{range}
-use Rattle.fields.specs.Says.{u32Says}
-use Rattle.fields.specs.declared.U32Field.{U32Field}
-use Rattle.fields.specs.declared.U32Field.the-variants.{Value, Short}
-use Rattle.reader.specs.Reader.{behind, rangeOf, rangeSays}
+use Rattle.reader.specs.Reader.{rangeSays}
+use Rattle.reader.specs.declared.RangeField.the-variants.{Value, Short}
 
 -- a number that was taken, whatever the row's bytes are
 module _ (row : List ℕ) (here : ℕ) where
@@ -42,12 +40,15 @@ module _ (row : List ℕ) (here : ℕ) where
       go false p e = absurd (let z : _≡_ {A = ℕ} 0 1 = cc in omega arith)
 
 module _ (row : List ℕ) (at : ℕ) where
-  pub range-read : (from to : U32Field) → u32Says from ≡ readAt u32 row at → u32Says to ≡ readAt u32 row (behind from) → rangeSays (rangeOf from to) ≡ readAt (group range) row at
-  range-read (Value x next) (Value y end) p q =
-      let t = u32-took row next q in
+  pub range-value : {x next y end : ℕ} → takes x next ≡ readAt u32 row at → takes y end ≡ readAt u32 row next → rangeSays (Value x y end) ≡ readAt (group range) row at
+  range-value p q =
+      let t = u32-took row _ q in
       sym (takes-at row at (group range) (done-yes (field-yes (field-yes (start .so) (u32-took row at p) .so) t .so)) (t .inside))
-  range-read (Value x next) Short p q =
-      sym (refuses-at row at (group range) (field-no (field-yes (start .so) (u32-took row at p) .so) (refused-at row next u32 (sym q))))
-  range-read Short to p q =
+
+  pub no-to : {x next : ℕ} → takes x next ≡ readAt u32 row at → refuses FIELD ≡ readAt u32 row next → rangeSays Short ≡ readAt (group range) row at
+  no-to p q = sym (refuses-at row at (group range) (field-no (field-yes (start .so) (u32-took row at p) .so) (refused-at row _ u32 (sym q))))
+
+  pub no-from : refuses FIELD ≡ readAt u32 row at → rangeSays Short ≡ readAt (group range) row at
+  no-from p =
       let r : Reached range row at = start in
       sym (refuses-at row at (group range) (field-no (r .so) (refused-at row at u32 (sym p))))

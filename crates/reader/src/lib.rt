@@ -1,4 +1,4 @@
-// The cursor of state.rs: a row and a position in it, passed by value and handed back at another position. It is private, as there; `range_at` reads through it.
+// The cursor of state.rs: a row and a position in it, passed by value and handed back at another position. It is private, as there; `range_at` reads through it, field by field up to the first refusal.
 use fields::U32Field;
 ghost use mathlib.Core.Path.{_≡_};
 ghost use Rattle.layout.specs.Form.{u32};
@@ -6,7 +6,7 @@ ghost use Rattle.layout.specs.Field.{readAt};
 ghost use Rattle.layout.specs.Layout.{group};
 ghost use Rattle.rows.specs.Rows.{range};
 ghost use Rattle.fields.specs.Says.{u32Says};
-ghost use Rattle.reader.specs.Reader.{behind, rangeOf, rangeSays};
+ghost use Rattle.reader.specs.Reader.{rangeSays};
 
 struct Reader<'a> {
     row: &'a [u8],
@@ -41,36 +41,16 @@ impl<'a> Reader<'a> {
     }
 }
 
-// The position behind a number; 0 where there is none.
-fn next_of(field: U32Field) -> usize
-    ensures { λ r. ⌜ r ≡ behind field ⌝ }
-{
-    match field {
-        U32Field::Value(_, next) => next,
-        U32Field::Short => 0,
-    }
-}
-
-// A range of two numbers, if both are there.
-fn both(from: U32Field, to: U32Field) -> RangeField
-    ensures { λ r. ⌜ r ≡ rangeOf from to ⌝ }
-{
-    let U32Field::Value(first, _) = from else {
-        return RangeField::Short;
-    };
-    let U32Field::Value(last, next) = to else {
-        return RangeField::Short;
-    };
-    RangeField::Value(first, last, next)
-}
-
 // The range at a position.
 pub fn range_at(row: &[u8], at: usize) -> RangeField
     ensures { λ r. ⌜ rangeSays r ≡ readAt (group range) (now (row .entry)) at ⌝ }
 {
     let reader = Reader::new(row).moved(at);
-    let from = reader.u32();
-    let behind = reader.moved(next_of(from));
-    let to = behind.u32();
-    both(from, to)
+    let U32Field::Value(from, behind) = reader.u32() else {
+        return RangeField::Short;
+    };
+    let U32Field::Value(to, next) = reader.moved(behind).u32() else {
+        return RangeField::Short;
+    };
+    RangeField::Value(from, to, next)
 }
