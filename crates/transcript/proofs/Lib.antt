@@ -1,2 +1,3 @@
 mod Lines
 mod Answers
+mod Ranges

@@ -1,14 +1,15 @@
--- The line that `replay` prints for the answer to a call: `= `, the answer's text, LF. An answer is six numbers (call_code/specs/Encoding.antt), and what
--- the call wrote stands at the front of the output.
+-- The lines that `replay` prints: `= `, a text, LF. The text of the answer to a call: an answer is six numbers (call_code/specs/Encoding.antt), and what
+-- the call wrote stands at the front of the output. The text of the state of an open contact.
 -- Assumes nothing.
 use Prim.Native.Nat.{ℕ, _-_}
 use mathlib.Core.List.{List, [], _∷_, _++_}
 use mathlib.Core.Bool.{cond}
-use lib.ListN.{take}
+use lib.ListN.{length, take}
 use lib.Dec.{eqb}
+use Rattle.rows.specs.Values.{Range}
 use Rattle.line.specs.Line.{LF, decimal}
 use Rattle.cases.specs.Text.{SPACE}
-use Rattle.script.specs.Hex.{hexOf}
+use Rattle.script.specs.Hex.{DASH, pairsOf, hexOf}
 use Rattle.call_code.specs.Encoding.{YES, ADVANCED, TRUTH, NUMBER, WROTE, SAID, NO}
 
 -- `=`
@@ -53,3 +54,24 @@ answerText tag a b out =
     (cond (eqb tag SAID) (take (a - 1) out)
     (cond (eqb tag NO) (noText ++ decimal a)
     (placeText a b)))))))
+
+-- ---- the state of an open contact: its id, its fields as a row in hexadecimal, and ranges of the list above contiguous
+-- `;`
+abbrev pub SEMICOLON : ℕ
+SEMICOLON = 0x3B
+
+-- `from-to`
+abbrev pub rangeText : Range → List ℕ
+rangeText r = decimal (r .from) ++ (DASH ∷ decimal (r .to))
+
+-- ranges, the first behind this mark, each other one behind `;`
+unfoldable pub listed : (mark : ℕ) → List Range → List ℕ
+listed mark [] = []
+listed mark (r ∷ rs) = (mark ∷ rangeText r) ++ listed SEMICOLON rs
+
+-- `-` for none
+abbrev pub rangesText : List Range → List ℕ
+rangesText rs = cond (eqb (length rs) 0) (SPACE ∷ DASH ∷ []) (listed SPACE rs)
+
+abbrev pub stateText : (id : ℕ) → (row : List ℕ) → (above : List Range) → List ℕ
+stateText id row above = decimal id ++ (SPACE ∷ (pairsOf row ++ rangesText above))

@@ -10,21 +10,28 @@ use layout::question;
 use rows::Written;
 ghost use mathlib.Core.Path.{_≡_};
 ghost use mathlib.Core.List.{[], _∷_, _++_};
-ghost use Prim.Native.Nat.{_-_, _≤_};
+ghost use Prim.Native.Nat.{_+_, _-_, _*_, _^_, _≤_, _<_};
 ghost use lib.ListN.{length};
+ghost use lib.Dec.{leb};
 ghost use Rattle.layout.specs.Write.{stored};
 ghost use Rattle.rows.specs.Answers.{leaves};
 ghost use Rattle.put.specs.Put.{Wrote};
+ghost use Rattle.received.specs.Ranges.{range};
+ghost use Rattle.received.specs.Lent.{pairs};
 ghost use Rattle.line.specs.Line.{decimal};
 ghost use Rattle.cases.specs.Text.{SPACE};
 ghost use Rattle.script.specs.Hex.{hexOf};
-ghost use Rattle.transcript.specs.Transcript.{EQUALS, lineOf, truthText, placeText, answerText};
+ghost use Rattle.transcript.specs.Transcript.{EQUALS, lineOf, truthText, placeText, answerText, rangeText, listed, rangesText, stateText};
 
 const EQUALS: u8 = b'=';
 
 const SPACE: u8 = b' ';
 
 const LF: u8 = b'\n';
+
+const DASH: u8 = b'-';
+
+const SEMICOLON: u8 = b';';
 
 // How many bytes stand around a text.
 const AROUND: usize = 3;
@@ -148,4 +155,128 @@ pub fn answer_line(tag: u64, a: u64, b: u64, bytes: &[u8], out: &mut [u8]) -> Wr
         return number_line(b"no ", a, out);
     }
     place_line(a, b, out)
+}
+
+// ---- the state of an open contact
+
+fn wide(x: u32) -> u64
+    ensures { λ r. ⌜ (r ≡ x) × (r < 2 ^ 32) ⌝ }
+{
+    x as u64
+}
+
+// The length of a range and the mark before it.
+fn range_len(from: u64, to: u64) -> usize
+    ensures { λ r. ⌜ (r ≡ length (SPACE ∷ rangeText (range from to))) × (r ≤ 42) ⌝ }
+{
+    line::decimal_len(from) + line::decimal_len(to) + 2
+}
+
+// Whether there is room for the text of some ranges.
+fn listed_fit(above: &[u32], count: usize, room: usize) -> bool
+    requires { ⌜ 2 * count ≤ length (now above) ⌝ }
+    ensures { λ r. ⌜ r ≡ leb (length (listed SPACE (pairs count (now (above .entry))))) room ⌝ }
+{
+    let mut left = room;
+    let mut i = 0;
+    while i < count {
+        let from = wide(above[2 * i]);
+        let to = wide(above[2 * i + 1]);
+        let n = range_len(from, to);
+        if left < n {
+            return false;
+        }
+        left -= n;
+        i += 1;
+    }
+    true
+}
+
+fn ranges_fit(above: &[u32], count: usize, room: usize) -> bool
+    requires { ⌜ 2 * count ≤ length (now above) ⌝ }
+    ensures { λ r. ⌜ r ≡ leb (length (rangesText (pairs count (now (above .entry))))) room ⌝ }
+{
+    if count == 0 {
+        return 2 <= room;
+    }
+    listed_fit(above, count, room)
+}
+
+fn put_range(out: &mut [u8], at: usize, mark: u8, from: u64, to: u64) -> usize
+    requires { ⌜ at + length (mark ∷ rangeText (range from to)) ≤ length (now out) ⌝ }
+    ensures { λ r. ⌜ (r ≡ at + length (mark ∷ rangeText (range from to))) × Wrote (now (out .entry)) at (mark ∷ rangeText (range from to)) (now (out .exit)) r ⌝ }
+{
+    let from_at = put::put_byte(out, at, mark);
+    let dash_at = line::put_decimal(out, from_at, from);
+    let to_at = put::put_byte(out, dash_at, DASH);
+    line::put_decimal(out, to_at, to)
+}
+
+fn put_listed(out: &mut [u8], at: usize, above: &[u32], count: usize) -> usize
+    requires { ⌜ (2 * count ≤ length (now above)) × (at + length (listed SPACE (pairs count (now above))) ≤ length (now out)) ⌝ }
+    ensures { λ r. ⌜ (r ≡ at + length (listed SPACE (pairs count (now (above .entry))))) × Wrote (now (out .entry)) at (listed SPACE (pairs count (now (above .entry)))) (now (out .exit)) r ⌝ }
+{
+    let mut mark = SPACE;
+    let mut here = at;
+    let mut i = 0;
+    while i < count {
+        let from = wide(above[2 * i]);
+        let to = wide(above[2 * i + 1]);
+        here = put_range(out, here, mark, from, to);
+        mark = SEMICOLON;
+        i += 1;
+    }
+    here
+}
+
+fn put_ranges(out: &mut [u8], at: usize, above: &[u32], count: usize) -> usize
+    requires { ⌜ (2 * count ≤ length (now above)) × (at + length (rangesText (pairs count (now above))) ≤ length (now out)) ⌝ }
+    ensures { λ r. ⌜ (r ≡ at + length (rangesText (pairs count (now (above .entry))))) × Wrote (now (out .entry)) at (rangesText (pairs count (now (above .entry)))) (now (out .exit)) r ⌝ }
+{
+    if count == 0 {
+        return put::put_run(out, at, b" -", 0, 2);
+    }
+    put_listed(out, at, above, count)
+}
+
+// The line with so many ranges, which are there, where there is room for it.
+fn write_state(id: u64, row: &[u8], above: &[u32], count: usize, out: &mut [u8]) -> Written
+    requires { ⌜ (2 * count ≤ length (now above)) × (length (stateText id (now row) (pairs count (now above))) + 3 ≤ length (now out)) ⌝ }
+    ensures { λ r. ⌜ leaves r (now (out .exit)) ≡ stored (lineOf (stateText id (now (row .entry)) (pairs count (now (above .entry))))) (now (out .entry)) ⌝ }
+{
+    let at = begin(out);
+    let space_at = line::put_decimal(out, at, id);
+    let row_at = put::put_byte(out, space_at, SPACE);
+    let ranges_at = script::put_pairs(out, row_at, row);
+    let end = put_ranges(out, ranges_at, above, count);
+    Written::Length(put::put_byte(out, end, LF))
+}
+
+fn opened_line(id: u64, row: &[u8], above: &[u32], count: usize, out: &mut [u8]) -> Written
+    requires { ⌜ 2 * count ≤ length (now above) ⌝ }
+    ensures { λ r. ⌜ leaves r (now (out .exit)) ≡ stored (lineOf (stateText id (now (row .entry)) (pairs count (now (above .entry))))) (now (out .entry)) ⌝ }
+{
+    let fixed = line::decimal_len(id) + 1 + AROUND;
+    if out.len() < fixed {
+        return Written::Refused(question::OUTPUT);
+    }
+    let room = out.len() - fixed;
+    if room / 2 < row.len() {
+        return Written::Refused(question::OUTPUT);
+    }
+    if ranges_fit(above, count, room - 2 * row.len()) {
+        return write_state(id, row, above, count, out);
+    }
+    Written::Refused(question::OUTPUT)
+}
+
+// The line of `state` where a contact is open: its id, its row, and so many pairs of the list above contiguous, or as many as there are.
+pub fn state_line(id: u64, row: &[u8], above: &[u32], count: usize, out: &mut [u8]) -> Written
+    ensures { λ r. ⌜ leaves r (now (out .exit)) ≡ stored (lineOf (stateText id (now (row .entry)) (pairs count (now (above .entry))))) (now (out .entry)) ⌝ }
+{
+    let lent = above.len() / 2;
+    if lent < count {
+        return opened_line(id, row, above, lent, out);
+    }
+    opened_line(id, row, above, count, out)
 }
