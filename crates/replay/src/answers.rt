@@ -13,56 +13,26 @@ use libc::STDOUT_FILENO;
 use rows::Written;
 use session::Session;
 
-pub fn print(written: Written, line: &[u8]) {
-    if let Written::Length(n) = written {
-        io::write_all(STDOUT_FILENO, first(line, n));
-    }
+// What a line leaves: the session, and the line that is to be printed.
+pub struct Answered {
+    pub session: Session,
+    pub said: Written,
 }
 
-fn wide(n: u32) -> u64 {
-    n as u64
-}
-
-// The i-th pair; `;` stands before it, if it is not the first.
-fn print_pair(above: &[u32], i: usize) {
-    let at = 2 * least(i, above.len() / 2);
-    let to = at + 1;
-    if to < above.len() {
-        if 0 < i {
-            io::write_all(STDOUT_FILENO, b";");
-        }
-        io::print_decimal(STDOUT_FILENO, wide(above[at]));
-        io::write_all(STDOUT_FILENO, b"-");
-        io::print_decimal(STDOUT_FILENO, wide(above[to]));
-    }
-}
-
-fn print_places(above: &[u32], count: usize) {
-    if count == 0 {
-        io::write_all(STDOUT_FILENO, b"-");
-    }
-    let mut i = 0;
-    while i < count {
-        print_pair(above, i);
-        i += 1;
-    }
-}
-
-fn print_text(text: &[u8], line: &mut [u8]) {
-    let written = transcript::text_line(text, line);
-    print(written, line);
-}
-
-fn print_row(size: Written, row: &[u8], line: &mut [u8]) {
-    let Written::Length(n) = size else {
-        return;
+// Whether the line was printed whole. A write that fails is said to have failed.
+pub fn print(written: Written, line: &[u8]) -> bool {
+    let Written::Length(n) = written else {
+        return true;
     };
-    let written = script::hex(first(row, n), line);
-    print(written, line);
+    if io::write_all(STDOUT_FILENO, first(line, n)) {
+        return true;
+    }
+    os::fail(b"standard output");
+    false
 }
 
 // The open contact, its fields as a row, and the places of the list above contiguous that were written.
-fn print_opened(
+fn opened_state(
     id: u64,
     contact: Contact,
     written: usize,
@@ -72,7 +42,7 @@ fn print_opened(
     unacked: &[u32],
     expired: &[u32],
     line: &mut [u8],
-) {
+) -> Written {
     let mut row = [0u8; 131072];
     let size = contact_row::write_contact(
         contact,
@@ -83,16 +53,13 @@ fn print_opened(
         expired,
         &mut row,
     );
-    io::write_all(STDOUT_FILENO, b"= ");
-    io::print_decimal(STDOUT_FILENO, id);
-    io::write_all(STDOUT_FILENO, b" ");
-    print_row(size, &row, line);
-    io::write_all(STDOUT_FILENO, b" ");
-    print_places(above, written);
-    io::write_all(STDOUT_FILENO, b"\n");
+    match size {
+        Written::Length(n) => transcript::state_line(id, first(&row, n), above, written, line),
+        Written::Refused(number) => transcript::number_line(b"no ", number as u64, line),
+    }
 }
 
-fn print_state(
+fn state(
     session: Session,
     written: usize,
     chains: &[u8],
@@ -101,14 +68,13 @@ fn print_state(
     unacked: &[u32],
     expired: &[u32],
     line: &mut [u8],
-) {
+) -> Written {
     let mark = session.mark;
     let contact = session.contact;
     let Mark::Opened(id) = mark else {
-        print_text(b"none", line);
-        return;
+        return transcript::text_line(b"none", line);
     };
-    print_opened(
+    opened_state(
         id.0,
         contact,
         written,
@@ -118,7 +84,7 @@ fn print_state(
         unacked,
         expired,
         line,
-    );
+    )
 }
 
 // The call that a line is, in the lent parts of the memory.
@@ -134,7 +100,7 @@ fn make_call(
     expired: &mut [u32],
     out: &mut [u8],
     line: &mut [u8],
-) -> Session {
+) -> Answered {
     let calls = [s.code, s.a, s.b, s.c, s.d, 0];
     let mut answers = [0u64; call_code::ANSWER];
     let c = least(s.chains, chains.len());
@@ -157,8 +123,10 @@ fn make_call(
         &mut answers,
     );
     let said = transcript::answer_line(answers[0], answers[1], answers[2], out, line);
-    print(said, line);
-    after
+    Answered {
+        session: after,
+        said,
+    }
 }
 
 // What a line asks for.
@@ -174,25 +142,30 @@ pub fn answer(
     expired: &mut [u32],
     out: &mut [u8],
     line: &mut [u8],
-) -> Session {
+) -> Answered {
     if s.code == NOTHING {
-        return session;
+        return Answered {
+            session,
+            said: Written::Length(0),
+        };
     }
     if s.code == BEGIN {
-        return session::begin();
+        let begun = session::begin();
+        return Answered {
+            session: begun,
+            said: Written::Length(0),
+        };
     }
     if s.code == UNKNOWN {
-        let unknown = transcript::number_line(b"? ", s.number, line);
-        print(unknown, line);
-        return session;
+        let said = transcript::number_line(b"? ", s.number, line);
+        return Answered { session, said };
     }
     if s.code == SHOW {
         let said = transcript::answer_line(s.a, s.b, s.c, out, line);
-        print(said, line);
-        return session;
+        return Answered { session, said };
     }
     if s.code == STATE {
-        print_state(
+        let said = state(
             session,
             s.written,
             chains,
@@ -202,7 +175,7 @@ pub fn answer(
             expired,
             line,
         );
-        return session;
+        return Answered { session, said };
     }
     make_call(
         session,

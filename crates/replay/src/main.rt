@@ -193,8 +193,11 @@ impl Script {
     }
 }
 
-// A restore whose lines are not all there ends at the first that is missing.
-fn finish(s: Script, line: &mut [u8]) {
+// A restore whose lines are not all there ends at the first that is missing, unless it is not known what comes, since a read failed.
+fn finish(s: Script, failed: bool, line: &mut [u8]) {
+    if failed {
+        return;
+    }
     if 0 < s.left {
         let number = std::num::wrapping_add_u64(s.number, 1);
         let unknown = transcript::number_line(b"? ", number, line);
@@ -205,6 +208,15 @@ fn finish(s: Script, line: &mut [u8]) {
 struct Left {
     session: Session,
     s: Script,
+    // behind a line that is none, or that could not be printed
+    over: bool,
+}
+
+fn ends(code: u64, printed: bool) -> bool {
+    if printed {
+        return code == UNKNOWN;
+    }
+    true
 }
 
 // What a line asks for, where there is one.
@@ -224,10 +236,14 @@ fn turn(
     line: &mut [u8],
 ) -> Left {
     if w.found != LINE {
-        return Left { session, s };
+        return Left {
+            session,
+            s,
+            over: false,
+        };
     }
     let asked = one_line(s, line_in(w, text), run, places, out);
-    let after = answer(
+    let answered = answer(
         session,
         asked,
         run,
@@ -240,11 +256,15 @@ fn turn(
         out,
         line,
     );
+    let said = answered.said;
+    let printed = print(said, line);
+    let after = answered.session;
     let mark = after.mark;
     let next = asked.after(after.first, pairs_open(mark, after.contact.above));
     Left {
         session: after,
         s: next,
+        over: ends(next.code, printed),
     }
 }
 
@@ -269,7 +289,7 @@ fn replay(
         turns -= 1;
         w = look(w, text);
         if w.found == END {
-            finish(s, line);
+            finish(s, w.failed, line);
             return;
         }
         let t = turn(
@@ -291,7 +311,7 @@ fn replay(
         session = after;
         let next = t.s;
         s = next;
-        if next.code == UNKNOWN {
+        if t.over {
             return;
         }
     }
@@ -337,11 +357,11 @@ fn numbers() -> [u32; 15360]
     [0; 15360]
 }
 
-// The text of a row of 131,072 bytes, with what stands around it.
-fn longest_line() -> [u8; 262400]
-    ensures { λ r. ⌜ 262400 ≡ length r ⌝ }
+// The text of a row of 131,072 bytes and of 7,680 pairs, with what stands around it.
+fn longest_line() -> [u8; 431360]
+    ensures { λ r. ⌜ 431360 ≡ length r ⌝ }
 {
-    [0; 262400]
+    [0; 431360]
 }
 
 fn main() {

@@ -21,6 +21,8 @@ pub struct Window {
     pub found: u8,
     // the input has no more
     over: bool,
+    // a read failed, so that the input has no end: what is held is no line
+    pub failed: bool,
     // the rest of a line that was too long comes first
     passing: bool,
 }
@@ -34,6 +36,7 @@ impl Window {
             end: 0,
             found: NOT_YET,
             over: false,
+            failed: false,
             passing: false,
         }
     }
@@ -61,6 +64,11 @@ impl Window {
     fn finds(mut self, found: u8) -> Window {
         self.found = found;
         self
+    }
+
+    fn fails(mut self) -> Window {
+        self.failed = true;
+        self.finds(END)
     }
 
     fn holds(mut self, held: usize, over: bool) -> Window {
@@ -92,6 +100,10 @@ fn read_more(w: Window, text: &mut [u8], at: usize, held: usize) -> Window
 {
     let from = move_front(text, at, held);
     let got = libc::read(STDIN_FILENO, &mut text[from..]);
+    if got < 0 {
+        os::fail(b"standard input");
+        return w.fails();
+    }
     let more = io::count(got, &text[from..]);
     w.holds(from + more, more == 0)
 }

@@ -72,11 +72,19 @@ fn read_all(chunk: &mut [u8], run: &mut [u8], places: &mut [u64]) -> Reading {
     reading
 }
 
+// A text that could not be written whole is said to be so.
+fn write_out(text: &[u8]) {
+    if io::write_all(STDOUT_FILENO, text) {
+        return;
+    }
+    os::fail(b"standard output");
+}
+
 // The output is long enough for every text, so there is no refusal.
 fn print(text: &[u8], written: Written) {
     if let Written::Length(n) = written {
         if n <= text.len() {
-            io::write_all(STDOUT_FILENO, &text[..n]);
+            write_out(&text[..n]);
         }
     }
 }

@@ -17,11 +17,17 @@ one-line-requires c κs = search needs
 answer-requires : tie.Need-answer-requires
 answer-requires c κs = search needs
 
+print-requires : tie.Need-print-requires
+print-requires c κs = search needs
+
 pairs-open-requires : tie.Need-pairs-open-requires
 pairs-open-requires c κs = search needs
 
 after-requires : tie.Need-after-requires
 after-requires c κs = search needs
+
+ends-requires : tie.Need-ends-requires
+ends-requires c κs = search needs
 
 same-length : tie.Need-same-length
 same-length c =
@@ -67,8 +73,10 @@ turn-spec =
     line-in-requires
     one-line-requires
     answer-requires
+    print-requires
     pairs-open-requires
     after-requires
+    ends-requires
     same-length
     same-length-2
     same-length-3
