@@ -20,7 +20,7 @@ pub struct Answered {
 }
 
 // Whether the line was printed whole. A write that fails is said to have failed.
-pub fn print(written: Written, line: &[u8]) -> bool {
+pub(super) fn print(written: Written, line: &[u8]) -> bool {
     let Written::Length(n) = written else {
         return true;
     };
@@ -130,7 +130,7 @@ fn make_call(
 }
 
 // What a line asks for.
-pub fn answer(
+pub(super) fn answer(
     session: Session,
     s: Script,
     run: &[u8],
@@ -193,7 +193,7 @@ pub fn answer(
 }
 
 // How many pairs above contiguous the open contact has.
-pub fn pairs_open(mark: Mark, count: usize) -> usize {
+pub(super) fn pairs_open(mark: Mark, count: usize) -> usize {
     let Mark::Opened(_) = mark else {
         return 0;
     };

@@ -296,7 +296,7 @@ fn is_passed(b: u8) -> bool {
     b == b'='
 }
 
-pub fn one_line(
+pub(super) fn one_line(
     s: Script,
     line: &[u8],
     run: &mut [u8],

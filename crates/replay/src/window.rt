@@ -28,7 +28,7 @@ pub struct Window {
 }
 
 impl Window {
-    pub fn new() -> Window {
+    pub(super) fn new() -> Window {
         Window {
             at: 0,
             held: 0,
@@ -109,7 +109,7 @@ fn read_more(w: Window, text: &mut [u8], at: usize, held: usize) -> Window
 }
 
 // Looks for the next line, and reads once where there is none.
-pub fn look(w: Window, text: &mut [u8]) -> Window {
+pub(super) fn look(w: Window, text: &mut [u8]) -> Window {
     let held = least(w.held, text.len());
     let at = least(w.at, held);
     let n = cases::until(&text[at..held], b'\n');
@@ -131,7 +131,7 @@ pub fn look(w: Window, text: &mut [u8]) -> Window {
     read_more(w, text, at, held)
 }
 
-pub fn line_in(w: Window, text: &[u8]) -> &[u8] {
+pub(super) fn line_in(w: Window, text: &[u8]) -> &[u8] {
     let end = least(w.end, text.len());
     let start = least(w.start, end);
     &text[start..end]
