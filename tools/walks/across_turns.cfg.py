@@ -7,5 +7,6 @@ next = "(one-more {i} upto {less}, {told})"
 ends = "at-last (now run) (now entries) aside {i} upto {s} {over} {so}"
 uses = [
     "use Rattle.across.specs.At.{At}",
-    "use Rattle.restore.proofs.Across.{none-yet, within, one-more, at-last}",
+    "use Rattle.restore.proofs.Rounds.{within}",
+    "use Rattle.restore.proofs.Across.{none-yet, one-more, at-last}",
 ]

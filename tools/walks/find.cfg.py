@@ -1,5 +1,10 @@
 crate = "entries"
 fn = "find"
-requires = {"r": "not-above from upto end is-end"}
-ends = "is-r ∙ ap (firstOf (now entries) wanted from) (as-many from upto end is-end)"
-uses = ["use Rattle.store.specs.Find.{firstOf}", "use Rattle.entries.proofs.Looking.{not-above, as-many}"]
+invariant = "Looking (now entries) wanted upto (firstOf (now entries) wanted from (upto - from)) {i} {s}"
+start = "begins (now entries) wanted from upto (asks .0)"
+requires = "inside {i} {s} upto (length (now entries)) {less} ({so} .within) (asks .1)"
+next = "turned (now entries) wanted upto (firstOf (now entries) wanted from (upto - from)) {i} {s} {next} {so} {less} {told}"
+measure = "{s} - {i}"
+nearer = "nearer (now entries) wanted {i} {s} {next} {less} {told}"
+ends = "{so} .ended {over}"
+uses = ["use Rattle.store.specs.Find.{firstOf}", "use Rattle.entries.proofs.Looking.{Looking, begins, turned, nearer, inside}"]

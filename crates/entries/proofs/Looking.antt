@@ -1,6 +1,6 @@
--- What holds before each turn of `find_below`: the entries from the i-th on and below `hi` are still to be looked at, or the search has ended at `hi`.
+-- What holds before each turn of `find`: the entries from the i-th on and below `hi` are still to be looked at, or the search has ended at `hi`.
 -- Assumes nothing.
-use Prim.Native.Nat.{ℕ, suc, _+_, _-_, _≤_, _<_, max}
+use Prim.Native.Nat.{ℕ, suc, _+_, _-_, _≤_, _<_}
 use native.Mathlib.Omega.{arith}
 use mathlib.Core.List.{List}
 use mathlib.Core.Bool.{Bool, true, false, cond}
@@ -10,26 +10,29 @@ use Rattle.store.specs.declared.Wanted.{Wanted}
 use Rattle.store.specs.Store.{entryAt}
 use Rattle.store.specs.Find.{isWanted, narrowedTo, firstOf}
 
-pub record Looking (es : List Entry) (w : Wanted) (found i hi : ℕ) : Type 0 where
+pub record Looking (es : List Entry) (w : Wanted) (upto found i hi : ℕ) : Type 0 where
+  pub within : hi ≤ upto
   pub ahead : i < hi → firstOf es w i (hi - i) ≡ found
   pub ended : hi ≤ i → hi ≡ found
 
 module _ (es : List Entry) (w : Wanted) where
-  pub begins : (from upto : ℕ) → from ≤ upto → Looking es w (firstOf es w from (upto - from)) from upto
+  pub begins : (from upto : ℕ) → from ≤ upto → Looking es w upto (firstOf es w from (upto - from)) from upto
   begins from upto l = record {
+    within = omega arith;
     ahead = λ p. refl;
     ended = λ p. let none : upto - from ≡ 0 = omega (arith, p) in let same : upto ≡ from = omega (arith, p, l) in same ∙ sym (ap (firstOf es w from) none);
   }
 
   -- a turn ends the search, or goes on with one entry fewer
-  pub turned : (found i hi next : ℕ) → Looking es w found i hi → i < hi → next ≡ narrowedTo (entryAt es i) w i hi → Looking es w found (i + 1) next
-  turned found i hi next k l e = go (isWanted w (entryAt es i)) refl e
+  pub turned : (upto found i hi next : ℕ) → Looking es w upto found i hi → i < hi → next ≡ narrowedTo (entryAt es i) w i hi → Looking es w upto found (i + 1) next
+  turned upto found i hi next k l e = go (isWanted w (entryAt es i)) refl e
     where
       first : firstOf es w i (suc (hi - (i + 1))) ≡ found
       first = let n : suc (hi - (i + 1)) ≡ hi - i = omega (arith, l) in ap (firstOf es w i) n ∙ k .ahead l
 
-      go : (b : Bool) → isWanted w (entryAt es i) ≡ b → next ≡ cond b i hi → Looking es w found (i + 1) next
+      go : (b : Bool) → isWanted w (entryAt es i) ≡ b → next ≡ cond b i hi → Looking es w upto found (i + 1) next
       go true t n = record {
+        within = let m = k .within in omega (arith, n, m, l);
         ahead = λ p. absurd (omega (arith, n, p));
         ended = λ p. n ∙ (ap (λ b. cond b i (firstOf es w (suc i) (hi - (i + 1)))) (sym t) ∙ first);
       }
@@ -37,6 +40,7 @@ module _ (es : List Entry) (w : Wanted) where
           let later : firstOf es w (suc i) (hi - (i + 1)) ≡ found = ap (λ b. cond b i (firstOf es w (suc i) (hi - (i + 1)))) (sym t) ∙ first in
           let after : i + 1 ≡ suc i = omega arith in
           record {
+            within = let m = k .within in omega (arith, n, m);
             ahead = λ p. (λ j. firstOf es w (after j) (n j - (i + 1))) ∙ later;
             ended = λ p. let none : hi - (i + 1) ≡ 0 = omega (arith, n, p) in let same : next ≡ suc i = omega (arith, n, p, l) in same ∙ (sym (ap (firstOf es w (suc i)) none) ∙ later);
           }
@@ -48,9 +52,6 @@ module _ (es : List Entry) (w : Wanted) where
       go true n = omega (arith, n, l)
       go false n = omega (arith, n, l)
 
--- ---- up to the later of the two
-pub not-above : (from upto end : ℕ) → end ≡ max from upto → from ≤ end
-not-above from upto end e = omega (arith, e)
-
-pub as-many : (from upto end : ℕ) → end ≡ max from upto → end - from ≡ upto - from
-as-many from upto end e = omega (arith, e)
+-- where the turn looks there is an entry
+pub inside : (i hi upto n : ℕ) → i < hi → hi ≤ upto → upto ≤ n → i < n
+inside i hi upto n l m u = omega arith

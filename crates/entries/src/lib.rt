@@ -2,27 +2,17 @@
 use store::Entry;
 use store::Wanted;
 ghost use mathlib.Core.Path.{_≡_};
-ghost use Prim.Native.Nat.{_-_, _≤_, max};
+ghost use Prim.Native.Nat.{_-_, _≤_, _<_};
 ghost use lib.ListN.{length, set};
 ghost use Rattle.store.specs.Store.{entryAt};
 ghost use Rattle.store.specs.Find.{isWanted, narrowedTo, firstOf};
 ghost use Rattle.entries.specs.Next.{nextIn};
 
-// The entry at an index; past the end all zeros.
 pub fn entry_at(entries: &[Entry], i: usize) -> Entry
+    requires { ⌜ i < length (now entries) ⌝ }
     ensures { λ r. ⌜ r ≡ entryAt (now (entries .entry)) i ⌝ }
 {
-    if i < entries.len() {
-        return entries[i];
-    }
-    Entry {
-        id: 0,
-        start: 0,
-        len: 0,
-        msgno: 0,
-        version: 0,
-        kind: 0,
-    }
+    entries[i]
 }
 
 pub fn entry_count(entries: &[Entry]) -> usize
@@ -65,14 +55,16 @@ fn narrowed(e: Entry, wanted: Wanted, i: usize, upto: usize) -> usize
 }
 
 fn narrowed_at(entries: &[Entry], wanted: Wanted, i: usize, upto: usize) -> usize
+    requires { ⌜ i < length (now entries) ⌝ }
     ensures { λ r. ⌜ r ≡ narrowedTo (entryAt (now (entries .entry)) i) wanted i upto ⌝ }
 {
     let e = entry_at(entries, i);
     narrowed(e, wanted, i, upto)
 }
 
-fn find_below(entries: &[Entry], wanted: Wanted, from: usize, upto: usize) -> usize
-    requires { ⌜ from ≤ upto ⌝ }
+// The first of the entries from `from` on, below `upto`, that is wanted; `upto` where none is.
+pub fn find(entries: &[Entry], wanted: Wanted, from: usize, upto: usize) -> usize
+    requires { ⌜ (from ≤ upto) × (upto ≤ length (now entries)) ⌝ }
     ensures { λ r. ⌜ r ≡ firstOf (now (entries .entry)) wanted from (upto - from) ⌝ }
 {
     let mut i = from;
@@ -82,18 +74,4 @@ fn find_below(entries: &[Entry], wanted: Wanted, from: usize, upto: usize) -> us
         i = i + 1;
     }
     hi
-}
-
-fn later(a: usize, b: usize) -> usize
-    ensures { λ r. ⌜ r ≡ max a b ⌝ }
-{
-    if a <= b { b } else { a }
-}
-
-// The first of the entries from `from` on, below `upto`, that is wanted; `upto` where none is, and `from` where there are none to look at. Those past the end are all zeros.
-pub fn find(entries: &[Entry], wanted: Wanted, from: usize, upto: usize) -> usize
-    ensures { λ r. ⌜ r ≡ firstOf (now (entries .entry)) wanted from (upto - from) ⌝ }
-{
-    let end = later(from, upto);
-    find_below(entries, wanted, from, end)
 }

@@ -55,6 +55,7 @@ fn before(i: usize) -> usize
 }
 
 fn turn_at(run: &[u8], entries: &[Entry], aside: Aside, round: u8, i: usize, asked: Asked) -> Asked
+    requires { ⌜ i < length (now entries) ⌝ }
     ensures { λ r. ⌜ r ≡ turn (roundOf round (now (run .entry)) (now (entries .entry)) aside i) i asked ⌝ }
 {
     let j = before(i);
@@ -65,6 +66,7 @@ fn turn_at(run: &[u8], entries: &[Entry], aside: Aside, round: u8, i: usize, ask
 
 // A round of the entries below `upto`.
 fn turns(run: &[u8], entries: &[Entry], aside: Aside, round: u8, upto: usize, asked: Asked) -> Asked
+    requires { ⌜ upto ≤ length (now entries) ⌝ }
     ensures { λ r. ⌜ r ≡ turns (roundOf round (now (run .entry)) (now (entries .entry)) aside) 0 upto asked ⌝ }
 {
     let mut i = 0;
@@ -78,6 +80,7 @@ fn turns(run: &[u8], entries: &[Entry], aside: Aside, round: u8, upto: usize, as
 
 // Where the contact of a queued row stands, below `upto`: from the kept spot on, then from the start. `upto` where there is none.
 fn owner_at(entries: &[Entry], e: Entry, upto: usize, spot: usize) -> usize
+    requires { ⌜ upto ≤ length (now entries) ⌝ }
     ensures { λ r. ⌜ r ≡ ownerOf (now (entries .entry)) e upto spot ⌝ }
 {
     let wanted = across::contact_of(e);

@@ -57,6 +57,7 @@ fn contact_next(e: Entry, id: u64, sought: Sought) -> Sought
 }
 
 fn contact_at(entries: &[Entry], id: u64, i: usize, sought: Sought) -> Sought
+    requires { ⌜ i < length (now entries) ⌝ }
     ensures { λ r. ⌜ r ≡ soughtNext id sought (entryAt (now (entries .entry)) i) ⌝ }
 {
     let e = entries::entry_at(entries, i);
@@ -108,7 +109,7 @@ fn queued_next(e: Entry, id: u64, queued: u64) -> u64
 }
 
 fn queued_at(entries: &[Entry], id: u64, i: usize, queued: u64) -> u64
-    requires { ⌜ queued < 2 ^ 64 - 1 ⌝ }
+    requires { ⌜ (i < length (now entries)) × (queued < 2 ^ 64 - 1) ⌝ }
     ensures { λ r. ⌜ r ≡ queuedNext id queued (entryAt (now (entries .entry)) i) ⌝ }
 {
     let e = entries::entry_at(entries, i);
@@ -196,6 +197,7 @@ fn among_at(
     i: usize,
     found: bool,
 ) -> bool
+    requires { ⌜ i < length (now entries) ⌝ }
     ensures { λ r. ⌜ r ≡ amongNext id (take count (now (unacked .entry))) found (entryAt (now (entries .entry)) i) ⌝ }
 {
     let e = entries::entry_at(entries, i);

@@ -41,7 +41,8 @@ use denote.Triple.Walked.{says, needs, Stays, walkOf, Walks, ends-at, walked, wa
 use Rattle.walks.proofs.Walk.{untok, retok, gone, rest-of, drops, drops-go}
 use Rattle.walks.proofs.Held.{Held, number, of-enum, vals, Lies, holds, empty, plus, lends, none, calls-held, into, local}
 use Rattle.across.specs.At.{At}
-use Rattle.restore.proofs.Across.{none-yet, within, one-more, at-last}
+use Rattle.restore.proofs.Rounds.{within}
+use Rattle.restore.proofs.Across.{none-yet, one-more, at-last}
 use Rattle.across.specs.declared.Across.{Across}
 use Rattle.across.proofs.Across as AcrossT
 use Rattle.across.proofs.Across.Laws as AcrossL

@@ -226,7 +226,7 @@ module _ {M : Type 1} (𝓤 : URA M) (H : Heap 𝓤) (A : Atoms 𝓤) (W : Given
           -- ordered is restore::turns(run, entries, aside, 1, n, begun)
           nothing ! $ plus ! as-Asked begun in-begun $ plus ! as-w64 n in-n $ plus ! as-w8 1 (refl, lit< tt) $ plus ! as-Aside aside in-aside $
           lends ! 3 (named 1) κ₁ EntryT.the-row entries refl $ lends ! 2 (named 0) κ₀ (UInt w8) run refl $ move ! (2 ∷ 1 ∷ 0 ∷ []) $
-          calls-held ! fm turns.ended (turns.clauses 𝓤 H A mem calling) (known .turns) (to-ordered n begun) (id⊢ 𝓤 _) as-Asked (λ r ws. id⊢ 𝓤 _)
+          calls-held ! fm turns.ended (turns.clauses 𝓤 H A mem calling) (known .turns) (to-ordered n begun) (factI 𝓤 _ (emp 𝓤) (all-places n (now entries) is-n)) as-Asked (λ r ws. id⊢ 𝓤 _)
           (and-then ! (local ! (look ! 21 refl)) (and-then ! (local ! (look ! 19 refl))
           (and-then ! (local ! (look ! 17 refl)) (and-then ! (lit ! tt) (and-then ! (local ! (look ! 15 refl)) (and-then ! (local ! (look ! 13 refl)) (no-more !)))))))
           (λ ordered is-ordered in-ordered.
@@ -234,7 +234,8 @@ module _ {M : Type 1} (𝓤 : URA M) (H : Heap 𝓤) (A : Atoms 𝓤) (W : Given
           -- bounded is restore::turns(run, entries, aside, 2, n, ordered)
           nothing ! $ plus ! as-Asked ordered in-ordered $ plus ! as-w64 n in-n $ plus ! as-w8 2 (refl, lit< tt) $ plus ! as-Aside aside in-aside $
           lends ! 3 (named 1) κ₁ EntryT.the-row entries refl $ lends ! 2 (named 0) κ₀ (UInt w8) run refl $ move ! (1 ∷ 2 ∷ 0 ∷ []) $
-          calls-held ! fm turns.ended (turns.clauses 𝓤 H A mem calling) (known .turns) (to-bounded n begun ordered) (id⊢ 𝓤 _) as-Asked (λ r ws. id⊢ 𝓤 _)
+          calls-held ! fm turns.ended (turns.clauses 𝓤 H A mem calling) (known .turns) (to-bounded n begun ordered) (factI 𝓤 _ (emp 𝓤) (all-places n (now entries) is-n)) as-Asked
+          (λ r ws. id⊢ 𝓤 _)
           (and-then ! (local ! (look ! 21 refl)) (and-then ! (local ! (look ! 19 refl))
           (and-then ! (local ! (look ! 17 refl)) (and-then ! (lit ! tt) (and-then ! (local ! (look ! 15 refl)) (and-then ! (local ! (look ! 11 refl)) (no-more !)))))))
           (λ bounded is-bounded in-bounded.
@@ -242,7 +243,8 @@ module _ {M : Type 1} (𝓤 : URA M) (H : Heap 𝓤) (A : Atoms 𝓤) (W : Given
           -- read is restore::turns(run, entries, aside, 3, n, bounded)
           nothing ! $ plus ! as-Asked bounded in-bounded $ plus ! as-w64 n in-n $ plus ! as-w8 3 (refl, lit< tt) $ plus ! as-Aside aside in-aside $
           lends ! 3 (named 1) κ₁ EntryT.the-row entries refl $ lends ! 2 (named 0) κ₀ (UInt w8) run refl $ move ! (1 ∷ 2 ∷ 0 ∷ []) $
-          calls-held ! fm turns.ended (turns.clauses 𝓤 H A mem calling) (known .turns) (to-read n begun ordered bounded) (id⊢ 𝓤 _) as-Asked (λ r ws. id⊢ 𝓤 _)
+          calls-held ! fm turns.ended (turns.clauses 𝓤 H A mem calling) (known .turns) (to-read n begun ordered bounded) (factI 𝓤 _ (emp 𝓤) (all-places n (now entries) is-n)) as-Asked
+          (λ r ws. id⊢ 𝓤 _)
           (and-then ! (local ! (look ! 21 refl)) (and-then ! (local ! (look ! 19 refl))
           (and-then ! (local ! (look ! 17 refl)) (and-then ! (lit ! tt) (and-then ! (local ! (look ! 15 refl)) (and-then ! (local ! (look ! 9 refl)) (no-more !)))))))
           (λ read is-read in-read.

@@ -1,9 +1,0 @@
-crate = "entries"
-fn = "find_below"
-invariant = "Looking (now entries) wanted (firstOf (now entries) wanted from (upto - from)) {i} {s}"
-start = "begins (now entries) wanted from upto asks"
-next = "turned (now entries) wanted (firstOf (now entries) wanted from (upto - from)) {i} {s} {next} {so} {less} {told}"
-measure = "{s} - {i}"
-nearer = "nearer (now entries) wanted {i} {s} {next} {less} {told}"
-ends = "{so} .ended {over}"
-uses = ["use Rattle.store.specs.Find.{firstOf}", "use Rattle.entries.proofs.Looking.{Looking, begins, turned, nearer}"]
