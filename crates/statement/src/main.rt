@@ -10,6 +10,8 @@ use sheet::State;
 use text::TEXT_BYTES;
 ghost use mathlib.Core.Path.{_≡_};
 ghost use lib.ListN.{length};
+ghost use Rattle.sheet.specs.Machine.{atLine, held};
+ghost use Rattle.statement.specs.Pieces.{ReadOne, ReadAll};
 
 // How many numbers there are places for.
 const PLACES: usize = PLACE * LINES;
@@ -21,7 +23,9 @@ struct Reading {
     failed: bool,
 }
 
-fn begin() -> Reading {
+fn begin() -> Reading
+    ensures { λ r. ⌜ r .state ≡ atLine 0 0 ⌝ }
+{
     let state = sheet::begin();
     Reading {
         state,
@@ -49,7 +53,9 @@ fn text_bytes() -> [u8; TEXT_BYTES]
 }
 
 // One piece more.
-fn read_some(state: State, chunk: &mut [u8], run: &mut [u8], places: &mut [u64]) -> Reading {
+fn read_some(state: State, chunk: &mut [u8], run: &mut [u8], places: &mut [u64]) -> Reading
+    ensures { λ r. ⌜ ReadOne (now (chunk .exit)) (held state (now (run .entry)) (now (places .entry))) (held (r .state) (now (run .exit)) (now (places .exit))) (r .more) ⌝ }
+{
     let got = libc::read(STDIN_FILENO, chunk);
     let n = io::count(got, chunk);
     let next = sheet::read_chunk(state, &chunk[..n], run, places);
@@ -61,13 +67,19 @@ fn read_some(state: State, chunk: &mut [u8], run: &mut [u8], places: &mut [u64])
 }
 
 // A proved loop has to end, and nothing says that the input does. So the loop counts its turns down, from a number that no run uses up.
-fn read_all(chunk: &mut [u8], run: &mut [u8], places: &mut [u64]) -> Reading {
+fn read_all(chunk: &mut [u8], run: &mut [u8], places: &mut [u64]) -> Reading
+    ensures { λ r. ⌜ ReadAll (held (atLine 0 0) (now (run .entry)) (now (places .entry))) (held (r .state) (now (run .exit)) (now (places .exit))) (r .more) ⌝ }
+{
     let mut reading = begin();
     let mut turns = u64::MAX;
-    while turns > 0 && reading.more {
-        let state = reading.state;
-        reading = read_some(state, chunk, run, places);
-        turns -= 1;
+    while turns > 0 {
+        if reading.more {
+            let state = reading.state;
+            reading = read_some(state, chunk, run, places);
+            turns -= 1;
+        } else {
+            return reading;
+        }
     }
     reading
 }

@@ -1,13 +1,18 @@
--- `statement::read_all` is safe and ends. The measure is the number of turns that are left.
+-- `statement::read_all` meets its contract. The invariant: what was read is pieces (`Reads`), and all that is lent has its length. The measure is the number of turns
+-- that are left.
 -- Assumes nothing.
-use mathlib.Core.Path.{_≡_}
+use mathlib.Core.Path.{_≡_, refl}
+use native.Mathlib.Omega.{arith}
 use lib.ListN.{length}
+use Rattle.sheet.specs.Machine.{atLine, held}
+use Rattle.statement.proofs.Pieces.{Reads, reads-start, reads-turn, reads-over, reads-all}
 use borrow.Author.Needs.{needs}
 use Rattle.statement.proofs.read_all.Statement.{statement}
 use Rattle.statement.proofs.read_all.Tie as tie
 
 abbrev Inv-loop : tie.InvT-loop
-Inv-loop chunk₀ run₀ places₀ reading₀ turns₀ chunk run places reading turns = (length chunk ≡ length chunk₀) × (length run ≡ length run₀) × (length places ≡ length places₀)
+Inv-loop chunk₀ run₀ places₀ reading₀ turns₀ chunk run places reading turns =
+    (length chunk ≡ length chunk₀) × (length run ≡ length run₀) × (length places ≡ length places₀) × Reads (held (atLine 0 0) run₀ places₀) (held (reading .state) run places) turns
 
 abbrev μ-loop : tie.MeasureT-loop
 μ-loop chunk₀ run₀ places₀ reading₀ turns₀ chunk run places reading turns = turns
@@ -16,7 +21,7 @@ begin-requires : tie.Need-begin-requires Inv-loop μ-loop
 begin-requires c κs = search needs
 
 loop-holds : tie.Need-loop-holds Inv-loop μ-loop
-loop-holds c = search needs
+loop-holds c = let a = c .before .before .before .before .args in (refl, refl, refl, reads-start (a .run .now) (a .places .now) (c .begin .ensures) refl)
 
 read-some-requires : tie.Need-read-some-requires Inv-loop μ-loop
 read-some-requires c κs = search needs
@@ -28,7 +33,10 @@ loop-less : tie.Need-loop-less Inv-loop μ-loop
 loop-less c = search needs
 
 loop-again : tie.Need-loop-again Inv-loop μ-loop
-loop-again c = search needs
+loop-again c =
+    let r = c .before .before .before .before .before .before in
+    let l = r .before .before .before .before .before .before .before in
+    (search needs, search needs, search needs, reads-turn (l .loop .inv .3) (r .read-some .ensures) (omega arith))
 
 same-length : tie.Need-same-length Inv-loop μ-loop
 same-length c = search needs
@@ -40,7 +48,7 @@ same-length-3 : tie.Need-same-length-3 Inv-loop μ-loop
 same-length-3 c = search needs
 
 returns : tie.Need-returns Inv-loop μ-loop
-returns c = search needs
+returns c = reads-over (c .before .before .loop .inv .3) (c .if1 .left)
 
 same-length-4 : tie.Need-same-length-4 Inv-loop μ-loop
 same-length-4 c = search needs
@@ -52,7 +60,7 @@ same-length-6 : tie.Need-same-length-6 Inv-loop μ-loop
 same-length-6 c = search needs
 
 returns-2 : tie.Need-returns-2 Inv-loop μ-loop
-returns-2 c = search needs
+returns-2 c = reads-all (c .before .loop .inv .3) (omega arith)
 
 pub read-all-spec : {M : Type 1} → statement M
 read-all-spec =
