@@ -12,6 +12,11 @@ pub struct Program<'a> {
 impl Program<'_> {
     /// What it prints to standard output, and how it ends where that is not with 0.
     pub fn run(&self, input: &[u8]) -> Vec<u8> {
+        self.run_in(&[input])
+    }
+
+    /// The same, of an input that is written piece by piece, with time for each to be read before the next.
+    pub fn run_in(&self, pieces: &[&[u8]]) -> Vec<u8> {
         let (name, arguments) = self.words.split_first().expect("a program has a name");
         let mut child = Command::new(name)
             .args(arguments)
@@ -22,7 +27,12 @@ impl Program<'_> {
         let mut stdin = child.stdin.take().expect("it is piped");
         let ended = std::thread::scope(|scope| {
             // It may end before it has read everything: what it printed is compared, not this.
-            scope.spawn(move || stdin.write_all(input));
+            scope.spawn(move || {
+                pieces.iter().try_for_each(|piece| {
+                    std::thread::yield_now();
+                    stdin.write_all(piece)
+                })
+            });
             child.wait_with_output()
         });
         let ended = ended.expect("it can be waited for");

@@ -9,6 +9,9 @@ use crate::statement;
 use std::collections::BTreeMap;
 use std::io::Write;
 
+/// A sheet is handed to the program in at most so many pieces, and what is left.
+const PIECES: usize = 8;
+
 /// So many sheets for each of TIMES.
 const SHEETS: usize = 2_000;
 const SHOWN: usize = 3;
@@ -123,19 +126,33 @@ fn same(model: &str, rust: &str) -> bool {
     model == rust || unnumbered || model.starts_with("R,33,")
 }
 
+/// A sheet in some pieces, of a byte up to all of it.
+fn pieces<'a>(random: &mut Random, sheet: &'a [u8]) -> Vec<&'a [u8]> {
+    let mut rest = sheet;
+    let mut all = Vec::new();
+    while !rest.is_empty() && all.len() < PIECES {
+        let (piece, behind) = rest.split_at(1 + random.below(rest.len()));
+        all.push(piece);
+        rest = behind;
+    }
+    all.push(rest);
+    all
+}
+
 fn shown(sheet: &[u8], other: &str, due: &str) -> String {
     let sheet = String::from_utf8_lossy(sheet);
     format!("{sheet}\n# due:\n{due}# but:\n{other}")
 }
 
-/// One run of the program for each sheet.
+/// One run of the program for each sheet, which it is handed in pieces.
 pub fn check(seed: u64, times: u64, program: Program) -> bool {
+    let mut random = Random::new(seed);
     let mut due = Due::default();
     let mut different = 0;
     each(seed, times, |made| {
         let model = sheet_model::statement(&made.sheet);
         due.count(&model);
-        if program.run(&made.sheet) != model.as_bytes() {
+        if program.run_in(&pieces(&mut random, &made.sheet)) != model.as_bytes() {
             different += 1;
             if different <= SHOWN {
                 show(program, made.sheet);
