@@ -1,6 +1,5 @@
 -- Two runs of a list of calls, in memory that stands for states that are alike.
 -- Assumes nothing.
-use Prim.Native.Nat.{ℕ}
 use mathlib.Core.List.{List, [], _∷_}
 use mathlib.Core.Path.{_≡_, refl, sym, ap, ap₂, _∙_}
 use Rattle.put.specs.Put.{put}

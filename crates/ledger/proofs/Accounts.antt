@@ -5,10 +5,8 @@ use mathlib.Core.List.{List, []}
 use mathlib.Core.Bool.{Bool, true, false, cond, true≢false}
 use mathlib.Core.Path.{_≡_}
 use lib.ListN.{length}
-use Rattle.store.specs.declared.Entry.{Entry}
-use Rattle.store.specs.Veiled.{VeilEqual, ContactAlike}
 use Rattle.ledger.specs.Call.{Answer, granted, advanced, truth, number, wrote, said, refused, refusedAt}
-use Rattle.ledger.specs.Ledger.{Open, Ledger, nothing, restored, opened, Account, plain, current}
+use Rattle.ledger.specs.Ledger.{Ledger, Account, plain}
 use Rattle.ledger.specs.Two.{RowsAlike, LedgersAlike}
 
 -- a row is written where the answer is a length

@@ -12,7 +12,7 @@ use Rattle.ledger.specs.Step.{step}
 use Rattle.ledger.specs.Ledger.{Ledger, nothing, Account, ledger}
 use Rattle.ledger.specs.Legal.{Typed, Handed, Legal, lastLeft}
 use Rattle.ledger.specs.Agree.{AgreesAll}
-use Rattle.ledger.specs.Stands.{SoundLedger, StandsFor, LastLeft}
+use Rattle.ledger.specs.Stands.{SoundLedger, StandsFor}
 use Rattle.ledger.specs.Two.{stores, same, Paired, LedgersAlike}
 use Rattle.ledger.specs.Replay.{replay, answers, ledgerAnswers, AllAlike, AllTyped, Agreed, AgreedAlike}
 use Rattle.ledger.proofs.Again.{handed-again}
