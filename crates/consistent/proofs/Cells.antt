@@ -14,7 +14,8 @@ use Rattle.layout.specs.Field.{takes, placed, readAt}
 use Rattle.layout.specs.Field as field
 use Rattle.layout.proofs.Lawful.{split}
 use Rattle.layout.proofs.Wrapped.{inner}
-use Rattle.lists.specs.Lists.{ended, items, itemsOf, Stands}
+use Rattle.reader.specs.Reader.{ended}
+use Rattle.lists.specs.Lists.{items, itemsOf, Stands}
 use Rattle.lists.specs.Lists as lists
 use Rattle.lists.specs.Places.{readPlaces, placesOf}
 use Rattle.lists.specs.Places as places

@@ -18,7 +18,8 @@ use Rattle.layout.proofs.Lawful.{Lawful}
 use Rattle.layout.proofs.At.{Took, took, takes-at, took-next, bytes-drop}
 use Rattle.put.specs.Put.{put, Wrote}
 use Rattle.put.proofs.Put.{Writing, writing-start, writing-step, writing-done}
-use Rattle.lists.specs.Lists.{ended, items, itemsOf, Stands}
+use Rattle.reader.specs.Reader.{ended}
+use Rattle.lists.specs.Lists.{items, itemsOf, Stands}
 use Rattle.lists.specs.Lists as lists
 use Rattle.lists.specs.Places.{printPlaces}
 use Rattle.lists.specs.Places as places

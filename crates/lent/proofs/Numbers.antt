@@ -16,7 +16,8 @@ use Rattle.layout.specs.Field.{takes, placed}
 use Rattle.layout.specs.Field as field
 use Rattle.rows.specs.Values.{Range}
 use Rattle.rows.specs.Rows.{range}
-use Rattle.lists.specs.Lists.{ended, items, itemsOf, Stands}
+use Rattle.reader.specs.Reader.{ended}
+use Rattle.lists.specs.Lists.{items, itemsOf, Stands}
 use Rattle.lists.specs.Lists as lists
 use Rattle.received.specs.Ranges as received
 use Rattle.received.specs.Lent.{pairs, flat}

@@ -16,10 +16,11 @@ use Rattle.layout.proofs.Lawful.{Lawful}
 use Rattle.layout.proofs.At.{Took, took, fits-at, refused-at, takes-at, refuses-at, learn}
 use Rattle.layout.proofs.Parts.{times-lawful}
 use Rattle.layout.proofs.Steps.{list-yes, list-no, list-no-count}
-use Rattle.lists.specs.Lists.{ended, endSays, foundAt, listSays, ListedAt, items, itemsOf, Listed}
+use Rattle.reader.specs.Reader.{ended, endSays}
+use Rattle.lists.specs.Lists.{foundAt, listSays, ListedAt, items, itemsOf, Listed}
 use Rattle.lists.specs.Lists as lists
-use Rattle.lists.specs.declared.EndField.{EndField}
-use Rattle.lists.specs.declared.EndField.the-variants.{Value, Refused}
+use Rattle.reader.specs.declared.EndField.{EndField}
+use Rattle.reader.specs.declared.EndField.the-variants.{Value, Refused}
 use Rattle.lists.specs.declared.ListField.{ListField}
 
 module _ {B : Type 0} (f : Form B) (row : List ℕ) where

@@ -7,19 +7,11 @@ use lib.ListN.{length, drop}
 use Rattle.layout.specs.Read.{Read, value, refused}
 use Rattle.layout.specs.Form.{Form, readMany, times}
 use Rattle.layout.specs.Field.{Field, takes, refuses, readAt}
-use Rattle.lists.specs.declared.EndField.{EndField}
-use Rattle.lists.specs.declared.EndField.the-variants as end
+use Rattle.reader.specs.declared.EndField.{EndField}
+use Rattle.reader.specs.declared.EndField.the-variants as end
+use Rattle.reader.specs.Reader.{ended}
 use Rattle.lists.specs.declared.ListField.{ListField}
 use Rattle.lists.specs.declared.ListField.the-variants as list
-
--- a field's end, whatever its value
-abbrev pub ended : {A : Type 0} → Field A → Field (Unit {0})
-ended (takes a next) = takes tt next
-ended (refuses q) = refuses q
-
-abbrev pub endSays : EndField → Field (Unit {0})
-endSays (end.Value next) = takes tt next
-endSays (end.Refused q) = refuses q
 
 -- a list of `count` items from `first` on, once its end was found
 abbrev pub foundAt : EndField → ℕ → ℕ → ListField

@@ -7,6 +7,7 @@ use fields::U16Field;
 use fields::U32Field;
 use fields::U64Field;
 use layout::question;
+use reader::EndField;
 use reader::RangeField;
 ghost use mathlib.Core.Path.{_≡_};
 ghost use Prim.Native.Nat.{_≤_};
@@ -15,13 +16,8 @@ ghost use Rattle.layout.specs.Form.{times, u32};
 ghost use Rattle.layout.specs.Field.{readAt};
 ghost use Rattle.layout.specs.Layout.{group, list};
 ghost use Rattle.rows.specs.Rows.{chain, skipped, range};
-ghost use Rattle.lists.specs.Lists.{ended, endSays, foundAt, listSays, listRefusal, ListedAt};
-
-// The position after an item, or after several.
-pub enum EndField {
-    Value(usize),
-    Refused(u8),
-}
+ghost use Rattle.reader.specs.Reader.{ended, endSays};
+ghost use Rattle.lists.specs.Lists.{foundAt, listSays, listRefusal, ListedAt};
 
 // The items of a list: from first up to next.
 pub struct ListAt {

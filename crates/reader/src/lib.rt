@@ -19,6 +19,12 @@ pub enum RangeField {
     Short,
 }
 
+// The position after an item, or after several.
+pub enum EndField {
+    Value(usize),
+    Refused(u8),
+}
+
 impl<'a> Reader<'a> {
     // At the row's start.
     fn new(row: &'a [u8]) -> Reader<'a>

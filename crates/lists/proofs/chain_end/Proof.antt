@@ -15,7 +15,7 @@ use Rattle.rows.specs.Rows.{chain, dir}
 use Rattle.rows.proofs.Lawful.{dir-lawful}
 use Rattle.fields.specs.Says.{u8Says, u64Says, dirSays, dirRefusal, flagSays, flagRefusal}
 use Rattle.fields.proofs.Runs.{run-took, run-short}
-use Rattle.lists.specs.Lists.{ended}
+use Rattle.reader.specs.Reader.{ended}
 use Rattle.lists.proofs.chain_end.Statement.{statement}
 use Rattle.lists.proofs.chain_end.Tie as tie
 

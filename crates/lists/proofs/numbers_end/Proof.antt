@@ -10,7 +10,7 @@ use Rattle.layout.specs.Field.{readAt}
 use Rattle.layout.proofs.At.{took, refused-at, learn, typed}
 use Rattle.layout.proofs.Front.{number-lawful}
 use Rattle.fields.specs.Says.{u32Says}
-use Rattle.lists.specs.Lists.{ended}
+use Rattle.reader.specs.Reader.{ended}
 use Rattle.lists.proofs.Ends.{one-more, no-more, none-left}
 use Rattle.lists.proofs.numbers_end.Statement.{statement}
 use Rattle.lists.proofs.numbers_end.Tie as tie

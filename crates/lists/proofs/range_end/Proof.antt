@@ -2,8 +2,7 @@
 use mathlib.Core.Path.{sym, ap}
 use borrow.Author.Needs.{needs}
 use Rattle.layout.proofs.At.{learn}
-use Rattle.reader.specs.Reader.{rangeSays}
-use Rattle.lists.specs.Lists.{ended}
+use Rattle.reader.specs.Reader.{rangeSays, ended}
 use Rattle.lists.proofs.range_end.Statement.{statement}
 use Rattle.lists.proofs.range_end.Tie as tie
 

@@ -14,7 +14,7 @@ use Rattle.rows.specs.Rows.{skipped, dir}
 use Rattle.rows.proofs.Lawful.{dir-lawful}
 use Rattle.fields.specs.Says.{u8Says, u32Says, u64Says, dirSays, dirRefusal}
 use Rattle.fields.proofs.Runs.{run-took, run-short}
-use Rattle.lists.specs.Lists.{ended}
+use Rattle.reader.specs.Reader.{ended}
 use Rattle.lists.proofs.skipped_end.Statement.{statement}
 use Rattle.lists.proofs.skipped_end.Tie as tie
 
