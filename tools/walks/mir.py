@@ -154,6 +154,16 @@ def operand(term):
     return ("other", str(term))
 
 
+def arms(term):
+    """The bodies of a switch's arms, in order."""
+    return [term[2], *arms(term[3])] if isinstance(term, list) and term[0] == "arm" else []
+
+
+def field_of(value):
+    """Which field of an enum's variant is copied, counted behind the tag."""
+    return int(items(value[1][1][2])[-1][1]) - 1
+
+
 def function(text, path):
     """The function of that path, of a program's MIR; None if it has none. Only this function is parsed: a program is large."""
     begin = text.find(f'(fn-def "{path}"')

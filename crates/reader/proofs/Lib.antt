@@ -1,4 +1,5 @@
 pub mod Owned
 pub mod Else
 pub mod Thin
+pub mod Took
 pub mod Range

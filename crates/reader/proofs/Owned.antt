@@ -4,7 +4,7 @@
 --     opens            what a Reader owns gives what its row owns
 --     shuts            what a row owns gives what a Reader of it owns, at any position
 --     lends-at         the same where the row is lent and stays: one more of a callee's parameters (Held.antt's `lends`)
---     known            a Reader of which the row and the position are known is that one
+--     known, known-is  a Reader of which the row and the position are known is that one; and so is a number
 -- Assumes `Given`.
 use mathlib.Core.Path.{_≡_, refl, sym, subst}
 use Prim.Native.Nat.{ℕ, _<_, _^_}
@@ -45,6 +45,9 @@ readerAt row at = record { row = row; at = at }
 
 pub known : (row : RefT (List ℕ)) (at : ℕ) (P : Reader → Type 1) → P (readerAt row at) → (r : Reader) → (r .row ≡ row) × (r .at ≡ at) → P r
 known row at P is r e = subst P (λ i. readerAt (sym (e .0) i) (sym (e .1) i)) is
+
+pub known-is : (n : ℕ) (P : ℕ → Type 1) → P n → (m : ℕ) → m ≡ n → P m
+known-is n P is m e = subst P (sym e) is
 
 pub typed : {M : Type 1} {𝓤 : URA M} {H : Heap 𝓤} {A : Atoms 𝓤} → Given 𝓤 H A → (ℓ : Lifetime) (κ : Lft) (r : Reader) → Is (Cursor κ) r (vals r) → Holds (hasTy (laws.mir ℓ) (laws.lowered r)) × WT (laws.lowered r)
 typed {𝓤 = 𝓤} {H = H} {A = A} W ℓ κ r is = struct-laws.lawful (reader.the-type (at-lft ℓ κ)) (laws.the-laws (at-lft ℓ κ)) 𝓤 H A W .typed r (vals r) is .0
