@@ -73,29 +73,6 @@ fn chain_end(row: &[u8], at: usize) -> EndField
     EndField::Value(at5)
 }
 
-// A skipped key: gen, dir, idx, key, created_s.
-fn skipped_end(row: &[u8], at: usize) -> EndField
-    ensures { λ r. ⌜ endSays r ≡ ended (readAt (group skipped) (now (row .entry)) at) ⌝ }
-{
-    let U8Field::Value(_gen, at1) = fields::byte_at(row, at) else {
-        return EndField::Refused(question::FIELD);
-    };
-    let dir = fields::dir_at(row, at1);
-    let DirField::Value(_dir, at2) = dir else {
-        return EndField::Refused(dir.refusal());
-    };
-    let U32Field::Value(_idx, at3) = fields::u32_at(row, at2) else {
-        return EndField::Refused(question::FIELD);
-    };
-    let RunField::Value(_key, at4) = fields::run_at(row, at3, 32) else {
-        return EndField::Refused(question::FIELD);
-    };
-    let U64Field::Value(_created_s, at5) = fields::u64_at(row, at4) else {
-        return EndField::Refused(question::FIELD);
-    };
-    EndField::Value(at5)
-}
-
 // n chains from a position.
 fn chains_end(row: &[u8], at: usize, n: usize) -> EndField
     requires { ⌜ at ≤ length (now row) ⌝ }
@@ -122,7 +99,7 @@ fn skipped_ends(row: &[u8], at: usize, n: usize) -> EndField
     let mut p = at;
     let mut i: usize = 0;
     while i < n {
-        let item = skipped_end(row, p);
+        let item = reader::skipped_end(row, p);
         let EndField::Value(next) = item else {
             return item;
         };

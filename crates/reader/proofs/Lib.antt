@@ -3,3 +3,4 @@ pub mod Else
 pub mod Thin
 pub mod Took
 pub mod Range
+pub mod Skipped

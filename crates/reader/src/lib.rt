@@ -1,4 +1,4 @@
-// The cursor of state.rs: a row and a position in it, passed by value and handed back at another position. It is private, as there; `range_at` reads through it, field by field up to the first refusal.
+// The cursor of state.rs: a row and a position in it, passed by value and handed back at another position. It is private, as there; `range_at` and `skipped_end` read through it, field by field up to the first refusal.
 use fields::DirField;
 use fields::FlagField;
 use fields::RunField;
@@ -13,9 +13,9 @@ ghost use Rattle.layout.specs.Veil.{plain};
 ghost use Rattle.layout.specs.Form.{bytes, u8, u16, u32, u64, flag, noMore};
 ghost use Rattle.layout.specs.Field.{readAt};
 ghost use Rattle.layout.specs.Layout.{group};
-ghost use Rattle.rows.specs.Rows.{dir, range};
+ghost use Rattle.rows.specs.Rows.{dir, range, skipped};
 ghost use Rattle.fields.specs.Says.{runSays, Ends, u8Says, u16Says, u32Says, u64Says, flagSays, dirSays};
-ghost use Rattle.reader.specs.Reader.{rangeSays, endSays};
+ghost use Rattle.reader.specs.Reader.{rangeSays, ended, endSays};
 
 struct Reader<'a> {
     row: &'a [u8],
@@ -122,4 +122,28 @@ pub fn range_at(row: &[u8], at: usize) -> RangeField
         return RangeField::Short;
     };
     RangeField::Value(from, to, next)
+}
+
+// Where a skipped key ends: gen, dir, idx, key, created_s.
+pub fn skipped_end(row: &[u8], at: usize) -> EndField
+    ensures { λ r. ⌜ endSays r ≡ ended (readAt (group skipped) (now (row .entry)) at) ⌝ }
+{
+    let reader = Reader::new(row).moved(at);
+    let U8Field::Value(_, behind_gen) = reader.byte() else {
+        return EndField::Refused(question::FIELD);
+    };
+    let dir = reader.moved(behind_gen).dir();
+    let DirField::Value(_, behind_dir) = dir else {
+        return EndField::Refused(dir.refusal());
+    };
+    let U32Field::Value(_, behind_idx) = reader.moved(behind_dir).u32() else {
+        return EndField::Refused(question::FIELD);
+    };
+    let RunField::Value(_, behind_key) = reader.moved(behind_idx).take(32) else {
+        return EndField::Refused(question::FIELD);
+    };
+    let U64Field::Value(_, next) = reader.moved(behind_key).u64() else {
+        return EndField::Refused(question::FIELD);
+    };
+    EndField::Value(next)
 }
