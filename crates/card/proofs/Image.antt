@@ -22,7 +22,7 @@ use Rattle.rows.specs.Utf8.{utf8}
 use Rattle.rows.specs.Checks.{capsKnown, kci, nameShort}
 use Rattle.rows.specs.Rows.{card, cardRow}
 use Rattle.rows.proofs.Proved.{proved}
-use Rattle.card.specs.Card.{CardTyped, valueOf, image, namePart}
+use Rattle.card.specs.Card.{CardTyped, valueOf, image, lengthOf, storable, namePart}
 use Rattle.card.specs.declared.Card.{Card}
 
 module _ (c : Card) (ty : CardTyped c) where
@@ -88,15 +88,22 @@ module _ (c : Card) (ty : CardTyped c) where
           let granted : refusalOf cardRow (valueOf c) ≡ none = rw (known, name-whole, le-leb _ _ few, ap utf8 (name-is few) ∙ r, key-granted (kci (c .caps))) in
           rw (proved .card .laws .print-read (valueOf c) (record { fits = fits; granted = granted }))
 
-  -- ---- which bytes it is
-  module _ (few : c .«name_len» ≤ 48) where
-    card-prints : print card (valueOf c) ≡ (c .caps ∷ []) ++ (bytesOf 4 (c .«beacon_day») ++ (c .«beacon_key» ++ namePart c))
-    unfolding layout.print namePart
-    card-prints = rw (name-whole, name-is few, key-prints (kci (c .caps)), append-nil, byte-print (c .caps) (ty .caps), byte-print (c .«name_len») (ty .«name_len»))
+  -- ---- which bytes it is, and how many
+  image-prints : image c ≡ (c .caps ∷ []) ++ (bytesOf 4 (c .«beacon_day») ++ (c .«beacon_key» ++ ((c .«name_len» ∷ []) ++ (valueOf c .name ++ key))))
+  unfolding layout.print image
+  image-prints = append-nil (print card (valueOf c)) ∙ rw (name-whole, key-prints (kci (c .caps)), append-nil, byte-print (c .caps) (ty .caps), byte-print (c .«name_len») (ty .«name_len»))
 
+  key-long : (t : Bool) → length (cond t (c .«static_ek») []) ≡ cond t 1184 0
+  key-long true = ty .«static_ek»
+  key-long false = refl
+
+  pub length-image : length (image c) ≡ lengthOf (c .caps) (c .«name_len»)
+  length-image = rw image-prints (simp (length-append, length-bytesOf) (omega (arith, ty .«beacon_key», name-whole, key-long (kci (c .caps)))))
+
+  module _ (few : c .«name_len» ≤ 48) where
     pub image-is : image c ≡ (c .caps ∷ []) ++ (bytesOf 4 (c .«beacon_day») ++ (c .«beacon_key» ++ namePart c))
-    unfolding layout.print image
-    image-is = append-nil (print card (valueOf c)) ∙ card-prints
+    unfolding namePart
+    image-is = rw (image-prints, name-is few)
 
     pub name-long : length (take (c .«name_len») (c .name)) ≡ c .«name_len»
     name-long = length-take-le (c .«name_len») (c .name) (omega (arith, ty .name))
@@ -105,18 +112,8 @@ module _ (c : Card) (ty : CardTyped c) where
     unfolding namePart
     length-name-part = simp length-append (omega (arith, name-long))
 
-    pub length-image : length (image c) ≡ 37 + length (namePart c)
-    length-image = rw image-is (simp (length-append, length-bytesOf) (omega (arith, ty .«beacon_key»)))
-
-    pub with-key : kci (c .caps) ≡ true → length (image c) ≡ 38 + c .«name_len» + 1184
-    with-key set =
-        let long : length key ≡ 1184 = rw set (ty .«static_ek») in
-        omega (arith, length-image, length-name-part)
-
-    pub without-key : kci (c .caps) ≡ false → length (image c) ≡ 38 + c .«name_len»
-    without-key clear =
-        let long : length key ≡ 0 = rw clear in
-        omega (arith, length-image, length-name-part)
+    pub length-parts : length (image c) ≡ 37 + length (namePart c)
+    length-parts = rw image-is (simp (length-append, length-bytesOf) (omega (arith, ty .«beacon_key»)))
 
   -- a row that reading accepts has a name that is not too long
   pub asked-few : {n : ℕ} → asked cardRow (image c) ≡ wrote n → c .«name_len» ≤ 48
@@ -126,3 +123,7 @@ module _ (c : Card) (ty : CardTyped c) where
       go false t p q = absurd (wrote≢refuses (sym e ∙ bad-caps p))
       go true false p q = absurd (wrote≢refuses (sym e ∙ long-name p q))
       go true true p q = leb-true _ _ q
+
+-- ---- what is stored, where the row fits
+pub whole-fits : (c : Card) (room : ℕ) → c .«name_len» ≤ 48 → length (image c) ≤ room → storable c room ≡ image c
+whole-fits c room few inside = rw (le-leb (c .«name_len») 48 few, le-leb (length (image c)) room inside)

@@ -1,2 +1,3 @@
 pub mod Image
+pub mod Placed
 pub mod RoundTrip

@@ -2,10 +2,11 @@
 -- Assumes nothing.
 use Prim.Native.Nat.{ℕ, _+_, _-_, _≤_, _<_}
 use mathlib.Core.List.{List, [], _∷_, _++_}
-use mathlib.Core.Bool.{true, false, cond}
+use mathlib.Core.Bool.{Bool, true, false, cond, _&&_}
 use mathlib.Core.Option.{Option, none, some}
 use mathlib.Core.Path.{_≡_}
 use lib.ListN.{length, take, drop}
+use lib.Dec.{leb}
 use Rattle.layout.specs.Questions.{FIELD}
 use Rattle.layout.specs.Veil.{zeros}
 use Rattle.layout.specs.Field.{Field, takes, refuses}
@@ -13,7 +14,7 @@ use Rattle.layout.specs.Layout.{Answer, accepted, refusedBy, print, readRow}
 use Rattle.layout.specs.RowLaws.{Bytes}
 use Rattle.layout.specs.Write.{stored, writes}
 use Rattle.rows.specs.Values as value
-use Rattle.rows.specs.Checks.{kci}
+use Rattle.rows.specs.Checks.{kci, nameShort}
 use Rattle.rows.specs.Rows.{cardRow}
 use Rattle.rows.specs.Answers.{verdictOf, leaves}
 use Rattle.rows.specs.declared.Verdict.the-variants.{Accepted}
@@ -96,6 +97,17 @@ cardOf c = record {
 abbrev pub zeroCard : Card
 zeroCard = record { «beacon_day» = 0; caps = 0; «name_len» = 0; «beacon_key» = zeros 32; name = zeros 48; «static_ek» = zeros 1184 }
 
+-- how long a card with these caps and a name of this length is, and whether it fits into so many bytes: one with too long a name fits nowhere
+abbrev pub lengthOf : (caps «name_len» : ℕ) → ℕ
+lengthOf caps n = 38 + n + cond (kci caps) 1184 0
+
+abbrev pub cardFits : (caps «name_len» room : ℕ) → Bool
+cardFits caps n room = nameShort n && leb (lengthOf caps n) room
+
+-- the card of these numbers; zeros where its runs do not lie in the input
+abbrev pub cardAt : List ℕ → CardAt → Card
+cardAt input n = cond (cardFits (n .caps) (n .«name_len») (length input)) (cardOf (cardFrom input n)) zeroCard
+
 abbrev pub cardOrZeros : Answer value.Card → Card
 cardOrZeros (accepted c) = cardOf c
 cardOrZeros (refusedBy q) = zeroCard
@@ -116,6 +128,10 @@ valueOf c = record {
 
 unfoldable pub image : Card → List ℕ
 image c = print cardRow (valueOf c)
+
+-- what is stored where there are so many bytes: nothing where the name is too long, or the row does not fit
+abbrev pub storable : Card → (room : ℕ) → List ℕ
+storable c room = cond (nameShort (c .«name_len») && leb (length (image c)) room) (image c) []
 
 -- its part from the name's length on, where the name is not too long
 unfoldable pub namePart : Card → List ℕ

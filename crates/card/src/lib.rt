@@ -18,7 +18,8 @@ ghost use Rattle.put.specs.Put.{Wrote};
 ghost use Rattle.rows.specs.Checks.{kci};
 ghost use Rattle.rows.specs.Rows.{card, cardRow};
 ghost use Rattle.rows.specs.Answers.{writtenSays, leaves};
-ghost use Rattle.card.specs.Card.{keySays, KeyEnds, fieldSays, FieldPlaced, fieldRefusal, checkSays, Placed, checkRefusal, Places, cardFrom, cardOf, zeroCard, decoded, CardTyped, image, namePart};
+ghost use Rattle.card.specs.Card.{keySays, KeyEnds, fieldSays, FieldPlaced, fieldRefusal, checkSays, Placed, checkRefusal};
+ghost use Rattle.card.specs.Card.{lengthOf, cardFits, cardAt, zeroCard, decoded, CardTyped, image, storable, namePart};
 
 // A card. name_len says how much of name is a value, and bit 1 of caps (KCI) whether static_ek is one: what is left out is 0.
 pub struct Card {
@@ -171,11 +172,34 @@ fn static_ek_from(input: &[u8], from: usize) -> [u8; 1184]
     key
 }
 
-// The card of the numbers that check_card found.
-pub fn card_from(input: &[u8], at: CardAt) -> Card
-    requires { ⌜ Places (now input) at ⌝ }
-    ensures { λ r. ⌜ r ≡ cardOf (cardFrom (now (input .entry)) at) ⌝ }
+// How long a card with these caps and a name of this length is.
+fn length_of(caps: u8, name_len: u8) -> usize
+    ensures { λ r. ⌜ r ≡ lengthOf caps «name_len» ⌝ }
 {
+    let name_end = NAME_AT + name_len as usize;
+    if caps / 2 % 2 == 1 {
+        return name_end + rows::MLKEM768_ENCAPSULATION_KEY_LEN;
+    }
+    name_end
+}
+
+// Whether such a card fits into so many bytes: one with too long a name fits nowhere.
+fn card_fits(caps: u8, name_len: u8, room: usize) -> bool
+    ensures { λ r. ⌜ r ≡ cardFits caps «name_len» room ⌝ }
+{
+    if rows::MAX_NAME_LEN < name_len as usize {
+        return false;
+    }
+    length_of(caps, name_len) <= room
+}
+
+// The card of the numbers that check_card found; all zeros where its runs do not lie in the input.
+pub fn card_from(input: &[u8], at: CardAt) -> Card
+    ensures { λ r. ⌜ r ≡ cardAt (now (input .entry)) at ⌝ }
+{
+    if !card_fits(at.caps, at.name_len, input.len()) {
+        return Card::zero();
+    }
     let n = at.name_len as usize;
     let beacon_key = put::copy_32(input, BEACON_KEY_AT);
     let name = name_from(input, NAME_AT, n);
@@ -236,7 +260,7 @@ impl Card {
         if out.len() < n {
             return Written::Refused(question::OUTPUT);
         }
-        put_card(out, 0, self);
+        put_row(out, 0, self);
         Written::Length(n)
     }
 }
@@ -267,21 +291,31 @@ pub fn card_size(card: Card) -> Written
     Written::Length(card_len(card))
 }
 
-// The length of the row of a card whose name is not too long.
+// The length of the card's row.
 pub fn card_len(card: Card) -> usize
-    requires { ⌜ card .«name_len» ≤ 48 ⌝ }
     ensures { λ r. ⌜ r ≡ length (image card) ⌝ }
 {
     typed(card);
-    let name_end = NAME_AT + card.name_len as usize;
-    if card.caps / 2 % 2 == 1 {
-        return name_end + rows::MLKEM768_ENCAPSULATION_KEY_LEN;
-    }
-    name_end
+    length_of(card.caps, card.name_len)
 }
 
-// Writes the card's row; the place behind it. For a card whose name is not too long, and where there is room.
+// Writes the card's row from a place on; the place behind it. Nothing is written where the name is too long, or where there is no room.
 pub fn put_card(out: &mut [u8], at: usize, card: Card) -> usize
+    ensures { λ r. ⌜ Wrote (now (out .entry)) at (storable card (length (now (out .entry)) - at)) (now (out .exit)) r ⌝ }
+{
+    typed(card);
+    let len = out.len();
+    if len < at {
+        return at;
+    }
+    if !card_fits(card.caps, card.name_len, len - at) {
+        return at;
+    }
+    put_row(out, at, card)
+}
+
+// The row of a card whose name is not too long, where there is room.
+fn put_row(out: &mut [u8], at: usize, card: Card) -> usize
     requires { ⌜ (card .«name_len» ≤ 48) × (at + length (image card) ≤ length (now out)) ⌝ }
     ensures { λ r. ⌜ (r ≡ at + length (image card)) × Wrote (now (out .entry)) at (image card) (now (out .exit)) r ⌝ }
 {

@@ -1,11 +1,12 @@
 -- The body that a struct and ct stand for: its bytes, its length, and that reading it gives them back.
 -- Assumes nothing.
-use Prim.Native.Nat.{ℕ, _+_}
+use Prim.Native.Nat.{ℕ, _+_, _≤_}
 use mathlib.Core.List.{List, [], _∷_, _++_, append-nil}
 use mathlib.Core.Option.{none}
 use mathlib.Core.Path.{_≡_, refl, ap, _∙_}
 use native.Mathlib.Omega.{arith}
 use lib.ListN.{length, length-append}
+use borrow.Author.Tests.{le-leb}
 use Rattle.layout.specs.Questions.{«SEALED_LENGTH»}
 use Rattle.layout.specs.Veil.{Level, plain, veiled}
 use Rattle.layout.specs.Form.{bytesOf}
@@ -19,7 +20,7 @@ use Rattle.layout.proofs.Front.{bytes-lawful, number-lawful, length-bytesOf, by
 use Rattle.layout.proofs.Ends.{toEnd-lawful}
 use Rattle.layout.proofs.Theorems.{row-laws}
 use Rattle.envelope.specs.Envelope as spec
-use Rattle.envelope.specs.Envelope.{Body, anyLength, body, valueOf, image, EnvelopeTyped}
+use Rattle.envelope.specs.Envelope.{Body, anyLength, body, valueOf, image, storable, EnvelopeTyped}
 use Rattle.envelope.specs.declared.Envelope.{Envelope}
 
 -- ---- the layout is lawful
@@ -68,3 +69,7 @@ module _ (e : Envelope) (ty : EnvelopeTyped e) (ct : List ℕ) where
   pub whole : asked body (image e ct) ≡ wrote (37 + length ct)
   unfolding write.asked
   whole = rw read-image (ap wrote length-image)
+
+-- ---- what is stored, where the body fits
+pub whole-fits : (e : Envelope) (ct : List ℕ) (room : ℕ) → length (image e ct) ≤ room → storable e ct room ≡ image e ct
+whole-fits e ct room inside = rw (le-leb (length (image e ct)) room inside)

@@ -2,10 +2,10 @@
 -- Assumes nothing.
 use Prim.Native.Nat.{ℕ, _-_, _^_, _<_}
 use mathlib.Core.List.{List, []}
-use mathlib.Core.Bool.{Bool, true, _&&_}
+use mathlib.Core.Bool.{Bool, true, cond, _&&_}
 use mathlib.Core.Path.{_≡_}
 use lib.ListN.{length, take, drop}
-use lib.Dec.{ltb}
+use lib.Dec.{leb, ltb}
 use Rattle.layout.specs.Questions.{FIELD, «SEALED_LENGTH»}
 use Rattle.layout.specs.Veil.{plain, veiled, zeros}
 use Rattle.layout.specs.Form.{bytes, u8, u32, toEnd}
@@ -68,6 +68,10 @@ valueOf e ct = record { tag = e .tag; c = e .c; «expiry_min» = e .«expiry_min
 
 unfoldable pub image : Envelope → List ℕ → List ℕ
 image e ct = print body (valueOf e ct)
+
+-- what is stored where there are so many bytes: nothing where the body does not fit
+abbrev pub storable : Envelope → (ct : List ℕ) → (room : ℕ) → List ℕ
+storable e ct room = cond (leb (length (image e ct)) room) (image e ct) []
 
 -- what the struct's type says
 pub record EnvelopeTyped (e : Envelope) : Type 0 where

@@ -6,13 +6,14 @@ use layout::question;
 use rows::Verdict;
 use rows::Written;
 ghost use mathlib.Core.Path.{_≡_};
-ghost use Prim.Native.Nat.{_+_, _≤_};
+ghost use Prim.Native.Nat.{_+_, _-_, _≤_};
 ghost use lib.ListN.{length};
+ghost use lib.Dec.{leb};
 ghost use Rattle.layout.specs.Layout.{readRow};
 ghost use Rattle.layout.specs.Write.{writes};
 ghost use Rattle.put.specs.Put.{Wrote};
 ghost use Rattle.rows.specs.Answers.{leaves};
-ghost use Rattle.envelope.specs.Envelope.{body, zeroRead, decoded, validAt, image, EnvelopeTyped};
+ghost use Rattle.envelope.specs.Envelope.{body, zeroRead, decoded, validAt, image, storable, EnvelopeTyped};
 
 // An envelope but for ct: tag, c, expiry in Unix minutes, copies.
 pub struct Envelope {
@@ -98,14 +99,10 @@ impl Envelope {
         ensures { λ r. ⌜ leaves r (now (out .exit)) ≡ writes body (image self (now (ct .entry))) (now (out .entry)) ⌝ }
     {
         typed(self);
-        let room = out.len();
-        if room < ENVELOPE_HEADER {
-            return Written::Refused(question::OUTPUT);
-        }
-        if room - ENVELOPE_HEADER < ct.len() {
-            return Written::Refused(question::OUTPUT);
-        }
         let n = put_envelope(out, 0, self, ct);
+        if n == 0 {
+            return Written::Refused(question::OUTPUT);
+        }
         Written::Length(n)
     }
 }
@@ -117,8 +114,33 @@ fn typed(envelope: Envelope) -> bool
     true
 }
 
-// Writes an envelope, where there is room; the place behind it.
+// Whether an envelope with a ct of this length fits into so many bytes.
+fn envelope_fits(ct_len: usize, room: usize) -> bool
+    ensures { λ r. ⌜ r ≡ leb (37 + «ct_len») room ⌝ }
+{
+    if room < ENVELOPE_HEADER {
+        return false;
+    }
+    ct_len <= room - ENVELOPE_HEADER
+}
+
+// Writes an envelope from a place on; the place behind it. Nothing is written where there is no room.
 pub fn put_envelope(out: &mut [u8], at: usize, envelope: Envelope, ct: &[u8]) -> usize
+    ensures { λ r. ⌜ Wrote (now (out .entry)) at (storable envelope (now (ct .entry)) (length (now (out .entry)) - at)) (now (out .exit)) r ⌝ }
+{
+    typed(envelope);
+    let len = out.len();
+    if len < at {
+        return at;
+    }
+    if !envelope_fits(ct.len(), len - at) {
+        return at;
+    }
+    put_body(out, at, envelope, ct)
+}
+
+// The body, where there is room.
+fn put_body(out: &mut [u8], at: usize, envelope: Envelope, ct: &[u8]) -> usize
     requires { ⌜ at + length (image envelope (now ct)) ≤ length (now out) ⌝ }
     ensures { λ r. ⌜ (r ≡ at + length (image envelope (now (ct .entry)))) × Wrote (now (out .entry)) at (image envelope (now (ct .entry))) (now (out .exit)) r ⌝ }
 {

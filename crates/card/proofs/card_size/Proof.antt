@@ -63,7 +63,7 @@ returns-3 c =
     sym (bad-name (card t) (t .typed .ensures) (known (e2 (e3 u))) (few (e3 u)) (sym (u .is-utf8 .ensures) ∙ not-true _ (c .if3 .taken)))
 
 card-len-requires : tie.Need-card-len-requires
-card-len-requires c κs = few (e3 (c .before))
+card-len-requires c κs = search needs
 
 returns-4 : tie.Need-returns-4
 returns-4 c =

@@ -1,9 +1,13 @@
 -- `courier_row::put_carried` meets its contract: one writer behind another.
+use Prim.Native.Nat.{_-_, _≤_}
 use native.Mathlib.Omega.{arith}
+use lib.ListN.{length}
 use borrow.Author.Needs.{needs}
 use Rattle.put.proofs.Put.{_then_, wrote-long}
 use Rattle.sealed.proofs.Text.{wrote-as}
-use Rattle.courier_row.proofs.Image.{carried-is, length-carried, length-in}
+use Rattle.envelope.specs.Envelope.{image}
+use Rattle.envelope.proofs.Image.{whole-fits}
+use Rattle.courier_row.proofs.Image.{envelopeIn, carried-is, length-carried, length-in}
 use Rattle.courier_row.proofs.put_carried.Statement.{statement}
 use Rattle.courier_row.proofs.put_carried.Tie as tie
 
@@ -29,20 +33,7 @@ put-be-requires c κs =
     omega (arith, length-carried (s .args .held) (t b .typed .ensures) (s .args .sealed .now), wrote-long (b .put-byte .ensures .1), b .put-byte .ensures .0, s .pre)
 
 put-envelope-requires : tie.Need-put-envelope-requires
-put-envelope-requires c κs =
-    let e = c .before .before .before .before .before in
-    let b = p1 e in
-    let s = t b .before .before .before in
-    omega (
-      arith,
-      length-carried (s .args .held) (t b .typed .ensures) (s .args .sealed .now),
-      length-in (s .args .held) (t b .typed .ensures) (s .args .sealed .now),
-      wrote-long (b .put-byte .ensures .1),
-      wrote-long (e .put-be .ensures .1),
-      b .put-byte .ensures .0,
-      e .put-be .ensures .0,
-      s .pre,
-    )
+put-envelope-requires c κs = search needs
 
 same-length : tie.Need-same-length
 same-length c = search needs
@@ -53,8 +44,21 @@ returns c =
     let e = n .before .before .before .before .before .before in
     let b = p1 e in
     let s = t b .before .before .before in
-    wrote-as (carried-is (s .args .held) (t b .typed .ensures) (s .args .sealed .now))
-    (b .put-byte .ensures .1 then (e .put-be .ensures .1 then n .put-envelope .ensures .1))
+    let held = s .args .held in
+    let text = s .args .sealed .now in
+    let room : length (image (envelopeIn held) text) ≤ length (e .put-be .last .0) - e .put-be .result =
+    omega (
+      arith,
+      length-carried held (t b .typed .ensures) text,
+      length-in held (t b .typed .ensures) text,
+      wrote-long (b .put-byte .ensures .1),
+      wrote-long (e .put-be .ensures .1),
+      b .put-byte .ensures .0,
+      e .put-be .ensures .0,
+      s .pre,
+    ) in
+    wrote-as (carried-is held (t b .typed .ensures) text)
+    (b .put-byte .ensures .1 then (e .put-be .ensures .1 then rw (whole-fits (envelopeIn held) text _ room) at (n .put-envelope .ensures)))
 
 pub put-carried-spec : {M : Type 1} → statement M
 put-carried-spec =

@@ -1,135 +1,71 @@
--- `envelope::put_envelope` meets its contract: one writer behind another.
-use mathlib.Core.Path.{refl}
+-- `envelope::put_envelope` meets its contract: the body where it fits, and nothing where it does not.
+use Prim.Native.Nat.{ℕ, _+_, _-_, _≤_}
+use mathlib.Core.List.{List}
+use mathlib.Core.Bool.{true, false}
+use mathlib.Core.Path.{_≡_, sym, ap, _∙_}
 use native.Mathlib.Omega.{arith}
 use lib.ListN.{length}
+use lib.Dec.{leb}
 use borrow.Author.Needs.{needs}
-use Rattle.put.proofs.Put.{_then_, wrote-long, whole-run}
-use Rattle.sealed.proofs.Text.{wrote-as}
-use Rattle.envelope.proofs.Image.{image-is, length-image}
+use borrow.Author.Tests.{leb-true, lt-leb, not-true, not-false}
+use Rattle.put.specs.Put.{Wrote}
+use Rattle.put.proofs.Put.{wrote-none}
+use Rattle.envelope.specs.Envelope.{EnvelopeTyped, image, storable}
+use Rattle.envelope.specs.declared.Envelope.{Envelope}
+use Rattle.envelope.proofs.Image.{length-image}
 use Rattle.envelope.proofs.put_envelope.Statement.{statement}
 use Rattle.envelope.proofs.put_envelope.Tie as tie
 
--- ---- the places on the way, from each writer to the one before it
-abbrev t : tie.After-put-16 → tie.After-typed
-t c = c .before .before .before .before
+module _ (e : Envelope) (ty : EnvelopeTyped e) (ct : List ℕ) (room : ℕ) where
+  body-fits : leb (length (image e ct)) room ≡ leb (37 + length ct) room
+  body-fits = ap (λ (n : ℕ). leb n room) (length-image e ty ct)
 
-abbrev p1 : tie.After-put-162 → tie.After-put-16
-p1 c = c .before .before .before .before .before .before
+  not-stored : (out : List ℕ) (at : ℕ) → leb (37 + length ct) room ≡ false → Wrote out at (storable e ct room) out at
+  not-stored out at f = rw (body-fits ∙ f) (wrote-none out at)
 
-abbrev p2 : tie.After-put-be → tie.After-put-162
-p2 c = c .before .before .before .before .before
-
-abbrev p3 : tie.After-put-byte → tie.After-put-be
-p3 c = c .before .before .before .before
+  whole-stored : {out m : List ℕ} {at p : ℕ} → leb (37 + length ct) room ≡ true → Wrote out at (image e ct) m p → Wrote out at (storable e ct room) m p
+  whole-stored f w = rw (body-fits ∙ f) w
 
 typed-requires : tie.Need-typed-requires
 typed-requires c κs = search needs
 
-put-16-requires : tie.Need-put-16-requires
-put-16-requires c κs =
-    let y = c .before .before .before in
-    let s = y .before .before .before in
-    omega (arith, length-image (s .args .envelope) (y .typed .ensures) (s .args .ct .now))
+returns : tie.Need-returns
+returns c =
+    let t = c .before in
+    let a = t .before .before .before .args in
+    let room = length (a .out .now) - a .at in
+    not-stored (a .envelope) (t .typed .ensures) (a .ct .now) room (a .out .now) (a .at) (lt-leb (37 + length (a .ct .now)) room (omega arith))
 
-put-16-requires-2 : tie.Need-put-16-requires-2
-put-16-requires-2 c κs =
-    let g = c .before .before .before .before .before in
-    let s = t g .before .before .before in
-    omega (
-      arith,
-      length-image (s .args .envelope) (t g .typed .ensures) (s .args .ct .now),
-      wrote-long (g .put-16 .ensures .1),
-      g .put-16 .ensures .0,
-      s .pre,
-    )
+envelope-fits-requires : tie.Need-envelope-fits-requires
+envelope-fits-requires c κs = search needs
 
-cast-put-be : tie.Need-cast-put-be
-cast-put-be c = search needs
+returns-2 : tie.Need-returns-2
+returns-2 c =
+    let f = c .before in
+    let t = f .before .before in
+    let a = t .before .before .before .args in
+    not-stored (a .envelope) (t .typed .ensures) (a .ct .now) (length (a .out .now) - a .at) (a .out .now) (a .at) (sym (f .envelope-fits .ensures) ∙ not-true _ (c .if2 .taken))
 
-put-be-requires : tie.Need-put-be-requires
-put-be-requires c κs =
-    let h = c .before .before .before .before in
-    let g = p1 h in
-    let s = t g .before .before .before in
-    omega (
-      arith,
-      length-image (s .args .envelope) (t g .typed .ensures) (s .args .ct .now),
-      wrote-long (g .put-16 .ensures .1),
-      wrote-long (h .put-162 .ensures .1),
-      g .put-16 .ensures .0,
-      h .put-162 .ensures .0,
-      s .pre,
-    )
-
-put-byte-requires : tie.Need-put-byte-requires
-put-byte-requires c κs =
-    let e = c .before .before .before in
-    let h = p2 e in
-    let g = p1 h in
-    let s = t g .before .before .before in
-    omega (
-      arith,
-      length-image (s .args .envelope) (t g .typed .ensures) (s .args .ct .now),
-      wrote-long (g .put-16 .ensures .1),
-      wrote-long (h .put-162 .ensures .1),
-      wrote-long (e .put-be .ensures .1),
-      g .put-16 .ensures .0,
-      h .put-162 .ensures .0,
-      e .put-be .ensures .0,
-      s .pre,
-    )
-
-put-run-requires : tie.Need-put-run-requires
-put-run-requires c κs =
-    let b = c .before .before .before in
-    let e = p3 b in
-    let h = p2 e in
-    let g = p1 h in
-    let s = t g .before .before .before in (
-      omega (
-        arith,
-        length-image (s .args .envelope) (t g .typed .ensures) (s .args .ct .now),
-        wrote-long (g .put-16 .ensures .1),
-        wrote-long (h .put-162 .ensures .1),
-        wrote-long (e .put-be .ensures .1),
-        wrote-long (b .put-byte .ensures .1),
-        g .put-16 .ensures .0,
-        h .put-162 .ensures .0,
-        e .put-be .ensures .0,
-        b .put-byte .ensures .0,
-        s .pre,
-      ),
-      omega arith,
-    )
+put-body-requires : tie.Need-put-body-requires
+put-body-requires c κs =
+    let e = c .before in
+    let f = e .before in
+    let t = f .before .before in
+    let a = t .before .before .before .args in
+    let room : 37 + length (a .ct .now) ≤ length (a .out .now) - a .at = leb-true _ _ (sym (f .envelope-fits .ensures) ∙ not-false _ (e .if2 .left)) in
+    omega (arith, length-image (a .envelope) (t .typed .ensures) (a .ct .now), f .before .if1 .left)
 
 same-length : tie.Need-same-length
 same-length c = search needs
 
-returns : tie.Need-returns
-returns c =
-    let r = c .before .before in
-    let b = r .before .before .before .before in
-    let e = p3 b in
-    let h = p2 e in
-    let g = p1 h in
-    let s = t g .before .before .before in
-    let text = s .args .ct .now in
-    let w =
-    g .put-16 .ensures .1 then (h .put-162 .ensures .1 then (e .put-be .ensures .1 then (
-    b .put-byte .ensures .1 then whole-run {s = text} (length text) refl (r .put-run .ensures .1)
-    ))) in
-    wrote-as (image-is (s .args .envelope) (t g .typed .ensures) text) w
+returns-3 : tie.Need-returns-3
+returns-3 c =
+    let p = c .before .before in
+    let e = p .before .before in
+    let f = e .before in
+    let t = f .before .before in
+    let a = t .before .before .before .args in
+    whole-stored (a .envelope) (t .typed .ensures) (a .ct .now) (length (a .out .now) - a .at) (sym (f .envelope-fits .ensures) ∙ not-false _ (e .if2 .left)) (p .put-body .ensures .1)
 
 pub put-envelope-spec : {M : Type 1} → statement M
-put-envelope-spec =
-    tie.close
-    (tie.spec
-    typed-requires
-    put-16-requires
-    put-16-requires-2
-    cast-put-be
-    put-be-requires
-    put-byte-requires
-    put-run-requires
-    same-length
-    returns)
+put-envelope-spec = tie.close (tie.spec typed-requires returns envelope-fits-requires returns-2 put-body-requires same-length returns-3)

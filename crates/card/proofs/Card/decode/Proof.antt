@@ -3,6 +3,7 @@ use mathlib.Core.Path.{ap, subst, _∙_}
 use borrow.Author.Needs.{needs}
 use Rattle.layout.proofs.At.{learn}
 use Rattle.card.specs.Card.{checkSays, checkRefusal, Placed}
+use Rattle.card.proofs.Placed.{card-placed}
 use Rattle.card.proofs.Card.decode.Statement.{statement}
 use Rattle.card.proofs.Card.decode.Tie as tie
 
@@ -27,12 +28,14 @@ returns c =
     rw (learn (checkSays _) (c .before .before .before .before .check-card .ensures .0) told, c .before .refusal .ensures ∙ ap checkRefusal told, c .zero .ensures)
 
 card-from-requires : tie.Need-card-from-requires
-card-from-requires c κs = subst (Placed _) (c .before .check .given .1) (c .before .before .before .check-card .ensures .1)
+card-from-requires c κs = search needs
 
 returns-2 : tie.Need-returns-2
 returns-2 c =
     let k = c .before in
-    rw (learn (checkSays _) (k .before .before .before .check-card .ensures .0) (k .before .check .given .1), c .card-from .ensures)
+    let found = k .before .before .before .check-card .ensures in
+    let placed = subst (Placed _) (k .before .check .given .1) (found .1) in
+    rw (learn (checkSays _) (found .0) (k .before .check .given .1), c .card-from .ensures, card-placed _ _ placed)
 
 pub decode-spec : {M : Type 1} → statement M
 decode-spec = tie.close (tie.spec check-card-requires enum-known-check enum-told refusal-requires zero-requires returns card-from-requires returns-2)

@@ -49,8 +49,8 @@ returns c =
 returns-2 : tie.Need-returns-2
 returns-2 c = sym (writes-short cardRow (image (card (c .before))) _ (size (c .before)) (c .if1 .taken))
 
-put-card-requires : tie.Need-put-card-requires
-put-card-requires c κs =
+put-row-requires : tie.Need-put-row-requires
+put-row-requires c κs =
     let k = c .before .before in
     (asked-few (card k) (k .before .before .before .before .typed .ensures) (size k), omega (arith, asked-length cardRow (image (card k)) (size k)))
 
@@ -63,8 +63,8 @@ returns-3 c =
     let k = p .before .before .before in
     let out = start k .args .out .now in
     let n = asked-length cardRow (image (card k)) (size k) in
-    let now-is = p .put-card .ensures .1 .now-is ∙ put-front out (image (card k)) (omega arith) in
+    let now-is = p .put-row .ensures .1 .now-is ∙ put-front out (image (card k)) (omega arith) in
     ap (λ (l : List ℕ). leaves (Length (k .before .size .given .0 .0)) l) now-is ∙ sym (writes-row cardRow (image (card k)) out (size k) (p .before .before .if1 .left))
 
 pub encode-spec : {M : Type 1} → statement M
-encode-spec = tie.close (tie.spec typed-requires card-size-requires enum-known-size enum-told returns returns-2 put-card-requires same-length returns-3)
+encode-spec = tie.close (tie.spec typed-requires card-size-requires enum-known-size enum-told returns returns-2 put-row-requires same-length returns-3)
