@@ -20,12 +20,14 @@ use Rattle.rows.proofs.Proved.{proved}
 use Rattle.lists.specs.Lists as lists
 use Rattle.lists.proofs.Ends.{none-left}
 use Rattle.store.specs.Kinds.{contact, Seen, seenOf}
-use Rattle.contact.specs.Check.{contactFrom, Places}
+use Rattle.contact.specs.Check.{checked, contactFrom, Places}
 use Rattle.contact.specs.declared.ContactAt.{ContactAt}
+use Rattle.contact.specs.declared.ContactCheck.{ContactCheck}
+use Rattle.contact.specs.declared.ContactCheck.the-variants.{Fields, Refused}
 use Rattle.store.specs.declared.Aside.{Aside}
 use Rattle.store.specs.declared.Aside.the-variants as left
 use Rattle.store.specs.Aside.{asideSeen}
-use Rattle.across.specs.Owner.{contactSeen, noOwner, ownerAside, OwnerStands}
+use Rattle.across.specs.Owner.{contactSeen, noOwner, ownerAt, ownerRead, ownerIn, ownerAside, OwnerStands}
 use Rattle.across.specs.declared.Owner.{Owner}
 
 -- what an answer shows, of the row or of an equal part of the run
@@ -55,8 +57,16 @@ module _ {A : Type 0} (q : ℕ) where
   said-yes (ask p false k) v e = absurd (let z : _≡_ {A = ℕ} 0 1 = cc in omega arith)
 
 -- ---- a contact that was accepted, and its unacked numbers
-abbrev pub ownerAt : ContactAt → Owner
-ownerAt at = record { unacked = at .numbers .unacked .first; count = at .numbers .unacked .count; «sent_msgno» = at .keys .«sent_msgno» }
+abbrev checkOwner : ContactCheck → Owner
+checkOwner (Fields at) = ownerAt at
+checkOwner (Refused q) = noOwner
+
+checked-owner : (version : ℕ) (a : Answer Contact) → checkOwner (checked version a) ≡ ownerRead version a
+checked-owner version (accepted v) = refl
+checked-owner version (refusedBy q) = refl
+
+pub owner-read : (version : ℕ) (row : List ℕ) {answer is : ContactCheck} → answer ≡ checked version (readRow (rows.contact version) row) → answer ≡ is → checkOwner is ≡ ownerIn version row
+owner-read version row said known = ap checkOwner (sym known ∙ said) ∙ checked-owner version (readRow (rows.contact version) row)
 
 pub found : (version : ℕ) (row : List ℕ) (at : ContactAt) → Bytes row
     → readRow (rows.contact version) row ≡ accepted (contactFrom row at) → Places row at → OwnerStands (contactSeen version row) row (ownerAt at)

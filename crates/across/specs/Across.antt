@@ -24,7 +24,7 @@ use Rattle.across.specs.declared.Owner.{Owner}
 use Rattle.across.specs.declared.Walk.{Walk}
 use Rattle.across.specs.declared.Across.{Across}
 use Rattle.across.specs.declared.Across.the-variants.{Going, Refused}
-use Rattle.across.specs.Owner.{noOwner, ownerSeen, unackedAt, OwnerStands}
+use Rattle.across.specs.Owner.{noOwner, ownerSeen, ownerFrom, unackedAt, OwnerStands}
 
 -- ---- before the first turn
 abbrev pub fresh : Walk
@@ -64,6 +64,14 @@ ownerLimit e i (Refused n j) = 0
 abbrev pub spotOf : Across → ℕ
 spotOf (Going w) = w .spot
 spotOf (Refused n j) = 0
+
+-- what is asked of the contact found at p: what is kept, where the last queued row's contact stands there; nothing where none was found below upto
+abbrev pub keptOr : Across → (p : ℕ) → Owner → Owner
+keptOr (Going w) p o = cond (eqb p (w .spot)) (w .owner) o
+keptOr (Refused n j) p o = o
+
+abbrev pub ownerFor : (run : List ℕ) → Aside → (c : Entry) → (p upto : ℕ) → Across → Owner
+ownerFor run aside c p upto s = cond (ltb p upto) (keptOr s p (ownerFrom run aside c)) noOwner
 
 -- where that contact is the one kept, what is kept of it is what is seen of it
 abbrev pub Reusable : (run : List ℕ) → Aside → (c : Entry) → (p upto : ℕ) → Across → Type 0

@@ -8,10 +8,13 @@ use mathlib.Core.Path.{_≡_}
 use lib.ListN.{drop}
 use lib.Dec.{T, ltb}
 use Rattle.layout.specs.Form.{u32}
-use Rattle.layout.specs.Layout.{readRow}
+use Rattle.layout.specs.Layout.{Answer, accepted, refusedBy, readRow}
+use Rattle.rows.specs.Values as value
 use Rattle.rows.specs.Checks.{rising}
 use Rattle.rows.specs.Rows as rows
 use Rattle.lists.specs.Lists.{items, Stands}
+use Rattle.contact.specs.Check.{contactAt}
+use Rattle.contact.specs.declared.ContactAt.{ContactAt}
 use Rattle.store.specs.declared.Entry.{Entry}
 use Rattle.store.specs.declared.Aside.{Aside}
 use Rattle.store.specs.Kinds.{contact, Seen, nothing, seenOf}
@@ -48,9 +51,24 @@ OwnerStands x row o = (ownerSays row o ≡ x) × Searchable row o
 abbrev pub noOwner : Owner
 noOwner = record { unacked = 0; count = 0; «sent_msgno» = 0 }
 
+-- of a contact's row: where its unacked numbers stand, and how many they are; nothing where it was refused
+abbrev pub ownerAt : ContactAt → Owner
+ownerAt at = record { unacked = at .numbers .unacked .first; count = at .numbers .unacked .count; «sent_msgno» = at .keys .«sent_msgno» }
+
+abbrev pub ownerRead : (version : ℕ) → Answer value.Contact → Owner
+ownerRead version (accepted v) = ownerAt (contactAt version v)
+ownerRead version (refusedBy q) = noOwner
+
+abbrev pub ownerIn : (version : ℕ) → (row : List ℕ) → Owner
+ownerIn version row = ownerRead version (readRow (rows.contact version) row)
+
 -- of the contact aside
 abbrev pub ownerAside : Aside → Owner
 ownerAside aside = record { unacked = 0; count = 0; «sent_msgno» = asideSeen aside .«sent_msgno» }
+
+-- of a contact's entry
+abbrev pub ownerFrom : (run : List ℕ) → Aside → Entry → Owner
+ownerFrom run aside c = cond (isAside aside c) (ownerAside aside) (ownerIn (c .version) (partOf run c))
 
 -- what is seen of the contact that was found at p; nothing where none was found below upto
 abbrev pub ownerFound : (run : List ℕ) → Aside → Entry → (p upto : ℕ) → Seen

@@ -14,8 +14,8 @@ ghost use mathlib.Core.Path.{_≡_};
 ghost use lib.Dec.{eqb};
 ghost use Rattle.rows.specs.Checks.{any};
 ghost use Rattle.store.specs.Store.{partOf};
-ghost use Rattle.across.specs.Owner.{noOwner, contactSeen, ownerSeen, ownerAside, ownerFound, unackedAt, ownerSays, Searchable, OwnerStands};
-ghost use Rattle.across.specs.Across.{begunFrom, contactOf, earlier, farLimit, chosen, ownerLimit, spotOf, Reusable, twinOf, pairAbove, twinBelow, twinLimit};
+ghost use Rattle.across.specs.Owner.{noOwner, contactSeen, ownerIn, ownerSeen, ownerAside, ownerFrom, ownerFound, unackedAt, Searchable, OwnerStands};
+ghost use Rattle.across.specs.Across.{begunFrom, contactOf, earlier, farLimit, chosen, ownerLimit, spotOf, ownerFor, Reusable, twinOf, pairAbove, twinBelow, twinLimit};
 ghost use Rattle.across.specs.Across.{lowIn, nextContactIn, depositorIn, deviceTurn, contactTurn, queuedTurn, courierTurn, settled};
 
 // What is asked of a queued row's contact: sent_msgno, and where in its row the unacked numbers start and how many they are.
@@ -101,6 +101,7 @@ fn low_depositor(run: &[u8], e: Entry, next: u64) -> bool
 }
 
 fn owner_in(version: u32, row: &[u8]) -> Owner
+    ensures { λ r. ⌜ r ≡ ownerIn version (now (row .entry)) ⌝ }
     ensures { λ r. ⌜ OwnerStands (contactSeen version (now (row .entry))) (now (row .entry)) r ⌝ }
 {
     let ContactCheck::Fields(at) = contact::check_contact(version, row) else {
@@ -129,6 +130,7 @@ fn owner_aside(aside: Aside) -> Owner
 }
 
 fn owner_from(run: &[u8], aside: Aside, c: Entry) -> Owner
+    ensures { λ r. ⌜ r ≡ ownerFrom (now (run .entry)) aside c ⌝ }
     ensures { λ r. ⌜ OwnerStands (ownerSeen (now (run .entry)) aside c) (partOf (now (run .entry)) c) r ⌝ }
 {
     if store::is_aside(c, aside) {
@@ -216,8 +218,8 @@ pub fn spot_of(state: Across) -> usize
 
 // What is asked of the contact c, found at p; nothing where none was found below `upto`. It is what is kept, where the last queued row's contact is the same one.
 pub fn owner_of(run: &[u8], aside: Aside, c: Entry, p: usize, upto: usize, state: Across) -> Owner
-    requires { ⌜ Reusable (now run) aside c p upto state ⌝ }
-    ensures { λ r. ⌜ (ownerSays (partOf (now (run .entry)) c) r ≡ ownerFound (now (run .entry)) aside c p upto) × Searchable (partOf (now (run .entry)) c) r ⌝ }
+    ensures { λ r. ⌜ (r ≡ ownerFor (now (run .entry)) aside c p upto state)
+        × (Reusable (now (run .entry)) aside c p upto state → OwnerStands (ownerFound (now (run .entry)) aside c p upto) (partOf (now (run .entry)) c) r) ⌝ }
 {
     if upto <= p {
         return no_owner();

@@ -1,10 +1,10 @@
 -- `across::owner_from` meets its contract.
 use Prim.Native.Nat.{ℕ}
 use mathlib.Core.List.{List}
-use mathlib.Core.Path.{sym, _∙_, subst}
+use mathlib.Core.Path.{refl, sym, ap, _∙_, subst}
 use borrow.Author.Needs.{needs}
 use Rattle.store.specs.Store.{partOf}
-use Rattle.across.specs.Owner.{contactSeen, OwnerStands}
+use Rattle.across.specs.Owner.{contactSeen, ownerIn, OwnerStands}
 use Rattle.across.proofs.Read.{left-aside}
 use Rattle.across.proofs.owner_from.Statement.{statement}
 use Rattle.across.proofs.owner_from.Tie as tie
@@ -22,7 +22,7 @@ returns : tie.Need-returns
 returns c =
     let t = c .before in
     let a = start (t .before) .args in
-    rw (sym (t .before .is-aside .ensures) ∙ t .if1 .taken, c .owner-aside .ensures) (left-aside (a .aside) (partOf (a .run .now) (a .c)))
+    rw (sym (t .before .is-aside .ensures) ∙ t .if1 .taken, c .owner-aside .ensures) (refl, left-aside (a .aside) (partOf (a .run .now) (a .c)))
 
 part-of-requires : tie.Need-part-of-requires
 part-of-requires c κs = search needs
@@ -35,8 +35,10 @@ returns-2 c =
     let p = c .before in
     let n = p .before in
     let a = start (n .before) .args in
-    rw (sym (n .before .is-aside .ensures) ∙ n .if1 .left)
-    (subst (λ (row : List ℕ). OwnerStands (contactSeen (a .c .version) row) row (c .owner-in .result)) (p .part-of .ensures) (c .owner-in .ensures))
+    rw (sym (n .before .is-aside .ensures) ∙ n .if1 .left) (
+      c .owner-in .ensures .0 ∙ ap (ownerIn (a .c .version)) (p .part-of .ensures),
+      subst (λ (row : List ℕ). OwnerStands (contactSeen (a .c .version) row) row (c .owner-in .result)) (p .part-of .ensures) (c .owner-in .ensures .1),
+    )
 
 pub owner-from-spec : {M : Type 1} → statement M
 owner-from-spec = tie.close (tie.spec is-aside-requires owner-aside-requires returns part-of-requires owner-in-requires returns-2)

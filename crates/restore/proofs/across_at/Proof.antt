@@ -281,8 +281,7 @@ module _ {M : Type 1} (𝓤 : URA M) (H : Heap 𝓤) (A : Atoms 𝓤) (W : Given
           -- owner is across::owner_of(run, aside, c, p, limit, state)
           nothing ! $ plus ! as-Across state in-state $ plus ! as-w64 limit in-limit $ plus ! as-w64 p in-p $ plus ! as-Entry c in-c $ plus ! as-Aside aside in-aside $
           lends ! 2 (named 0) κ₀ (UInt w8) run refl $ move ! (2 ∷ 0 ∷ []) $
-          calls-held ! fm across-owner-of.ended (across-owner-of.clauses 𝓤 H A mem calling) (known .across-owner-of) (to-owner e limit spot p c)
-          (factI 𝓤 _ (emp 𝓤) (may-reuse (now run) (now entries) aside i state (asks .0) (asks .1) e c limit spot p is-e is-limit is-spot is-p is-c)) as-Owner (λ r ws. id⊢ 𝓤 _)
+          calls-held ! fm across-owner-of.ended (across-owner-of.clauses 𝓤 H A mem calling) (known .across-owner-of) (to-owner e limit spot p c) (id⊢ 𝓤 _) as-Owner (λ r ws. id⊢ 𝓤 _)
           (and-then ! (local ! (look ! 30 refl)) (and-then ! (local ! (look ! 26 refl))
           (and-then ! (local ! (look ! 12 refl)) (and-then ! (local ! (look ! 14 refl)) (and-then ! (local ! (look ! 18 refl)) (and-then ! (local ! (look ! 22 refl)) (no-more !)))))))
           (λ owner is-owner in-owner.
@@ -308,8 +307,9 @@ module _ {M : Type 1} (𝓤 : URA M) (H : Heap 𝓤) (A : Atoms 𝓤) (W : Given
           -- r is across::settle(run, e, c, i, p, t, owner, state)
           nothing ! $ plus ! as-Across state in-state $ plus ! as-Owner owner in-owner $ plus ! as-w64 t in-t $ plus ! as-w64 p in-p $ plus ! as-w64 i in-i $ plus ! as-Entry c in-c $
           plus ! as-Entry e in-e $ lends ! 2 (named 0) κ₀ (UInt w8) run refl $ move ! (2 ∷ 0 ∷ []) $
-          calls-held ! fm across-settle.ended (across-settle.clauses 𝓤 H A mem calling) (known .across-settle) (to-r e limit spot p c owner twin upto t) (factI 𝓤 _ (emp 𝓤) (is-owner .1))
-          as-Across (λ r ws. id⊢ 𝓤 _)
+          calls-held ! fm across-settle.ended (across-settle.clauses 𝓤 H A mem calling) (known .across-settle) (to-r e limit spot p c owner twin upto t)
+          (factI 𝓤 _ (emp 𝓤) (is-owner .1 (may-reuse (now run) (now entries) aside i state (asks .0) (asks .1) e c limit spot p is-e is-limit is-spot is-p is-c) .1)) as-Across
+          (λ r ws. id⊢ 𝓤 _)
           (and-then ! (local ! (look ! 30 refl)) (and-then ! (local ! (look ! 20 refl))
           (and-then ! (local ! (look ! 12 refl)) (and-then ! (local ! (look ! 24 refl))
           (and-then ! (local ! (look ! 14 refl)) (and-then ! (local ! (look ! 4 refl)) (and-then ! (local ! (look ! 10 refl)) (and-then ! (local ! (look ! 22 refl)) (no-more !)))))))))
@@ -319,8 +319,8 @@ module _ {M : Type 1} (𝓤 : URA M) (H : Heap 𝓤) (A : Atoms 𝓤) (W : Given
           gone ! 32 refl refl $ gone ! 30 refl refl $ gone ! 28 refl refl $ gone ! 26 refl refl $ gone ! 24 refl refl $ gone ! 22 refl refl $ gone ! 20 refl refl $ gone ! 18 refl refl $
           gone ! 16 refl refl $ gone ! 14 refl refl $ gone ! 12 refl refl $ gone ! 10 refl refl $ gone ! 8 refl refl $ gone ! 6 refl refl $ gone ! 4 refl refl $ free0 ! $
           suffices ! _ (ends-at 𝓤 H A this.ended stayed clauses W bound (as-Across .val r) r (tt, (tt, (tt, (tt, (tt, tt))))) (tt, (tt, (tt, (tt, (tt, tt)))))) $
-          says ! (settled-at (now run) (now entries) aside i state (asks .0) (asks .1) e c limit spot p is-e is-limit is-spot is-p is-c owner twin upto t r is-owner is-twin is-upto is-t
-          is-r) $
+          says ! (settled-at (now run) (now entries) aside i state (asks .0) (asks .1) e c limit spot p is-e is-limit is-spot is-p is-c owner twin upto t r
+          (is-owner .1 (may-reuse (now run) (now entries) aside i state (asks .0) (asks .1) e c limit spot p is-e is-limit is-spot is-p is-c)) is-twin is-upto is-t is-r) $
           keep ! (0 ∷ 1 ∷ []) $ retok ! 2 (κ₀, (κ₁, tt)) (q₀, (q₁, tt)) $ frame ! $ nothing ! $ none ! $ none ! $ none ! $ none ! $ none ! $ frame ! $
           owned ! AcrossT.the-row (Is AcrossT.the-row) (as-Across .makes) r _ in-r $ done !)))))))))))))))))))))))))
 
