@@ -9,9 +9,12 @@ use sheet::PLACE;
 use sheet::State;
 use text::TEXT_BYTES;
 ghost use mathlib.Core.Path.{_≡_};
+ghost use mathlib.Core.Bool.{true, false};
+ghost use Prim.Native.Nat.{_*_, _≤_};
 ghost use lib.ListN.{length};
+ghost use Rattle.sheet.specs.Sheet.{«BLOB_BYTES», LINES};
 ghost use Rattle.sheet.specs.Machine.{atLine, held};
-ghost use Rattle.statement.specs.Pieces.{ReadOne, ReadAll};
+ghost use Rattle.statement.specs.Pieces.{Taken, ReadOne, ReadAll, Reports};
 
 // How many numbers there are places for.
 const PLACES: usize = PLACE * LINES;
@@ -23,8 +26,14 @@ struct Reading {
     failed: bool,
 }
 
+// What is to be printed, in the text; nothing where a read failed.
+struct Reported {
+    written: Written,
+    failed: bool,
+}
+
 fn begin() -> Reading
-    ensures { λ r. ⌜ r .state ≡ atLine 0 0 ⌝ }
+    ensures { λ r. ⌜ (r .state ≡ atLine 0 0) × (r .more ≡ true) × (r .failed ≡ false) ⌝ }
 {
     let state = sheet::begin();
     Reading {
@@ -52,11 +61,10 @@ fn text_bytes() -> [u8; TEXT_BYTES]
     [0; TEXT_BYTES]
 }
 
-// One piece more.
-fn read_some(state: State, chunk: &mut [u8], run: &mut [u8], places: &mut [u64]) -> Reading
-    ensures { λ r. ⌜ ReadOne (now (chunk .exit)) (held state (now (run .entry)) (now (places .entry))) (held (r .state) (now (run .exit)) (now (places .exit))) (r .more) ⌝ }
+// One piece more: what a read answered, and the buffer as it left it.
+fn take_piece(got: isize, chunk: &[u8], state: State, run: &mut [u8], places: &mut [u64]) -> Reading
+    ensures { λ r. ⌜ Taken (record { got = got; buffer = now (chunk .entry) }) (held state (now (run .entry)) (now (places .entry))) r (now (run .exit)) (now (places .exit)) ⌝ }
 {
-    let got = libc::read(STDIN_FILENO, chunk);
     let n = io::count(got, chunk);
     let next = sheet::read_chunk(state, &chunk[..n], run, places);
     Reading {
@@ -66,9 +74,16 @@ fn read_some(state: State, chunk: &mut [u8], run: &mut [u8], places: &mut [u64])
     }
 }
 
+fn read_some(state: State, chunk: &mut [u8], run: &mut [u8], places: &mut [u64]) -> Reading
+    ensures { λ r. ⌜ ReadOne (now (chunk .exit)) (held state (now (run .entry)) (now (places .entry))) r (now (run .exit)) (now (places .exit)) ⌝ }
+{
+    let got = libc::read(STDIN_FILENO, chunk);
+    take_piece(got, chunk, state, run, places)
+}
+
 // A proved loop has to end, and nothing says that the input does. So the loop counts its turns down, from a number that no run uses up.
 fn read_all(chunk: &mut [u8], run: &mut [u8], places: &mut [u64]) -> Reading
-    ensures { λ r. ⌜ ReadAll (held (atLine 0 0) (now (run .entry)) (now (places .entry))) (held (r .state) (now (run .exit)) (now (places .exit))) (r .more) ⌝ }
+    ensures { λ r. ⌜ ReadAll (now (run .entry)) (now (places .entry)) r (now (run .exit)) (now (places .exit)) ⌝ }
 {
     let mut reading = begin();
     let mut turns = u64::MAX;
@@ -101,14 +116,35 @@ fn print(text: &[u8], written: Written) {
     }
 }
 
-fn statement(chunk: &mut [u8], run: &mut [u8], places: &mut [u64], text: &mut [u8]) {
+// Reads the input and writes its text: lists with the full room hold every sheet.
+fn report_input(chunk: &mut [u8], run: &mut [u8], places: &mut [u64], text: &mut [u8]) -> Reported
+    requires { ⌜ («BLOB_BYTES» ≤ length (now run)) × (6 * LINES ≤ length (now places)) ⌝ }
+    ensures { λ r. ⌜ Reports (now (run .entry)) (now (places .entry)) (now (text .entry)) r (now (run .exit)) (now (places .exit)) (now (text .exit)) ⌝ }
+{
     let reading = read_all(chunk, run, places);
     if reading.failed {
-        os::fail(b"standard input");
-        return;
+        return Reported {
+            written: Written::Length(0),
+            failed: true,
+        };
     }
     let state = reading.state;
     let written = report::report(state, run, places, text);
+    Reported {
+        written,
+        failed: false,
+    }
+}
+
+fn statement(chunk: &mut [u8], run: &mut [u8], places: &mut [u64], text: &mut [u8])
+    requires { ⌜ («BLOB_BYTES» ≤ length (now run)) × (6 * LINES ≤ length (now places)) ⌝ }
+{
+    let reported = report_input(chunk, run, places, text);
+    if reported.failed {
+        os::fail(b"standard input");
+        return;
+    }
+    let written = reported.written;
     print(text, written);
 }
 

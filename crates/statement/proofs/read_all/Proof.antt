@@ -4,7 +4,6 @@
 use mathlib.Core.Path.{_≡_, refl}
 use native.Mathlib.Omega.{arith}
 use lib.ListN.{length}
-use Rattle.sheet.specs.Machine.{atLine, held}
 use Rattle.statement.proofs.Pieces.{Reads, reads-start, reads-turn, reads-over, reads-all}
 use borrow.Author.Needs.{needs}
 use Rattle.statement.proofs.read_all.Statement.{statement}
@@ -12,7 +11,7 @@ use Rattle.statement.proofs.read_all.Tie as tie
 
 abbrev Inv-loop : tie.InvT-loop
 Inv-loop chunk₀ run₀ places₀ reading₀ turns₀ chunk run places reading turns =
-    (length chunk ≡ length chunk₀) × (length run ≡ length run₀) × (length places ≡ length places₀) × Reads (held (atLine 0 0) run₀ places₀) (held (reading .state) run places) turns
+    (length chunk ≡ length chunk₀) × (length run ≡ length run₀) × (length places ≡ length places₀) × Reads run₀ places₀ reading run places turns
 
 abbrev μ-loop : tie.MeasureT-loop
 μ-loop chunk₀ run₀ places₀ reading₀ turns₀ chunk run places reading turns = turns
@@ -36,7 +35,7 @@ loop-again : tie.Need-loop-again Inv-loop μ-loop
 loop-again c =
     let r = c .before .before .before .before .before .before in
     let l = r .before .before .before .before .before .before .before in
-    (search needs, search needs, search needs, reads-turn (l .loop .inv .3) (r .read-some .ensures) (omega arith))
+    (search needs, search needs, search needs, reads-turn (l .loop .inv .3) (r .before .before .before .before .before .if1 .taken) (r .read-some .ensures) (omega arith))
 
 same-length : tie.Need-same-length Inv-loop μ-loop
 same-length c = search needs
