@@ -1,6 +1,6 @@
 crate = "sought"
 fn = "among_from"
-NEXT = "(amongNext id (take count (now unacked)))"
+NEXT = "(amongNext (id .0) (take count (now unacked)))"
 TURN = f"{NEXT} (take n (now entries)) false"
 TOLD = f"({{told}} ∙ ap ({NEXT} {{s}}) (front-entry n {{i}} (now entries) {{less}}))"
 invariant = f"Folding {TURN} {{i}} {{s}}"

@@ -1,6 +1,6 @@
 crate = "sought"
 fn = "contact_from"
-TURN = "(soughtNext id) (now entries) begun"
+TURN = "(soughtNext (id .0)) (now entries) begun"
 invariant = f"Folding {TURN} {{i}} {{s}}"
 start = f"begins {TURN}"
 requires = "inside {i} count (now entries) {less} asks"

@@ -1,8 +1,8 @@
 // Calls and answers as numbers: a call is six, its code and what follows it; an answer is six too, its tag and what follows it.
 // `specs/Encoding.antt` says which call and which answer they are.
-use courier::ContactId;
 use dispatch::Call;
 use opened::Answer;
+use rows::ContactId;
 ghost use mathlib.Core.Path.{_≡_};
 ghost use mathlib.Core.Bool.{cond};
 ghost use mathlib.Core.List.{List};

@@ -4,6 +4,7 @@ use Prim.Native.Nat.{ℕ}
 use mathlib.Core.List.{List}
 use mathlib.Core.Bool.{Bool, cond}
 use mathlib.Core.Path.{_≡_, refl, sym, ap, _∙_, subst}
+use Rattle.rows.specs.declared.ContactId.{ContactId}
 use Rattle.contact.specs.declared.Contact.{Contact}
 use Rattle.contact.specs.Contact.{Lists}
 use Rattle.store.specs.declared.Entry.{Entry}
@@ -50,7 +51,7 @@ module _ (call : Call) (m : Mark) (run : List ℕ) (es : List Entry) (c : Contac
   abbrev h : Hand
   h = handOf m run es c l out
 
-  on-store : (k : ℕ) (n : Mark) → passesFor (storedFor n) run es k c l ≡ storePassed n h
+  on-store : (k : ContactId) (n : Mark) → passesFor (storedFor n) run es k c l ≡ storePassed n h
   on-store k Fresh = refl
   on-store k Had = refl
   on-store k (Opened id) = refl
@@ -61,7 +62,7 @@ module _ (call : Call) (m : Mark) (run : List ℕ) (es : List Entry) (c : Contac
   on-opened (Opened id) = refl
 
   on-call : (k : Call) → passesFor (askingFor k m) run es (idFor k m) c l ≡ passedFor k m h
-  on-call (Open id) = on-store (id .0) m
+  on-call (Open id) = on-store id m
   on-call (Cover f t) = on-opened m
   on-call (Contains n) = on-opened m
   on-call (Covers f t) = on-opened m
@@ -69,8 +70,8 @@ module _ (call : Call) (m : Mark) (run : List ℕ) (es : List Entry) (c : Contac
   on-call Statement = on-opened m
   on-call Write = on-opened m
 
-  pub of-store : (id : ℕ) (asking : Asking) (answer : Passed) (counted : Bool) (queued : ℕ) (r : Noted) → id ≡ idFor call m → asking ≡ askingFor call m
-      → answer ≡ passedAs (soughtIn es id) (passesFor asking run es id c l) → counted ≡ countsQueued call → queued ≡ cond counted (queuedOf id es) 0 → r ≡ notedAs answer queued id
+  pub of-store : (id : ContactId) (asking : Asking) (answer : Passed) (counted : Bool) (queued : ℕ) (r : Noted) → id ≡ idFor call m → asking ≡ askingFor call m
+      → answer ≡ passedAs (soughtIn es (id .0)) (passesFor asking run es id c l) → counted ≡ countsQueued call → queued ≡ cond counted (queuedOf (id .0) es) 0 → r ≡ notedAs answer queued id
       → OfStore call h r
   of-store id asking answer counted queued r is-id is-asking is-answer is-counted is-queued is-r =
       subst (OfStore call h) (sym is-r)
@@ -78,5 +79,5 @@ module _ (call : Call) (m : Mark) (run : List ℕ) (es : List Entry) (c : Contac
         gate = ap (λ p. gateOf (p .passed)) is-answer ∙ ap gateOf ((λ i. passesFor (is-asking i) run es (is-id i) c l) ∙ on-call call);
         which = is-id;
         row = ap (λ p. p .sought) is-answer;
-        count = is-queued ∙ ap (λ b. cond b (queuedOf id es) 0) is-counted;
+        count = is-queued ∙ ap (λ b. cond b (queuedOf (id .0) es) 0) is-counted;
       })

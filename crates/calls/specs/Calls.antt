@@ -3,6 +3,7 @@
 use Prim.Native.Nat.{ℕ}
 use mathlib.Core.List.{List}
 use mathlib.Core.Path.{_≡_}
+use Rattle.rows.specs.declared.ContactId.{ContactId}
 use Rattle.store.specs.declared.Entry.{Entry}
 use Rattle.store.specs.Store as store
 use Rattle.store.specs.Store.{storeOf}
@@ -61,5 +62,5 @@ abbrev pub askingFor : Call → Mark → Asking
 askingFor c m = byOpen (λ id. storedFor m) (openedFor m) c
 
 -- ---- what is noted of the store
-abbrev pub notedAs : Passed → (queued id : ℕ) → Noted
+abbrev pub notedAs : Passed → (queued : ℕ) → ContactId → Noted
 notedAs p queued id = record { sought = p .sought; queued = queued; id = id; gate = gateOf (p .passed) }

@@ -10,6 +10,7 @@ use opened::Left;
 use passes::Asking;
 use passes::Passed;
 use restore::Restored;
+use rows::ContactId;
 use store::Entry;
 ghost use mathlib.Core.Path.{_≡_};
 ghost use mathlib.Core.List.{List};
@@ -87,22 +88,22 @@ fn asking_for(call: Call, mark: Mark) -> Asking
 }
 
 // 0 where no contact is open.
-fn opened_id(mark: Mark) -> u64
+fn opened_id(mark: Mark) -> ContactId
     ensures { λ r. ⌜ r ≡ idIn mark ⌝ }
 {
     match mark {
-        Mark::Fresh => 0,
-        Mark::Restored => 0,
-        Mark::Opened(id) => id.0,
+        Mark::Fresh => ContactId(0),
+        Mark::Restored => ContactId(0),
+        Mark::Opened(id) => id,
     }
 }
 
 // The contact that a call is about: open names it.
-fn id_for(call: Call, mark: Mark) -> u64
+fn id_for(call: Call, mark: Mark) -> ContactId
     ensures { λ r. ⌜ r ≡ idFor call mark ⌝ }
 {
     match call {
-        Call::Open(id) => id.0,
+        Call::Open(id) => id,
         Call::Cover(_, _) => opened_id(mark),
         Call::Contains(_) => opened_id(mark),
         Call::Covers(_, _) => opened_id(mark),
@@ -138,7 +139,7 @@ fn gate_of(passed: bool) -> Gate
     }
 }
 
-fn noted_as(answer: Passed, queued: u64, id: u64) -> Noted
+fn noted_as(answer: Passed, queued: u64, id: ContactId) -> Noted
     ensures { λ r. ⌜ r ≡ notedAs answer queued id ⌝ }
 {
     let sought = answer.sought;

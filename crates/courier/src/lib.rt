@@ -4,6 +4,7 @@ use fields::U8Field;
 use fields::U32Field;
 use fields::U64Field;
 use layout::question;
+use rows::ContactId;
 ghost use mathlib.Core.Path.{_≡_};
 ghost use lib.ListN.{drop};
 ghost use Rattle.layout.specs.Field.{readAt};
@@ -12,9 +13,6 @@ ghost use Rattle.rows.specs.Rows.{carried, tombstone, courier};
 ghost use Rattle.offsets.specs.Offset.{located};
 ghost use Rattle.courier.specs.Courier.{kindForm, kindSays, kindRefusal, carriedAt, carriedSays, carriedRefusal, tombstoneAt, tombstoneSays};
 ghost use Rattle.courier.specs.Courier.{checked, checkRefusal, sealedAt};
-
-// A contact's number, apart from slots and message numbers.
-pub struct ContactId(pub u64);
 
 // What a courier row holds.
 pub enum Kind {

@@ -1,12 +1,12 @@
 // Courier rows read into a struct and written from it, as state.rs has them (Held, Tombstone). The sealed text stays in the row.
 use courier::CarriedAt;
-use courier::ContactId;
 use courier::CourierCheck;
 use courier::HeldAt;
 use courier::Kind;
 use courier::TombstoneAt;
 use envelope::Envelope;
 use layout::question;
+use rows::ContactId;
 use rows::Verdict;
 use rows::Written;
 ghost use mathlib.Core.Logic.{inl, inr};

@@ -14,6 +14,7 @@ use Rattle.layout.specs.Layout as layout
 use Rattle.layout.specs.Write as writer
 use Rattle.rows.specs.Values as value
 use Rattle.rows.specs.Rows as rows
+use Rattle.rows.specs.declared.ContactId.{ContactId}
 use Rattle.received.specs.Ranges.{changeOf}
 use Rattle.received.specs.Lent.{fits, planOf, listAfter}
 use Rattle.received.specs.declared.Planned.the-variants as planned
@@ -23,7 +24,6 @@ use Rattle.contact.specs.Contact as contacts
 use Rattle.contact.specs.Contact.{Lists}
 use Rattle.contact_put.specs.Row.{counted, image, writesContact, ContactTyped, ListsTyped}
 use Rattle.contact_put.proofs.Counts.{all-counted}
-use Rattle.courier.specs.declared.ContactId.{ContactId}
 use Rattle.store.specs.declared.Entry.{Entry}
 use Rattle.store.specs.Store.{partOf, replacedPasses}
 use Rattle.line.specs.Line.{lineOf, queuedOf}
@@ -75,7 +75,7 @@ module _ (m : Mark) (run : List ℕ) (es : List Entry) (c : Contact) (l : Lists)
   opened-no Restored then e = refl
   opened-no (Opened id) then e = rw e
 
-  opened-yes : (n : Mark) (then : ℕ → Left) → passedOn n h ≡ true → then (idIn n) ≡ onOpened n h then
+  opened-yes : (n : Mark) (then : ℕ → Left) → passedOn n h ≡ true → then (idIn n .0) ≡ onOpened n h then
   opened-yes Fresh then e = absurd (false≢true e)
   opened-yes Restored then e = absurd (false≢true e)
   opened-yes (Opened id) then e = rw e
@@ -101,12 +101,12 @@ module _ (m : Mark) (run : List ℕ) (es : List Entry) (c : Contact) (l : Lists)
   refused-step Write e = opened-no m _ e
 
   -- ---- the lines that statement says: 34 has bounded the counts
-  line-is : ListsTyped l → (k : ℕ) → passes k h ≡ true → lineFrom k c (queuedOf k es) (l .above) (l .expired) ≡ lineIn k h
+  line-is : ListsTyped l → (k : ContactId) → passes (k .0) h ≡ true → lineFrom k c (queuedOf (k .0) es) (l .above) (l .expired) ≡ lineIn (k .0) h
   line-is typed k e =
-      let all = all-counted c l (and-both (counted c l) (replacedPasses run es k (image c l)) e .0) in
+      let all = all-counted c l (and-both (counted c l) (replacedPasses run es (k .0) (image c l)) e .0) in
       let a = few-numbers (c .above) (l .above) (typed .above) (all .above .few) in
       let x = few-numbers (c .expired) (l .expired) (typed .expired) (all .expired .few) in
-      λ i. lineOf k (c .«sent_msgno») (c .«peer_acked») (c .contiguous) (a i) (queuedOf k es) (x i)
+      λ i. lineOf (k .0) (c .«sent_msgno») (c .«peer_acked») (c .contiguous) (a i) (queuedOf (k .0) es) (x i)
 
   line-said : (line : List ℕ) → let w = writer.stored line out in leaves (says (lineSays (w .answer)) (w .out)) (output (w .out) h) ≡ writing (saidLine line) h w
   line-said line =
@@ -120,22 +120,22 @@ module _ (m : Mark) (run : List ℕ) (es : List Entry) (c : Contact) (l : Lists)
   row-wrote (writer.wrote n) o = refl
   row-wrote (writer.refuses q) o = refl
 
-  passed-opened : (n : Mark) → passedOn n h ≡ true → passes (idIn n) h ≡ true
+  passed-opened : (n : Mark) → passedOn n h ≡ true → passes (idIn n .0) h ≡ true
   passed-opened Fresh e = absurd (false≢true e)
   passed-opened Restored e = absurd (false≢true e)
   passed-opened (Opened id) e = e
 
   -- ---- what open leaves
-  read-row : (k version : ℕ) (row : List ℕ) → let x = contacts.reads version row l in
-      leftOf (openedBy (x .answer .verdict) k m c (x .answer .contact)) h (x .lists) out ≡ filling k h (readRow (rows.contact version) row)
+  read-row : (k : ContactId) (version : ℕ) (row : List ℕ) → let x = contacts.reads version row l in
+      leftOf (openedBy (x .answer .verdict) k m c (x .answer .contact)) h (x .lists) out ≡ filling (k .0) h (readRow (rows.contact version) row)
   unfolding contacts.reads
   read-row k version row = go (readRow (rows.contact version) row)
     where
-      go : (y : layout.Answer value.Contact) → let x = contacts.opened y l in leftOf (openedBy (x .answer .verdict) k m c (x .answer .contact)) h (x .lists) out ≡ filling k h y
+      go : (y : layout.Answer value.Contact) → let x = contacts.opened y l in leftOf (openedBy (x .answer .verdict) k m c (x .answer .contact)) h (x .lists) out ≡ filling (k .0) h y
       go (layout.accepted v) = cond-of (λ (x : contacts.Left). leftOf (openedBy (x .answer .verdict) k m c (x .answer .contact)) h (x .lists) out) (contacts.longEnough v l) _ _
       go (layout.refusedBy q) = refl
 
-  looked-up : (k : ℕ) (s : Sought) (x : Option Entry) → s ≡ soughtOf x → leftOf (openLeaves s k m c run l) h (openLists s run l) out ≡ steps.opening k h x
+  looked-up : (k : ContactId) (s : Sought) (x : Option Entry) → s ≡ soughtOf x → leftOf (openLeaves s k m c run l) h (openLists s run l) out ≡ steps.opening (k .0) h x
   looked-up k s none e = rw e
   looked-up k s (some x) e = rw e (read-row k (x .version) (partOf run x))
 
@@ -147,7 +147,7 @@ module _ (m : Mark) (run : List ℕ) (es : List Entry) (c : Contact) (l : Lists)
     abbrev q : ℕ
     q = noted .queued
 
-    abbrev id : ℕ
+    abbrev id : ContactId
     id = noted .id
 
     as-called : {k : Call} → call ≡ k → {x : Left} → x ≡ step HIGHEST (callOf k) h → x ≡ step HIGHEST (callOf call) h
@@ -204,12 +204,12 @@ module _ (m : Mark) (run : List ℕ) (es : List Entry) (c : Contact) (l : Lists)
       unfolding steps.step
       statement-is e typed is =
           let k = idIn m in
-          let line : lineFrom id c q (l .above) (l .expired) ≡ lineIn k h =
-          (λ i. lineFrom (its e i) c ((o .count ∙ (λ j. cond (countsQueued (e j)) (queuedOf (its e j) es) 0)) i) (l .above) (l .expired)) ∙ line-is typed k (passed-opened m (answered e)) in
+          let line : lineFrom id c q (l .above) (l .expired) ≡ lineIn (k .0) h =
+          (λ i. lineFrom (its e i) c ((o .count ∙ (λ j. cond (countsQueued (e j)) (queuedOf (its e j .0) es) 0)) i) (l .above) (l .expired)) ∙ line-is typed k (passed-opened m (answered e)) in
           as-called e
           ((λ i. leftOf (is .answer i) h l (is .output i))
           ∙ ap (λ (x : List ℕ). let w = writer.stored x out in leaves (says (lineSays (w .answer)) (w .out)) (output (w .out) h)) line
-          ∙ line-said (lineIn k h)
+          ∙ line-said (lineIn (k .0) h)
           ∙ opened-yes m _ (answered e))
 
       write-is : call ≡ Write → ListsTyped l → ContactTyped c → {r : code.Left} {w : List ℕ} → WrittenBy c m rowSays (writesContact c l out) r w
@@ -219,7 +219,7 @@ module _ (m : Mark) (run : List ℕ) (es : List Entry) (c : Contact) (l : Lists)
           as-called e
           ((λ i. leftOf (is .answer i) h l (is .output i))
           ∙ ap (λ a. leaves a (output (writesContact c l out .out) h)) (row-wrote (writesContact c l out .answer) _)
-          ∙ ap (writing wroteRow h) (passed-writes (idIn m) h fields typed (passed-opened m (answered e)) out)
+          ∙ ap (writing wroteRow h) (passed-writes (idIn m .0) h fields typed (passed-opened m (answered e)) out)
           ∙ opened-yes m _ (answered e))
 
       open-is : {k : ContactId} → call ≡ Open k → {r : code.Left} {ls : Lists}
@@ -228,8 +228,8 @@ module _ (m : Mark) (run : List ℕ) (es : List Entry) (c : Contact) (l : Lists)
       open-is e is =
           as-called e
           ((λ i. leftOf (is .0 i) h (is .1 i) out)
-          ∙ looked-up id s (contactIn es id) (o .row)
-          ∙ ap (λ (j : ℕ). steps.opening j h (contactIn es j)) (its e)
+          ∙ looked-up id s (contactIn es (id .0)) (o .row)
+          ∙ ap (λ (j : ContactId). steps.opening (j .0) h (contactIn es (j .0))) (its e)
           ∙ store-yes m _ (answered e))
 
   -- ---- so what a step leaves is the ledger's, where what was noted of the store is right

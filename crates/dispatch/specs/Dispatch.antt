@@ -7,10 +7,10 @@ use mathlib.Core.Path.{_≡_}
 use lib.ListN.{take}
 use Rattle.layout.specs.Questions.{STORE}
 use Rattle.layout.specs.Write as writer
+use Rattle.rows.specs.declared.ContactId.{ContactId}
 use Rattle.contact.specs.Contact.{Lists}
 use Rattle.contact.specs.declared.Contact.{Contact}
 use Rattle.contact_put.specs.Row.{writesContact, ContactTyped, ListsTyped}
-use Rattle.courier.specs.declared.ContactId.{ContactId}
 use Rattle.store.specs.declared.Entry.{Entry}
 use Rattle.store.specs.Store.{storePasses}
 use Rattle.line.specs.Line.{queuedOf}
@@ -87,14 +87,14 @@ abbrev pub gateOf : (passed : Bool) → Gate
 gateOf passed = cond passed Through (Refused STORE)
 
 -- the open contact; where none is open, 34 is a no before anything is asked of it
-abbrev pub idIn : Mark → ℕ
-idIn Fresh = 0
-idIn Restored = 0
-idIn (Opened id) = id .0
+abbrev pub idIn : Mark → ContactId
+idIn Fresh = record { 0 = 0 }
+idIn Restored = record { 0 = 0 }
+idIn (Opened id) = id
 
 -- whose row is sought
-abbrev pub idFor : Call → Mark → ℕ
-idFor c m = byOpen (λ id. id .0) (idIn m) c
+abbrev pub idFor : Call → Mark → ContactId
+idFor c m = byOpen (λ id. id) (idIn m) c
 
 -- whether it has to know how many of the contact's rows are queued
 abbrev pub countsQueued : Call → Bool
@@ -110,8 +110,8 @@ countsQueued Write = false
 pub record OfStore (c : Call) (h : Hand) (k : Noted) : Type 0 where
   pub gate : k .gate ≡ gateOf (passedFor c (h .mark) h)
   pub which : k .id ≡ idFor c (h .mark)
-  pub row : k .sought ≡ soughtIn (h .entries) (k .id)
-  pub count : k .queued ≡ cond (countsQueued c) (queuedOf (k .id) (h .entries)) 0
+  pub row : k .sought ≡ soughtIn (h .entries) (k .id .0)
+  pub count : k .queued ≡ cond (countsQueued c) (queuedOf (k .id .0) (h .entries)) 0
 
 -- ---- what a step leaves: by value, in the lists and in the output
 pub record Done : Type 0 where

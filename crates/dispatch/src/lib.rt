@@ -1,10 +1,10 @@
 // One step: any call but restore, apart from the store. What a call has to know of the store is handed in; where a question before the call was a no, that is
 // the answer, and nothing changes.
 use contact::Contact;
-use courier::ContactId;
 use ledger::Mark;
 use opened::Answer;
 use opened::Left;
+use rows::ContactId;
 use sought::Sought;
 ghost use Rattle.contact.specs.Contact.{listsBefore, listsAfter};
 ghost use Rattle.dispatch.specs.Dispatch.{done, Stepped};
@@ -31,7 +31,7 @@ pub enum Gate {
 pub struct Noted {
     pub sought: Sought,
     pub queued: u64,
-    pub id: u64,
+    pub id: ContactId,
     pub gate: Gate,
 }
 

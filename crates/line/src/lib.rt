@@ -3,6 +3,7 @@
 // The count is 2^64 - 1 where the ranges hold more than that, which 65,535 ranges, the most that a contact row has, never do.
 // A range whose first number is above its last holds none, and a count of ranges above the lent pairs counts as the lent pairs.
 use layout::question;
+use rows::ContactId;
 use rows::Written;
 ghost use mathlib.Core.Path.{_≡_};
 ghost use mathlib.Core.List.{_∷_};
@@ -106,7 +107,7 @@ fn put_line(out: &mut [u8], at: usize, fields: [u64; 7]) -> usize
 
 // Writes the line to the front of the output, if there is room.
 pub fn statement_line(
-    contact: u64,
+    contact: ContactId,
     sent: u32,
     acked: u32,
     contiguous: u32,
@@ -115,12 +116,12 @@ pub fn statement_line(
     expired: u64,
     out: &mut [u8],
 ) -> Written
-    ensures { λ r. ⌜ leaves r (now (out .exit)) ≡ stored (lineOf contact sent acked contiguous beyond queued expired) (now (out .entry)) ⌝ }
+    ensures { λ r. ⌜ leaves r (now (out .exit)) ≡ stored (lineOf (contact .0) sent acked contiguous beyond queued expired) (now (out .entry)) ⌝ }
 {
     let n = wide(sent);
     let a = wide(acked);
     let c = wide(contiguous);
-    let fields = [contact, n, a, c, beyond, queued, expired];
+    let fields = [contact.0, n, a, c, beyond, queued, expired];
     let len = line_len(fields);
     if out.len() < len {
         return Written::Refused(question::OUTPUT);

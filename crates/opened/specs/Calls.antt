@@ -8,6 +8,7 @@ use lib.ListN.{length}
 use lib.Dec.{ltb}
 use Rattle.layout.specs.Questions.{«CONTACT_STORED», RANGE, «MSGNO_LEFT»}
 use Rattle.layout.specs.Write as writer
+use Rattle.rows.specs.declared.ContactId.{ContactId}
 use Rattle.rows.specs.declared.Verdict.{Verdict}
 use Rattle.rows.specs.declared.Verdict.the-variants as verdict
 use Rattle.received.specs.Ranges as received
@@ -81,27 +82,27 @@ pub record WrittenBy (c : Contact) (m : Mark) (say : writer.Written → Answer) 
 abbrev pub numbersIn : (count : ℕ) → List ℕ → ℕ
 numbersIn count l = min (size (pairs count l)) (2 ^ 64 - 1)
 
-abbrev pub lineFrom : (id : ℕ) → Contact → (queued : ℕ) → (above expired : List ℕ) → List ℕ
-lineFrom k c queued above expired =
-    lineOf k (c .«sent_msgno») (c .«peer_acked») (c .contiguous) (numbersIn (c .above) above) queued (numbersIn (c .expired) expired)
+abbrev pub lineFrom : ContactId → Contact → (queued : ℕ) → (above expired : List ℕ) → List ℕ
+lineFrom id c queued above expired =
+    lineOf (id .0) (c .«sent_msgno») (c .«peer_acked») (c .contiguous) (numbersIn (c .above) above) queued (numbersIn (c .expired) expired)
 
-abbrev pub lineLeft : (id : ℕ) → Contact → (queued : ℕ) → (above expired out : List ℕ) → writer.Left
-lineLeft k c queued above expired out = writer.stored (lineFrom k c queued above expired) out
+abbrev pub lineLeft : ContactId → Contact → (queued : ℕ) → (above expired out : List ℕ) → writer.Left
+lineLeft id c queued above expired out = writer.stored (lineFrom id c queued above expired) out
 
 -- ---- open: 36, and what reading the row leaves; if that is a no, the mark and the fields are those handed in
-abbrev pub openedBy : Verdict → (id : ℕ) → Mark → (contact read : Contact) → Left
-openedBy verdict.Accepted k m c read = left read (Opened (record { 0 = k })) answer.Yes
-openedBy (verdict.Refused q) k m c read = left c m (answer.No q)
+abbrev pub openedBy : Verdict → ContactId → Mark → (contact read : Contact) → Left
+openedBy verdict.Accepted id m c read = left read (Opened id) answer.Yes
+openedBy (verdict.Refused q) id m c read = left c m (answer.No q)
 
 -- what reading the row of the sought entry leaves
 abbrev pub readOf : Sought → (run : List ℕ) → Lists → contacts.Left
 readOf s run l = reads (s .entry .version) (partOf run (s .entry)) l
 
 -- 35
-abbrev pub openLeaves : Sought → (id : ℕ) → Mark → Contact → (run : List ℕ) → Lists → Left
-openLeaves s k m c run l =
+abbrev pub openLeaves : Sought → ContactId → Mark → Contact → (run : List ℕ) → Lists → Left
+openLeaves s id m c run l =
     let x = readOf s run l .answer in
-    cond (s .found) (openedBy (x .verdict) k m c (x .contact)) (left c m (answer.No «CONTACT_STORED»))
+    cond (s .found) (openedBy (x .verdict) id m c (x .contact)) (left c m (answer.No «CONTACT_STORED»))
 
 abbrev pub openLists : Sought → (run : List ℕ) → Lists → Lists
 openLists s run l = cond (s .found) (readOf s run l .lists) l

@@ -2,10 +2,10 @@
 // A refusal changes nothing: the opened fields and the mark come back as they were handed in.
 use contact::Contact;
 use contact::ContactRead;
-use courier::ContactId;
 use layout::question;
 use ledger::Mark;
 use received::Planned;
+use rows::ContactId;
 use rows::Verdict;
 use rows::Written;
 use sought::Sought;
@@ -157,7 +157,7 @@ fn of_row(written: Written) -> Answer
 
 // Writes the open contact's line to the front of the output, if there is room. Its id and how many queued rows it has come from the store.
 pub fn statement(
-    id: u64,
+    id: ContactId,
     contact: Contact,
     mark: Mark,
     queued: u64,
@@ -210,7 +210,7 @@ pub fn write(
 // ---- open
 
 // What is open once the row was read.
-fn opened_by(id: u64, mark: Mark, contact: Contact, read: ContactRead) -> Left
+fn opened_by(id: ContactId, mark: Mark, contact: Contact, read: ContactRead) -> Left
     ensures { λ r. ⌜ r ≡ openedBy (read .verdict) id mark contact (read .contact) ⌝ }
 {
     let verdict = read.verdict;
@@ -218,7 +218,7 @@ fn opened_by(id: u64, mark: Mark, contact: Contact, read: ContactRead) -> Left
         let its = read.contact;
         return Left {
             contact: its,
-            mark: Mark::Opened(ContactId(id)),
+            mark: Mark::Opened(id),
             answer: Answer::Yes,
         };
     };
@@ -233,7 +233,7 @@ fn opened_by(id: u64, mark: Mark, contact: Contact, read: ContactRead) -> Left
 pub fn open(
     run: &[u8],
     sought: Sought,
-    id: u64,
+    id: ContactId,
     mark: Mark,
     contact: Contact,
     chains: &mut [u8],

@@ -12,6 +12,7 @@ use Rattle.layout.specs.Layout.{Answer, accepted, refusedBy, readRow}
 use Rattle.layout.specs.Write as write
 use Rattle.rows.specs.Values as value
 use Rattle.rows.specs.Rows as rows
+use Rattle.rows.specs.declared.ContactId.{ContactId}
 use Rattle.rows.specs.Checks.{ackedSent, rising, canonical, noneAbove}
 use Rattle.rows.proofs.Meets.{first-none}
 use Rattle.received.proofs.Tests.{either}
@@ -78,44 +79,47 @@ all-granted run es aside end is = ap isGranted is ∙ go (askedAside run es (isA
     go (so.Refused number place) next slot = refl
 
 -- ---- opened fields in place of a contact's row
-module _ (run : List ℕ) (es : List Entry) (id : ℕ) (c : Contact) (l : Lists) where
+module _ (run : List ℕ) (es : List Entry) (id : ContactId) (c : Contact) (l : Lists) where
+  abbrev k : ℕ
+  k = id .0
+
   abbrev hand : Hand
   hand = record { mark = Fresh; run = run; entries = es; contact = c; lists = l; out = [] }
 
   still-is : (writable : Bool) (sought : Sought) (aside : Aside) (end : Restored) (count : ℕ) (among r : Bool)
-      → Writable c l writable → sought ≡ soughtIn es id → aside ≡ left.Contact id (c .«sent_msgno») → end ≡ questioned run es aside → count ≡ c .unacked
-      → among ≡ queuedFound id (take count (l .unacked)) es
+      → Writable c l writable → sought ≡ soughtIn es k → aside ≡ left.Contact id (c .«sent_msgno») → end ≡ questioned run es aside → count ≡ c .unacked
+      → among ≡ queuedFound k (take count (l .unacked)) es
       → r ≡ (writable && (sought .found && (isGranted end && not among)))
-      → r ≡ (counted c l && replacedPasses run es id (image c l))
+      → r ≡ (counted c l && replacedPasses run es k (image c l))
   still-is writable sought aside end count among r is-writable is-sought is-aside is-end is-count is-among is-r =
-      is-r ∙ (λ k. is-writable .asked k && (there k && (isGranted end && not among))) ∙ in-parts ∙ sym (passes-in-parts id hand (is-writable .contact) (is-writable .lists))
+      is-r ∙ (λ i. is-writable .asked i && (there i && (isGranted end && not among))) ∙ in-parts ∙ sym (passes-in-parts k hand (is-writable .contact) (is-writable .lists))
     where
-      there : sought .found ≡ before es (length es) CONTACT id
-      there = ap (λ (s : Sought). s .found) is-sought ∙ found-is id es
+      there : sought .found ≡ before es (length es) CONTACT k
+      there = ap (λ (s : Sought). s .found) is-sought ∙ found-is k es
 
-      going-is : isGranted end ≡ going (askedAside run es (isOf CONTACT id) (sight run es id (c .«sent_msgno») []))
+      going-is : isGranted end ≡ going (askedAside run es (isOf CONTACT k) (sight run es k (c .«sent_msgno») []))
       going-is = all-granted run es aside end is-end ∙ ap (λ (a : Aside). going (askedAside run es (isAside a) (asideSeen a))) is-aside
 
-      among-is : isLength (askedContact c l) ≡ true → among ≡ queuedAmong id (take (c .unacked) (l .unacked)) es
+      among-is : isLength (askedContact c l) ≡ true → among ≡ queuedAmong k (take (c .unacked) (l .unacked)) es
       among-is t =
-          is-among ∙ ap (λ (n : ℕ). queuedFound id (take n (l .unacked)) es) is-count
-          ∙ among-rising id (take (c .unacked) (l .unacked)) (rises c l (is-writable .contact) (is-writable .lists) t) es
+          is-among ∙ ap (λ (n : ℕ). queuedFound k (take n (l .unacked)) es) is-count
+          ∙ among-rising k (take (c .unacked) (l .unacked)) (rises c l (is-writable .contact) (is-writable .lists) t) es
 
-      in-parts : isLength (askedContact c l) && (before es (length es) CONTACT id && (isGranted end && not among)) ≡ passesInParts id hand
+      in-parts : isLength (askedContact c l) && (before es (length es) CONTACT k && (isGranted end && not among)) ≡ passesInParts k hand
       in-parts =
           either (isLength (askedContact c l))
-          (λ b. (b && (before es (length es) CONTACT id && (isGranted end && not among)))
-          ≡ (b && (before es (length es) CONTACT id && going (askedAside run es (isOf CONTACT id) (sightOf c l)))))
-          (λ t. ap (λ (x : Bool). before es (length es) CONTACT id && x)
-          ((λ k. going-is k && not (among-is t k)) ∙ sym (asked-apart run es id (c .«sent_msgno») (take (c .unacked) (l .unacked)))))
+          (λ b. (b && (before es (length es) CONTACT k && (isGranted end && not among)))
+          ≡ (b && (before es (length es) CONTACT k && going (askedAside run es (isOf CONTACT k) (sightOf c l)))))
+          (λ t. ap (λ (x : Bool). before es (length es) CONTACT k && x)
+          ((λ i. going-is i && not (among-is t i)) ∙ sym (asked-apart run es k (c .«sent_msgno») (take (c .unacked) (l .unacked)))))
           (λ f. refl)
 
   -- ---- whatever it is asked of
   pub passes-is : (asking : Asking) (writable : Bool) (sought : Sought) (aside : Aside) (end : Restored) (count : ℕ) (among r : Bool)
       → WritableFor asking c l writable → aside ≡ asideFor asking id c → end ≡ questioned run es aside → count ≡ countFor asking c
-      → among ≡ queuedFound id (take count (l .unacked)) es
+      → among ≡ queuedFound k (take count (l .unacked)) es
       → r ≡ yesFor asking writable (sought .found) (isGranted end) among
-      → sought ≡ soughtIn es id → r ≡ passesFor asking run es id c l
+      → sought ≡ soughtIn es k → r ≡ passesFor asking run es id c l
   passes-is Nothing writable sought aside end count among r is-writable is-aside is-end is-count is-among is-r is-sought = is-r
   passes-is Stored writable sought aside end count among r is-writable is-aside is-end is-count is-among is-r is-sought =
       is-r ∙ all-granted run es aside end is-end ∙ ap (λ (a : Aside). going (askedAside run es (isAside a) (asideSeen a))) is-aside

@@ -4,6 +4,7 @@ use Prim.Native.Nat.{ℕ}
 use mathlib.Core.List.{List}
 use mathlib.Core.Bool.{Bool, false, _&&_, not}
 use mathlib.Core.Path.{_≡_}
+use Rattle.rows.specs.declared.ContactId.{ContactId}
 use Rattle.contact.specs.Contact.{Lists}
 use Rattle.contact.specs.declared.Contact.{Contact}
 use Rattle.contact_put.specs.Row.{counted, image, askedContact, ContactTyped, ListsTyped}
@@ -17,10 +18,10 @@ use Rattle.passes.specs.declared.Passed.{Passed}
 use Rattle.passes.specs.declared.Asking.{Asking}
 use Rattle.passes.specs.declared.Asking.the-variants.{Nothing, Stored, Opened}
 
-abbrev pub passesFor : Asking → (run : List ℕ) → List Entry → (id : ℕ) → Contact → Lists → Bool
-passesFor Nothing run es k c l = false
-passesFor Stored run es k c l = storePasses run es
-passesFor Opened run es k c l = counted c l && replacedPasses run es k (image c l)
+abbrev pub passesFor : Asking → (run : List ℕ) → List Entry → ContactId → Contact → Lists → Bool
+passesFor Nothing run es id c l = false
+passesFor Stored run es id c l = storePasses run es
+passesFor Opened run es id c l = counted c l && replacedPasses run es (id .0) (image c l)
 
 -- a writer would answer a length; and what the types say of the fields and their lists
 pub record Writable (c : Contact) (l : Lists) (r : Bool) : Type 0 where
@@ -37,10 +38,10 @@ WritableFor Nothing c l r = r ≡ false
 WritableFor Stored c l r = r ≡ false
 WritableFor Opened c l r = Writable c l r
 
-abbrev pub asideFor : Asking → (id : ℕ) → Contact → Aside
-asideFor Nothing k c = left.Nothing
-asideFor Stored k c = left.Nothing
-asideFor Opened k c = left.Contact k (c .«sent_msgno»)
+abbrev pub asideFor : Asking → ContactId → Contact → Aside
+asideFor Nothing id c = left.Nothing
+asideFor Stored id c = left.Nothing
+asideFor Opened id c = left.Contact id (c .«sent_msgno»)
 
 abbrev pub countFor : Asking → Contact → ℕ
 countFor Nothing c = 0

@@ -2,6 +2,7 @@
 // asked what a writer asks, the store with the row left aside, and the contact's queued rows 29 by the lent numbers.
 use contact::Contact;
 use restore::Restored;
+use rows::ContactId;
 use rows::Written;
 use sought::Sought;
 use store::Aside;
@@ -79,7 +80,7 @@ fn is_writable_for(
     }
 }
 
-fn left_aside(asking: Asking, id: u64, contact: Contact) -> Aside
+fn left_aside(asking: Asking, id: ContactId, contact: Contact) -> Aside
     ensures { λ r. ⌜ r ≡ asideFor asking id contact ⌝ }
 {
     match asking {
@@ -137,7 +138,7 @@ pub fn passes(
     run: &[u8],
     entries: &[Entry],
     asking: Asking,
-    id: u64,
+    id: ContactId,
     contact: Contact,
     chains: &[u8],
     skipped: &[u8],
@@ -145,7 +146,7 @@ pub fn passes(
     unacked: &[u32],
     expired: &[u32],
 ) -> Passed
-    ensures { λ r. ⌜ r ≡ passedAs (soughtIn (now (entries .entry)) id) (passesFor asking (now (run .entry)) (now (entries .entry)) id contact
+    ensures { λ r. ⌜ r ≡ passedAs (soughtIn (now (entries .entry)) (id .0)) (passesFor asking (now (run .entry)) (now (entries .entry)) id contact
         (lists (now (chains .entry)) (now (skipped .entry)) (now (above .entry)) (now (unacked .entry)) (now (expired .entry)))) ⌝ }
 {
     let sought = sought::contact_in(entries, id);

@@ -10,6 +10,7 @@ use cases::first;
 use contact::Contact;
 use ledger::Mark;
 use libc::STDOUT_FILENO;
+use rows::ContactId;
 use rows::Written;
 use session::Session;
 
@@ -33,7 +34,7 @@ pub(super) fn print(written: Written, line: &[u8]) -> bool {
 
 // The open contact, its fields as a row, and the places of the list above contiguous that were written.
 fn opened_state(
-    id: u64,
+    id: ContactId,
     contact: Contact,
     written: usize,
     chains: &[u8],
@@ -75,7 +76,7 @@ fn state(
         return transcript::text_line(b"none", line);
     };
     opened_state(
-        id.0,
+        id,
         contact,
         written,
         chains,

@@ -1,5 +1,8 @@
 // What rows are made of: the enums behind their code bytes, the sizes and limits that their layouts cite, and the answers about rows.
 
+// A contact's number, apart from slots and message numbers.
+pub struct ContactId(pub u64);
+
 // How a contact was paired.
 pub enum PairingRole {
     A,

@@ -1,5 +1,6 @@
 // What is looked for among lent entries: a contact's entry, and its queued ones. Each search is a loop over entries with one call in its turn; where nothing is
 // to be found the loop has no turn.
+use rows::ContactId;
 use store::Entry;
 ghost use mathlib.Core.Path.{_≡_};
 ghost use mathlib.Core.List.{foldl};
@@ -38,8 +39,8 @@ fn none_yet() -> Sought
     }
 }
 
-fn contact_next(e: Entry, id: u64, sought: Sought) -> Sought
-    ensures { λ r. ⌜ r ≡ soughtNext id sought e ⌝ }
+fn contact_next(e: Entry, id: ContactId, sought: Sought) -> Sought
+    ensures { λ r. ⌜ r ≡ soughtNext (id .0) sought e ⌝ }
 {
     if sought.found {
         return sought;
@@ -47,7 +48,7 @@ fn contact_next(e: Entry, id: u64, sought: Sought) -> Sought
     if e.kind != store::CONTACT {
         return sought;
     }
-    if e.id != id {
+    if e.id != id.0 {
         return sought;
     }
     Sought {
@@ -56,17 +57,17 @@ fn contact_next(e: Entry, id: u64, sought: Sought) -> Sought
     }
 }
 
-fn contact_at(entries: &[Entry], id: u64, i: usize, sought: Sought) -> Sought
+fn contact_at(entries: &[Entry], id: ContactId, i: usize, sought: Sought) -> Sought
     requires { ⌜ i < length (now entries) ⌝ }
-    ensures { λ r. ⌜ r ≡ soughtNext id sought (entryAt (now (entries .entry)) i) ⌝ }
+    ensures { λ r. ⌜ r ≡ soughtNext (id .0) sought (entryAt (now (entries .entry)) i) ⌝ }
 {
     let e = entries::entry_at(entries, i);
     contact_next(e, id, sought)
 }
 
-fn contact_from(entries: &[Entry], id: u64, count: usize, begun: Sought) -> Sought
+fn contact_from(entries: &[Entry], id: ContactId, count: usize, begun: Sought) -> Sought
     requires { ⌜ count ≡ length (now entries) ⌝ }
-    ensures { λ r. ⌜ r ≡ foldl (soughtNext id) begun (now (entries .entry)) ⌝ }
+    ensures { λ r. ⌜ r ≡ foldl (soughtNext (id .0)) begun (now (entries .entry)) ⌝ }
 {
     let mut i = 0;
     let mut sought = begun;
@@ -78,8 +79,8 @@ fn contact_from(entries: &[Entry], id: u64, count: usize, begun: Sought) -> Soug
 }
 
 // The first entry of this contact.
-pub fn contact_in(entries: &[Entry], id: u64) -> Sought
-    ensures { λ r. ⌜ r ≡ soughtIn (now (entries .entry)) id ⌝ }
+pub fn contact_in(entries: &[Entry], id: ContactId) -> Sought
+    ensures { λ r. ⌜ r ≡ soughtIn (now (entries .entry)) (id .0) ⌝ }
 {
     let n = entries::entry_count(entries);
     let begun = none_yet();
@@ -88,19 +89,19 @@ pub fn contact_in(entries: &[Entry], id: u64) -> Sought
 
 // ---- how many rows of a contact are queued
 
-fn is_queued(e: Entry, id: u64) -> bool
-    ensures { λ r. ⌜ r ≡ isOf QUEUED id e ⌝ }
+fn is_queued(e: Entry, id: ContactId) -> bool
+    ensures { λ r. ⌜ r ≡ isOf QUEUED (id .0) e ⌝ }
 {
     if e.kind != store::QUEUED {
         return false;
     }
-    e.id == id
+    e.id == id.0
 }
 
 // The loop has counted fewer rows than there are entries, so one more fits.
-fn queued_next(e: Entry, id: u64, queued: u64) -> u64
+fn queued_next(e: Entry, id: ContactId, queued: u64) -> u64
     requires { ⌜ queued < 2 ^ 64 - 1 ⌝ }
-    ensures { λ r. ⌜ r ≡ queuedNext id queued e ⌝ }
+    ensures { λ r. ⌜ r ≡ queuedNext (id .0) queued e ⌝ }
 {
     if is_queued(e, id) {
         return queued + 1;
@@ -108,18 +109,18 @@ fn queued_next(e: Entry, id: u64, queued: u64) -> u64
     queued
 }
 
-fn queued_at(entries: &[Entry], id: u64, i: usize, queued: u64) -> u64
+fn queued_at(entries: &[Entry], id: ContactId, i: usize, queued: u64) -> u64
     requires { ⌜ (i < length (now entries)) × (queued < 2 ^ 64 - 1) ⌝ }
-    ensures { λ r. ⌜ r ≡ queuedNext id queued (entryAt (now (entries .entry)) i) ⌝ }
+    ensures { λ r. ⌜ r ≡ queuedNext (id .0) queued (entryAt (now (entries .entry)) i) ⌝ }
 {
     let e = entries::entry_at(entries, i);
     queued_next(e, id, queued)
 }
 
 // ... of the first `count` entries.
-fn queued_from(entries: &[Entry], id: u64, count: usize) -> u64
+fn queued_from(entries: &[Entry], id: ContactId, count: usize) -> u64
     requires { ⌜ count ≤ length (now entries) ⌝ }
-    ensures { λ r. ⌜ r ≡ foldl (queuedNext id) 0 (take count (now (entries .entry))) ⌝ }
+    ensures { λ r. ⌜ r ≡ foldl (queuedNext (id .0)) 0 (take count (now (entries .entry))) ⌝ }
 {
     let mut i = 0;
     let mut queued = 0;
@@ -138,8 +139,8 @@ fn all_if(wanted: bool, n: usize) -> usize
 }
 
 // How many rows of this contact are queued, counted only where that is wanted.
-pub fn queued_of(entries: &[Entry], id: u64, wanted: bool) -> u64
-    ensures { λ r. ⌜ r ≡ cond wanted (queuedOf id (now (entries .entry))) 0 ⌝ }
+pub fn queued_of(entries: &[Entry], id: ContactId, wanted: bool) -> u64
+    ensures { λ r. ⌜ r ≡ cond wanted (queuedOf (id .0) (now (entries .entry))) 0 ⌝ }
 {
     let n = entries::entry_count(entries);
     let count = all_if(wanted, n);
@@ -177,8 +178,8 @@ fn is_among(numbers: &[u32], count: usize, msgno: u32) -> bool
     false
 }
 
-fn among_next(e: Entry, id: u64, unacked: &[u32], count: usize, found: bool) -> bool
-    ensures { λ r. ⌜ r ≡ amongNext id (take count (now (unacked .entry))) found e ⌝ }
+fn among_next(e: Entry, id: ContactId, unacked: &[u32], count: usize, found: bool) -> bool
+    ensures { λ r. ⌜ r ≡ amongNext (id .0) (take count (now (unacked .entry))) found e ⌝ }
 {
     if found {
         return true;
@@ -191,23 +192,23 @@ fn among_next(e: Entry, id: u64, unacked: &[u32], count: usize, found: bool) -> 
 
 fn among_at(
     entries: &[Entry],
-    id: u64,
+    id: ContactId,
     unacked: &[u32],
     count: usize,
     i: usize,
     found: bool,
 ) -> bool
     requires { ⌜ i < length (now entries) ⌝ }
-    ensures { λ r. ⌜ r ≡ amongNext id (take count (now (unacked .entry))) found (entryAt (now (entries .entry)) i) ⌝ }
+    ensures { λ r. ⌜ r ≡ amongNext (id .0) (take count (now (unacked .entry))) found (entryAt (now (entries .entry)) i) ⌝ }
 {
     let e = entries::entry_at(entries, i);
     among_next(e, id, unacked, count, found)
 }
 
 // ... of the first n entries.
-fn among_from(entries: &[Entry], id: u64, unacked: &[u32], count: usize, n: usize) -> bool
+fn among_from(entries: &[Entry], id: ContactId, unacked: &[u32], count: usize, n: usize) -> bool
     requires { ⌜ n ≤ length (now entries) ⌝ }
-    ensures { λ r. ⌜ r ≡ foldl (amongNext id (take count (now (unacked .entry)))) false (take n (now (entries .entry))) ⌝ }
+    ensures { λ r. ⌜ r ≡ foldl (amongNext (id .0) (take count (now (unacked .entry)))) false (take n (now (entries .entry))) ⌝ }
 {
     let mut i = 0;
     let mut found = false;
@@ -226,8 +227,8 @@ fn is_some(count: usize) -> bool
 
 // Whether a queued row of this contact has one of the first `count` unacked numbers, by halves. A count above the list's length counts as the length; of no numbers
 // none is looked for.
-pub fn queued_among(entries: &[Entry], id: u64, unacked: &[u32], count: usize) -> bool
-    ensures { λ r. ⌜ r ≡ queuedFound id (take count (now (unacked .entry))) (now (entries .entry)) ⌝ }
+pub fn queued_among(entries: &[Entry], id: ContactId, unacked: &[u32], count: usize) -> bool
+    ensures { λ r. ⌜ r ≡ queuedFound (id .0) (take count (now (unacked .entry))) (now (entries .entry)) ⌝ }
 {
     let total = entries::entry_count(entries);
     let wanted = is_some(count);

@@ -20,7 +20,7 @@ nothing-aside run es x = refl
 -- only a contact is aside
 pub not-aside : (aside : Aside) (e : Entry) (k : ℕ) → e .kind ≡ k → eqb k CONTACT ≡ false → isAside aside e ≡ false
 not-aside Nothing e k is other = refl
-not-aside (Contact id sent) e k is other = ap (λ (n : ℕ). eqb n CONTACT && eqb (e .id) id) is ∙ ap (λ (t : Bool). t && eqb (e .id) id) other
+not-aside (Contact id sent) e k is other = ap (λ (n : ℕ). eqb n CONTACT && eqb (e .id) (id .0)) is ∙ ap (λ (t : Bool). t && eqb (e .id) (id .0)) other
 
 -- ---- what is seen of an entry, by its kind
 module _ (run : List ℕ) (es : List Entry) (aside : Aside) (e : Entry) where

@@ -18,7 +18,7 @@ use Rattle.store.specs.Store.{storeOf, entryAt, isOf, answerOf, seen, or
 -- ---- of the code's contact aside
 abbrev pub isAside : Aside → Entry → Bool
 isAside Nothing e = false
-isAside (Contact id sent) e = isOf CONTACT id e
+isAside (Contact id sent) e = isOf CONTACT (id .0) e
 
 -- what is seen of it: its sent_msgno, and no unacked numbers
 abbrev pub asideSeen : Aside → Seen

@@ -1,4 +1,5 @@
 // What restore is handed beside the run of bytes, and how far its questions have come.
+use rows::ContactId;
 ghost use mathlib.Core.Path.{_≡_};
 ghost use Rattle.store.specs.Store.{within, partOf};
 ghost use Rattle.store.specs.Aside.{isAside};
@@ -23,7 +24,7 @@ pub enum Asked {
 // The contact whose row is left aside while the questions are asked, with its sent_msgno.
 pub enum Aside {
     Nothing,
-    Contact(u64, u32),
+    Contact(ContactId, u32),
 }
 
 // An entry's kind.
@@ -72,7 +73,7 @@ pub fn is_aside(e: Entry, aside: Aside) -> bool
         return false;
     };
     if e.kind == CONTACT {
-        return e.id == id;
+        return e.id == id.0;
     }
     false
 }

@@ -2,6 +2,7 @@
 // msgno, version. A text is measured first and then written, so that nothing is written where the output is too short.
 use contact::ContactCheck;
 use layout::question;
+use rows::ContactId;
 use rows::Written;
 use store::Entry;
 ghost use mathlib.Core.Path.{_≡_};
@@ -115,19 +116,19 @@ fn how_many(places: &[u64], n: usize, kind: u32) -> u64
     found
 }
 
-fn is_queued(e: Entry, id: u64) -> bool
-    ensures { λ r. ⌜ r ≡ isOf QUEUED id e ⌝ }
+fn is_queued(e: Entry, id: ContactId) -> bool
+    ensures { λ r. ⌜ r ≡ isOf QUEUED (id .0) e ⌝ }
 {
     if e.kind != store::QUEUED {
         return false;
     }
-    e.id == id
+    e.id == id.0
 }
 
 // How many of the first n entries are queued rows of this contact.
-fn queued_in(places: &[u64], n: usize, id: u64) -> u64
+fn queued_in(places: &[u64], n: usize, id: ContactId) -> u64
     requires { ⌜ (n ≤ 512) × (6 * n ≤ length (now places)) ⌝ }
-    ensures { λ r. ⌜ r ≡ queuedOf id (entriesOf (now (places .entry)) n) ⌝ }
+    ensures { λ r. ⌜ r ≡ queuedOf (id .0) (entriesOf (now (places .entry)) n) ⌝ }
 {
     let mut i = 0;
     let mut found: u64 = 0;
@@ -203,9 +204,9 @@ fn no_line() -> Line
 }
 
 // The line of a contact's row.
-fn row_line(row: &[u8], version: u32, id: u64, queued: u64) -> Line
+fn row_line(row: &[u8], version: u32, id: ContactId, queued: u64) -> Line
     requires { ⌜ length (now row) ≤ 61440 ⌝ }
-    ensures { λ r. ⌜ Lined (rowText id queued (readRow (layouts.contact version) (now (row .entry)))) (rowCount (readRow (layouts.contact version) (now (row .entry)))) r ⌝ }
+    ensures { λ r. ⌜ Lined (rowText (id .0) queued (readRow (layouts.contact version) (now (row .entry)))) (rowCount (readRow (layouts.contact version) (now (row .entry)))) r ⌝ }
 {
     let check = contact::check_contact(version, row);
     let ContactCheck::Fields(at) = check else {
@@ -219,7 +220,7 @@ fn row_line(row: &[u8], version: u32, id: u64, queued: u64) -> Line
     let beyond = numbers_in_row(row, above.first, above.count);
     let gone = numbers.expired;
     let expired = numbers_in_row(row, gone.first, gone.count);
-    let fields = [id, sent, acked, contiguous, beyond, queued, expired];
+    let fields = [id.0, sent, acked, contiguous, beyond, queued, expired];
     Line { fields, held: true }
 }
 
@@ -230,7 +231,7 @@ fn entry_line(run: &[u8], e: Entry, queued: u64) -> Line
 {
     if e.kind == store::CONTACT {
         let row = store::part_of(run, e);
-        return row_line(row, e.version, e.id, queued);
+        return row_line(row, e.version, ContactId(e.id), queued);
     }
     no_line()
 }
@@ -312,7 +313,7 @@ fn line_at(run: &[u8], places: &[u64], n: usize, i: usize) -> Line
 {
     let e = entry_in(places, i);
     if e.kind == store::CONTACT {
-        let queued = queued_in(places, n, e.id);
+        let queued = queued_in(places, n, ContactId(e.id));
         return entry_line(run, e, queued);
     }
     no_line()

@@ -7,6 +7,7 @@ use call_code::TRUTH;
 use call_code::WROTE;
 use call_code::YES;
 use layout::question;
+use rows::ContactId;
 use rows::Written;
 ghost use mathlib.Core.Path.{_≡_};
 ghost use mathlib.Core.List.{[], _∷_, _++_};
@@ -240,23 +241,23 @@ fn put_ranges(out: &mut [u8], at: usize, above: &[u32], count: usize) -> usize
 }
 
 // The line with so many ranges, which are there, where there is room for it.
-fn write_state(id: u64, row: &[u8], above: &[u32], count: usize, out: &mut [u8]) -> Written
-    requires { ⌜ (2 * count ≤ length (now above)) × (length (stateText id (now row) (pairs count (now above))) + 3 ≤ length (now out)) ⌝ }
-    ensures { λ r. ⌜ leaves r (now (out .exit)) ≡ stored (lineOf (stateText id (now (row .entry)) (pairs count (now (above .entry))))) (now (out .entry)) ⌝ }
+fn write_state(id: ContactId, row: &[u8], above: &[u32], count: usize, out: &mut [u8]) -> Written
+    requires { ⌜ (2 * count ≤ length (now above)) × (length (stateText (id .0) (now row) (pairs count (now above))) + 3 ≤ length (now out)) ⌝ }
+    ensures { λ r. ⌜ leaves r (now (out .exit)) ≡ stored (lineOf (stateText (id .0) (now (row .entry)) (pairs count (now (above .entry))))) (now (out .entry)) ⌝ }
 {
     let at = begin(out);
-    let space_at = line::put_decimal(out, at, id);
+    let space_at = line::put_decimal(out, at, id.0);
     let row_at = put::put_byte(out, space_at, SPACE);
     let ranges_at = script::put_pairs(out, row_at, row);
     let end = put_ranges(out, ranges_at, above, count);
     Written::Length(put::put_byte(out, end, LF))
 }
 
-fn opened_line(id: u64, row: &[u8], above: &[u32], count: usize, out: &mut [u8]) -> Written
+fn opened_line(id: ContactId, row: &[u8], above: &[u32], count: usize, out: &mut [u8]) -> Written
     requires { ⌜ 2 * count ≤ length (now above) ⌝ }
-    ensures { λ r. ⌜ leaves r (now (out .exit)) ≡ stored (lineOf (stateText id (now (row .entry)) (pairs count (now (above .entry))))) (now (out .entry)) ⌝ }
+    ensures { λ r. ⌜ leaves r (now (out .exit)) ≡ stored (lineOf (stateText (id .0) (now (row .entry)) (pairs count (now (above .entry))))) (now (out .entry)) ⌝ }
 {
-    let fixed = line::decimal_len(id) + 1 + AROUND;
+    let fixed = line::decimal_len(id.0) + 1 + AROUND;
     if out.len() < fixed {
         return Written::Refused(question::OUTPUT);
     }
@@ -271,8 +272,8 @@ fn opened_line(id: u64, row: &[u8], above: &[u32], count: usize, out: &mut [u8])
 }
 
 // The line of `state` where a contact is open: its id, its row, and so many pairs of the list above contiguous, or as many as there are.
-pub fn state_line(id: u64, row: &[u8], above: &[u32], count: usize, out: &mut [u8]) -> Written
-    ensures { λ r. ⌜ leaves r (now (out .exit)) ≡ stored (lineOf (stateText id (now (row .entry)) (pairs count (now (above .entry))))) (now (out .entry)) ⌝ }
+pub fn state_line(id: ContactId, row: &[u8], above: &[u32], count: usize, out: &mut [u8]) -> Written
+    ensures { λ r. ⌜ leaves r (now (out .exit)) ≡ stored (lineOf (stateText (id .0) (now (row .entry)) (pairs count (now (above .entry))))) (now (out .entry)) ⌝ }
 {
     let lent = above.len() / 2;
     if lent < count {

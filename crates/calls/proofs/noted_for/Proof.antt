@@ -49,6 +49,9 @@ use Rattle.ledger.proofs.Mark.Laws as MarkL
 use Rattle.contact.specs.declared.Contact.{Contact}
 use Rattle.contact.proofs.Contact as ContactT
 use Rattle.contact.proofs.Contact.Laws as ContactL
+use Rattle.rows.specs.declared.ContactId.{ContactId}
+use Rattle.rows.proofs.ContactId as ContactIdT
+use Rattle.rows.proofs.ContactId.Laws as ContactIdL
 use Rattle.passes.specs.declared.Asking.{Asking}
 use Rattle.passes.proofs.Asking as AskingT
 use Rattle.passes.proofs.Asking.Laws as AskingL
@@ -95,8 +98,8 @@ module _ {M : Type 1} (𝓤 : URA M) (H : Heap 𝓤) (A : Atoms 𝓤) (W : Given
   abbrev as-Contact : Held W ContactT.the-row
   as-Contact = of-struct W ContactT.the-type ContactL.the-laws ContactL.the-plain
 
-  abbrev as-w64 : Held W (UInt w64)
-  as-w64 = number W w64
+  abbrev as-ContactId : Held W ContactIdT.the-row
+  as-ContactId = of-struct W ContactIdT.the-type ContactIdL.the-laws ContactIdL.the-plain
 
   abbrev as-Asking : Held W AskingT.the-row
   as-Asking = of-enum W AskingT.the-type AskingL.the-laws AskingL.the-plain tt
@@ -106,6 +109,9 @@ module _ {M : Type 1} (𝓤 : URA M) (H : Heap 𝓤) (A : Atoms 𝓤) (W : Given
 
   abbrev as-bool : Held W Boolean
   as-bool = record { val = vbool; tells = bool-tells; makes = bool-makes 𝓤 H A W; lawful = bool-lawful 𝓤 H A W }
+
+  abbrev as-w64 : Held W (UInt w64)
+  as-w64 = number W w64
 
   -- the contracts that the proof cites, and its own
   abbrev Its-id-for : Contract 𝓤
@@ -180,10 +186,10 @@ module _ {M : Type 1} (𝓤 : URA M) (H : Heap 𝓤) (A : Atoms 𝓤) (W : Given
     abbrev to-id : Its-id-for .Ghost
     to-id = ((tt, tt, tt, (call, (mark, tt)), (vals as-Call call, (vals as-Mark mark, tt))), tt)
 
-    abbrev to-asking : (id : ℕ) → Its-asking-for .Ghost
+    abbrev to-asking : (id : ContactId) → Its-asking-for .Ghost
     to-asking id = ((tt, tt, tt, (call, (mark, tt)), (vals as-Call call, (vals as-Mark mark, tt))), tt)
 
-    abbrev to-answer : (id : ℕ) → (asking : Asking) → Its-passes-passes .Ghost
+    abbrev to-answer : (id : ContactId) → (asking : Asking) → Its-passes-passes .Ghost
     to-answer id asking = (
       (
         (κ₀, (κ₁, (κ₂, (κ₃, (κ₄, (κ₅, (κ₆, tt))))))),
@@ -197,7 +203,7 @@ module _ {M : Type 1} (𝓤 : URA M) (H : Heap 𝓤) (A : Atoms 𝓤) (W : Given
             (
               vals as-Asking asking,
               (
-                vals as-w64 id,
+                vals as-ContactId id,
                 (vals as-Contact contact, (slice-vals chains, (slice-vals skipped, (slice-vals above, (slice-vals unacked, (slice-vals expired, tt)))))),
               ),
             ),
@@ -207,14 +213,14 @@ module _ {M : Type 1} (𝓤 : URA M) (H : Heap 𝓤) (A : Atoms 𝓤) (W : Given
       tt,
     )
 
-    abbrev to-counted : (id : ℕ) → (asking : Asking) → (answer : Passed) → Its-counts-queued .Ghost
+    abbrev to-counted : (id : ContactId) → (asking : Asking) → (answer : Passed) → Its-counts-queued .Ghost
     to-counted id asking answer = ((tt, tt, tt, (call, tt), (vals as-Call call, tt)), tt)
 
-    abbrev to-queued : (id : ℕ) → (asking : Asking) → (answer : Passed) → (counted : Bool) → Its-sought-queued-of .Ghost
-    to-queued id asking answer counted = (((κ₁, tt), (q₁, tt), tt, (entries, (id, (counted, tt))), (slice-vals entries, (vals as-w64 id, (vals as-bool counted, tt)))), tt)
+    abbrev to-queued : (id : ContactId) → (asking : Asking) → (answer : Passed) → (counted : Bool) → Its-sought-queued-of .Ghost
+    to-queued id asking answer counted = (((κ₁, tt), (q₁, tt), tt, (entries, (id, (counted, tt))), (slice-vals entries, (vals as-ContactId id, (vals as-bool counted, tt)))), tt)
 
-    abbrev to-r : (id : ℕ) → (asking : Asking) → (answer : Passed) → (counted : Bool) → (queued : ℕ) → Its-noted-as .Ghost
-    to-r id asking answer counted queued = ((tt, tt, tt, (answer, (queued, (id, tt))), (vals as-Passed answer, (vals as-w64 queued, (vals as-w64 id, tt)))), tt)
+    abbrev to-r : (id : ContactId) → (asking : Asking) → (answer : Passed) → (counted : Bool) → (queued : ℕ) → Its-noted-as .Ghost
+    to-r id asking answer counted queued = ((tt, tt, tt, (answer, (queued, (id, tt))), (vals as-Passed answer, (vals as-w64 queued, (vals as-ContactId id, tt)))), tt)
 
     module _ (𝓣 : Tables 𝓤 H) (fm : FmC 𝓤 H (W .laws) (𝓣 .C)) (known : Known (𝓣 .C)) where
       abbrev C : Calls 𝓤 H
@@ -247,9 +253,9 @@ module _ {M : Type 1} (𝓤 : URA M) (H : Heap 𝓤) (A : Atoms 𝓤) (W : Given
           pass0 ! $ move ! (32 ∷ 33 ∷ 34 ∷ 35 ∷ 36 ∷ 37 ∷ 38 ∷ 39 ∷ 40 ∷ 41 ∷ 42 ∷ 43 ∷ 44 ∷ 45 ∷ []) $
           -- id is calls::id_for(call, mark)
           nothing ! $ plus ! as-Mark mark in-mark $ plus ! as-Call call in-call $
-          calls-held ! fm id-for.ended (id-for.clauses 𝓤 H A mem calling) (known .id-for) to-id (id⊢ 𝓤 _) as-w64 (λ r ws. id⊢ 𝓤 _)
+          calls-held ! fm id-for.ended (id-for.clauses 𝓤 H A mem calling) (known .id-for) to-id (id⊢ 𝓤 _) as-ContactId (λ r ws. id⊢ 𝓤 _)
           (and-then ! (local ! (look ! 39 refl)) (and-then ! (local ! (look ! 37 refl)) (no-more !))) (λ id is-id in-id.
-          land ! (into !) (init ! 22 refl (as-w64 .lawful .typed id _ in-id .0)) $
+          land ! (into !) (init ! 22 refl (as-ContactId .lawful .typed id _ in-id .0)) $
           -- asking is calls::asking_for(call, mark)
           nothing ! $ plus ! as-Mark mark in-mark $ plus ! as-Call call in-call $
           calls-held ! fm asking-for.ended (asking-for.clauses 𝓤 H A mem calling) (known .asking-for) (to-asking id) (id⊢ 𝓤 _) as-Asking (λ r ws. id⊢ 𝓤 _)
@@ -257,7 +263,7 @@ module _ {M : Type 1} (𝓤 : URA M) (H : Heap 𝓤) (A : Atoms 𝓤) (W : Given
           land ! (into !) (init ! 20 refl (as-Asking .lawful .typed asking _ in-asking .0)) $
           -- answer is passes::passes(run, entries, asking, id, contact, chains, skipped, above, unacked, expired)
           nothing ! $ lends ! 13 (named 6) κ₆ (UInt w32) expired refl $ lends ! 12 (named 5) κ₅ (UInt w32) unacked refl $ lends ! 11 (named 4) κ₄ (UInt w32) above refl $
-          lends ! 10 (named 3) κ₃ (UInt w8) skipped refl $ lends ! 9 (named 2) κ₂ (UInt w8) chains refl $ plus ! as-Contact contact in-contact $ plus ! as-w64 id in-id $
+          lends ! 10 (named 3) κ₃ (UInt w8) skipped refl $ lends ! 9 (named 2) κ₂ (UInt w8) chains refl $ plus ! as-Contact contact in-contact $ plus ! as-ContactId id in-id $
           plus ! as-Asking asking in-asking $ lends ! 8 (named 1) κ₁ EntryT.the-row entries refl $ lends ! 7 (named 0) κ₀ (UInt w8) run refl $ move ! (1 ∷ 2 ∷ 3 ∷ 4 ∷ 5 ∷ 6 ∷ 7 ∷ 0 ∷ []) $
           calls-held ! fm passes-passes.ended (passes-passes.clauses 𝓤 H A mem calling) (known .passes-passes) (to-answer id asking) (id⊢ 𝓤 _) as-Passed (λ r ws. id⊢ 𝓤 _)
           (and-then ! (local ! (look ! 36 refl)) (and-then ! (local ! (look ! 34 refl))
@@ -272,13 +278,13 @@ module _ {M : Type 1} (𝓤 : URA M) (H : Heap 𝓤) (A : Atoms 𝓤) (W : Given
           (and-then ! (local ! (look ! 39 refl)) (no-more !)) (λ counted is-counted in-counted.
           land ! (into !) (init ! 16 refl (as-bool .lawful .typed counted _ in-counted .0)) $
           -- queued is sought::queued_of(entries, id, counted)
-          nothing ! $ plus ! as-bool counted in-counted $ plus ! as-w64 id in-id $ lends ! 8 (named 1) κ₁ EntryT.the-row entries refl $ move ! (2 ∷ 0 ∷ []) $
+          nothing ! $ plus ! as-bool counted in-counted $ plus ! as-ContactId id in-id $ lends ! 8 (named 1) κ₁ EntryT.the-row entries refl $ move ! (2 ∷ 0 ∷ []) $
           calls-held ! fm sought-queued-of.ended (sought-queued-of.clauses 𝓤 H A mem calling) (known .sought-queued-of) (to-queued id asking answer counted) (id⊢ 𝓤 _) as-w64
           (λ r ws. id⊢ 𝓤 _)
           (and-then ! (local ! (look ! 40 refl)) (and-then ! (local ! (look ! 22 refl)) (and-then ! (local ! (look ! 16 refl)) (no-more !)))) (λ queued is-queued in-queued.
           land ! (into !) (init ! 14 refl (as-w64 .lawful .typed queued _ in-queued .0)) $
           -- r is calls::noted_as(answer, queued, id)
-          nothing ! $ plus ! as-w64 id in-id $ plus ! as-w64 queued in-queued $ plus ! as-Passed answer in-answer $
+          nothing ! $ plus ! as-ContactId id in-id $ plus ! as-w64 queued in-queued $ plus ! as-Passed answer in-answer $
           calls-held ! fm noted-as.ended (noted-as.clauses 𝓤 H A mem calling) (known .noted-as) (to-r id asking answer counted queued) (id⊢ 𝓤 _) as-Noted (λ r ws. id⊢ 𝓤 _)
           (and-then ! (local ! (look ! 19 refl)) (and-then ! (local ! (look ! 15 refl)) (and-then ! (local ! (look ! 23 refl)) (no-more !)))) (λ r is-r in-r.
           land ! (into !) (init ! 44 refl (as-Noted .lawful .typed r _ in-r .0)) $

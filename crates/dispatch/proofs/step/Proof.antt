@@ -132,7 +132,7 @@ returns-2 : tie.Need-returns-2
 returns-2 c =
     let made = c .before .before .before .before .before .before .before .before .before .before in
     let told = made .before .before .before .before .before .before .before in
-    let e = told .before .before in
+    let e = told .before .before .before in
     let t = e .before .before in
     let a = start t .args in
     kept t (passed e) (told .enum-told2 .given .1) (λ i. done (made .«open» .ensures .0 i) (made .«open» .ensures .1 i) (a .out .now))
@@ -144,7 +144,7 @@ returns-3 : tie.Need-returns-3
 returns-3 c =
     let made = c .before .before in
     let told = made .before .before .before in
-    let e = told .before .before in
+    let e = told .before .before .before in
     let t = e .before .before in
     let a = start t .args in
     kept t (passed e) (told .call .given .1) (λ i. done (made .cover .ensures .0 i) (aboveAs (made .cover .ensures .1 i) (lent t)) (a .out .now))
@@ -155,7 +155,7 @@ same-length-7 c = search needs
 returns-4 : tie.Need-returns-4
 returns-4 c =
     let told = c .before .before .before in
-    let e = told .before .before in
+    let e = told .before .before .before in
     let t = e .before .before in
     let a = start t .args in
     kept t (passed e) (told .call2 .given .1) (ap (λ r. done r (lent t) (a .out .now)) (c .contains .ensures))
@@ -166,7 +166,7 @@ same-length-8 c = search needs
 returns-5 : tie.Need-returns-5
 returns-5 c =
     let told = c .before .before .before in
-    let e = told .before .before in
+    let e = told .before .before .before in
     let t = e .before .before in
     let a = start t .args in
     kept t (passed e) (told .call3 .given .1) (ap (λ r. done r (lent t) (a .out .now)) (c .covers .ensures))
@@ -174,7 +174,7 @@ returns-5 c =
 returns-6 : tie.Need-returns-6
 returns-6 c =
     let told = c .before in
-    let e = told .before .before in
+    let e = told .before .before .before in
     let t = e .before .before in
     let a = start t .args in
     kept t (passed e) (told .enum-told3 .given .1) (ap (λ r. done r (lent t) (a .out .now)) (c .take .ensures))
@@ -192,7 +192,7 @@ returns-7 : tie.Need-returns-7
 returns-7 c =
     let made = c .before .before in
     let told = made .before .before .before .before in
-    let e = told .before .before in
+    let e = told .before .before .before in
     let t = e .before .before in
     let a = start t .args in
     kept t (passed e) (told .enum-told4 .given .1) (λ i. done (made .statement .ensures .answer i) (lent t) (made .statement .ensures .output i))
@@ -219,7 +219,7 @@ returns-8 : tie.Need-returns-8
 returns-8 c =
     let made = c .before .before in
     let told = made .before .before .before .before .before .before .before in
-    let e = told .before .before in
+    let e = told .before .before .before in
     let t = e .before .before in
     let a = start t .args in
     kept t (passed e) (told .enum-told5 .given .1) (λ i. done (made .write .ensures .answer i) (lent t) (made .write .ensures .output i))

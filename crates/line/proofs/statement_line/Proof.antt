@@ -19,19 +19,19 @@ abbrev start : tie.After-line-len → tie.Start
 start c = c .before .before .before .before .before
 
 abbrev text : tie.After-line-len → List ℕ
-text c = let a = start c .args in lineOf (a .contact) (a .sent) (a .acked) (a .contiguous) (a .beyond) (a .queued) (a .expired)
+text c = let a = start c .args in lineOf (a .contact .0) (a .sent) (a .acked) (a .contiguous) (a .beyond) (a .queued) (a .expired)
 
 abbrev numbers : tie.After-line-len → List ℕ
 numbers c =
     let a = start c .args in
     let w = c .before in
-    a .contact ∷ w .before .before .wide .result ∷ w .before .wide2 .result ∷ w .wide3 .result ∷ a .beyond ∷ a .queued ∷ a .expired ∷ []
+    a .contact .0 ∷ w .before .before .wide .result ∷ w .before .wide2 .result ∷ w .wide3 .result ∷ a .beyond ∷ a .queued ∷ a .expired ∷ []
 
 same : (c : tie.After-line-len) → lineText (numbers c) ≡ text c
 same c =
     let a = start c .args in
     let w = c .before in
-    same-line (a .contact) (a .beyond) (a .queued) (a .expired) (w .before .before .wide .ensures .0) (w .before .wide2 .ensures .0) (w .wide3 .ensures .0)
+    same-line (a .contact .0) (a .beyond) (a .queued) (a .expired) (w .before .before .wide .ensures .0) (w .before .wide2 .ensures .0) (w .wide3 .ensures .0)
 
 long : (c : tie.After-line-len) → c .line-len .result ≡ length (text c)
 long c = c .line-len .ensures ∙ ap length (same c)

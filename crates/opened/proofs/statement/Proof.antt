@@ -36,7 +36,7 @@ returns c =
     let f = a .contact in
     let line =
     s .statement-line .ensures
-    ∙ (λ i. stored (lineOf (a .id) (f .«sent_msgno») (f .«peer_acked») (f .contiguous) (beyond .numbers-in .ensures .0 i) (a .queued) (lost .numbers-in2 .ensures .0 i)) (a .out .now)) in
+    ∙ (λ i. stored (lineOf (a .id .0) (f .«sent_msgno») (f .«peer_acked») (f .contiguous) (beyond .numbers-in .ensures .0 i) (a .queued) (lost .numbers-in2 .ensures .0 i)) (a .out .now)) in
     record {
       answer = c .answered .ensures ∙ ap (left f (a .mark)) (said .of-line .ensures ∙ ap (λ (w : Left). lineSays (w .answer)) line);
       output = ap (λ (w : Left). w .out) line;

@@ -44,6 +44,9 @@ use Rattle.store.proofs.Entry as EntryT
 use Rattle.passes.specs.declared.Asking.{Asking}
 use Rattle.passes.proofs.Asking as AskingT
 use Rattle.passes.proofs.Asking.Laws as AskingL
+use Rattle.rows.specs.declared.ContactId.{ContactId}
+use Rattle.rows.proofs.ContactId as ContactIdT
+use Rattle.rows.proofs.ContactId.Laws as ContactIdL
 use Rattle.contact.specs.declared.Contact.{Contact}
 use Rattle.contact.proofs.Contact as ContactT
 use Rattle.contact.proofs.Contact.Laws as ContactL
@@ -96,8 +99,8 @@ module _ {M : Type 1} (𝓤 : URA M) (H : Heap 𝓤) (A : Atoms 𝓤) (W : Given
   abbrev as-Asking : Held W AskingT.the-row
   as-Asking = of-enum W AskingT.the-type AskingL.the-laws AskingL.the-plain tt
 
-  abbrev as-w64 : Held W (UInt w64)
-  as-w64 = number W w64
+  abbrev as-ContactId : Held W ContactIdT.the-row
+  as-ContactId = of-struct W ContactIdT.the-type ContactIdL.the-laws ContactIdL.the-plain
 
   abbrev as-Contact : Held W ContactT.the-row
   as-Contact = of-struct W ContactT.the-type ContactL.the-laws ContactL.the-plain
@@ -113,6 +116,9 @@ module _ {M : Type 1} (𝓤 : URA M) (H : Heap 𝓤) (A : Atoms 𝓤) (W : Given
 
   abbrev as-Restored : Held W RestoredT.the-row
   as-Restored = of-enum W RestoredT.the-type RestoredL.the-laws RestoredL.the-plain tt
+
+  abbrev as-w64 : Held W (UInt w64)
+  as-w64 = number W w64
 
   -- the contracts that the proof cites, and its own
   abbrev Its-sought-contact-in : Contract 𝓤
@@ -155,12 +161,12 @@ module _ {M : Type 1} (𝓤 : URA M) (H : Heap 𝓤) (A : Atoms 𝓤) (W : Given
   abbrev This : Contract 𝓤
   This = walkOf 𝓤 H A this.ended stayed clauses
 
-  module _ (κ₀ κ₁ κ₂ κ₃ κ₄ κ₅ κ₆ : Lft) (q₀ q₁ q₂ q₃ q₄ q₅ q₆ : Share) (run : RefT (List ℕ)) (entries : RefT (List Entry)) (asking : Asking) (id : ℕ) (contact : Contact)
+  module _ (κ₀ κ₁ κ₂ κ₃ κ₄ κ₅ κ₆ : Lft) (q₀ q₁ q₂ q₃ q₄ q₅ q₆ : Share) (run : RefT (List ℕ)) (entries : RefT (List Entry)) (asking : Asking) (id : ContactId) (contact : Contact)
       (chains : RefT (List ℕ)) (skipped : RefT (List ℕ)) (above : RefT (List ℕ)) (unacked : RefT (List ℕ)) (expired : RefT (List ℕ))
       (in-run : Is (ShrSlice (named 0) κ₀ (UInt w8)) run (slice-vals run))
       (in-entries : Is (ShrSlice (named 1) κ₁ EntryT.the-row) entries (slice-vals entries))
       (in-asking : Lies as-Asking asking)
-      (in-id : Lies as-w64 id)
+      (in-id : Lies as-ContactId id)
       (in-contact : Lies as-Contact contact)
       (in-chains : Is (ShrSlice (named 2) κ₂ (UInt w8)) chains (slice-vals chains))
       (in-skipped : Is (ShrSlice (named 3) κ₃ (UInt w8)) skipped (slice-vals skipped))
@@ -181,7 +187,7 @@ module _ {M : Type 1} (𝓤 : URA M) (H : Heap 𝓤) (A : Atoms 𝓤) (W : Given
             (
               vals as-Asking asking,
               (
-                vals as-w64 id,
+                vals as-ContactId id,
                 (vals as-Contact contact, (slice-vals chains, (slice-vals skipped, (slice-vals above, (slice-vals unacked, (slice-vals expired, tt)))))),
               ),
             ),
@@ -193,7 +199,7 @@ module _ {M : Type 1} (𝓤 : URA M) (H : Heap 𝓤) (A : Atoms 𝓤) (W : Given
 
     -- what each call is handed
     abbrev to-sought : Its-sought-contact-in .Ghost
-    to-sought = (((κ₁, tt), (q₁, tt), tt, (entries, (id, tt)), (slice-vals entries, (vals as-w64 id, tt))), tt)
+    to-sought = (((κ₁, tt), (q₁, tt), tt, (entries, (id, tt)), (slice-vals entries, (vals as-ContactId id, tt))), tt)
 
     abbrev to-writable : (sought : Sought) → Its-is-writable-for .Ghost
     to-writable sought = (
@@ -208,7 +214,7 @@ module _ {M : Type 1} (𝓤 : URA M) (H : Heap 𝓤) (A : Atoms 𝓤) (W : Given
     )
 
     abbrev to-aside : (sought : Sought) → (writable : Bool) → Its-left-aside .Ghost
-    to-aside sought writable = ((tt, tt, tt, (asking, (id, (contact, tt))), (vals as-Asking asking, (vals as-w64 id, (vals as-Contact contact, tt)))), tt)
+    to-aside sought writable = ((tt, tt, tt, (asking, (id, (contact, tt))), (vals as-Asking asking, (vals as-ContactId id, (vals as-Contact contact, tt)))), tt)
 
     abbrev to-end : (sought : Sought) → (writable : Bool) → (aside : Aside) → Its-restore-questions .Ghost
     to-end sought writable aside = (((κ₀, (κ₁, tt)), (q₀, (q₁, tt)), tt, (run, (entries, (aside, tt))), (slice-vals run, (slice-vals entries, (vals as-Aside aside, tt)))), tt)
@@ -223,7 +229,7 @@ module _ {M : Type 1} (𝓤 : URA M) (H : Heap 𝓤) (A : Atoms 𝓤) (W : Given
         (q₁, (q₅, tt)),
         tt,
         (entries, (id, (unacked, (count, tt)))),
-        (slice-vals entries, (vals as-w64 id, (slice-vals unacked, (vals as-w64 count, tt)))),
+        (slice-vals entries, (vals as-ContactId id, (slice-vals unacked, (vals as-w64 count, tt)))),
       ),
       tt,
     )
@@ -264,7 +270,7 @@ module _ {M : Type 1} (𝓤 : URA M) (H : Heap 𝓤) (A : Atoms 𝓤) (W : Given
           pass1 ! (init ! 32 refl (shr-slice-lawful 𝓤 H A W (named 0) κ₀ (UInt w8) .typed run (slice-vals run) in-run .0)) $
           pass1 ! (init ! 30 refl (shr-slice-lawful 𝓤 H A W (named 1) κ₁ EntryT.the-row .typed entries (slice-vals entries) in-entries .0)) $
           pass1 ! (init ! 28 refl (as-Asking .lawful .typed asking _ in-asking .0)) $
-          pass1 ! (init ! 26 refl (as-w64 .lawful .typed id _ in-id .0)) $
+          pass1 ! (init ! 26 refl (as-ContactId .lawful .typed id _ in-id .0)) $
           pass1 ! (init ! 24 refl (as-Contact .lawful .typed contact _ in-contact .0)) $
           pass1 ! (init ! 22 refl (shr-slice-lawful 𝓤 H A W (named 2) κ₂ (UInt w8) .typed chains (slice-vals chains) in-chains .0)) $
           pass1 ! (init ! 20 refl (shr-slice-lawful 𝓤 H A W (named 3) κ₃ (UInt w8) .typed skipped (slice-vals skipped) in-skipped .0)) $
@@ -273,7 +279,7 @@ module _ {M : Type 1} (𝓤 : URA M) (H : Heap 𝓤) (A : Atoms 𝓤) (W : Given
           pass1 ! (init ! 14 refl (shr-slice-lawful 𝓤 H A W (named 6) κ₆ (UInt w32) .typed expired (slice-vals expired) in-expired .0)) $
           pass0 ! $ move ! (36 ∷ 37 ∷ 38 ∷ 39 ∷ 40 ∷ 41 ∷ 42 ∷ 43 ∷ 44 ∷ 45 ∷ 46 ∷ 47 ∷ 48 ∷ 49 ∷ []) $
           -- sought is sought::contact_in(entries, id)
-          nothing ! $ plus ! as-w64 id in-id $ lends ! 8 (named 1) κ₁ EntryT.the-row entries refl $ move ! (2 ∷ 0 ∷ []) $
+          nothing ! $ plus ! as-ContactId id in-id $ lends ! 8 (named 1) κ₁ EntryT.the-row entries refl $ move ! (2 ∷ 0 ∷ []) $
           calls-held ! fm sought-contact-in.ended (sought-contact-in.clauses 𝓤 H A mem calling) (known .sought-contact-in) to-sought (id⊢ 𝓤 _) as-Sought (λ r ws. id⊢ 𝓤 _)
           (and-then ! (local ! (look ! 44 refl)) (and-then ! (local ! (look ! 40 refl)) (no-more !))) (λ sought is-sought in-sought.
           land ! (into !) (init ! 26 refl (as-Sought .lawful .typed sought _ in-sought .0)) $
@@ -287,7 +293,7 @@ module _ {M : Type 1} (𝓤 : URA M) (H : Heap 𝓤) (A : Atoms 𝓤) (W : Given
           (and-then ! (local ! (look ! 28 refl)) (and-then ! (local ! (look ! 26 refl)) (and-then ! (local ! (look ! 24 refl)) (no-more !)))))))) (λ writable is-writable in-writable.
           land ! (into !) (init ! 24 refl (as-bool .lawful .typed writable _ in-writable .0)) $
           -- aside is passes::left_aside(asking, id, contact)
-          nothing ! $ plus ! as-Contact contact in-contact $ plus ! as-w64 id in-id $ plus ! as-Asking asking in-asking $
+          nothing ! $ plus ! as-Contact contact in-contact $ plus ! as-ContactId id in-id $ plus ! as-Asking asking in-asking $
           calls-held ! fm left-aside.ended (left-aside.clauses 𝓤 H A mem calling) (known .left-aside) (to-aside sought writable) (id⊢ 𝓤 _) as-Aside (λ r ws. id⊢ 𝓤 _)
           (and-then ! (local ! (look ! 43 refl)) (and-then ! (local ! (look ! 41 refl)) (and-then ! (local ! (look ! 39 refl)) (no-more !)))) (λ aside is-aside in-aside.
           land ! (into !) (init ! 22 refl (as-Aside .lawful .typed aside _ in-aside .0)) $
@@ -303,7 +309,7 @@ module _ {M : Type 1} (𝓤 : URA M) (H : Heap 𝓤) (A : Atoms 𝓤) (W : Given
           (and-then ! (local ! (look ! 43 refl)) (and-then ! (local ! (look ! 39 refl)) (no-more !))) (λ count is-count in-count.
           land ! (into !) (init ! 18 refl (as-w64 .lawful .typed count _ in-count .0)) $
           -- among is sought::queued_among(entries, id, unacked, count)
-          nothing ! $ plus ! as-w64 count in-count $ lends ! 12 (named 5) κ₅ (UInt w32) unacked refl $ plus ! as-w64 id in-id $ lends ! 8 (named 1) κ₁ EntryT.the-row entries refl $
+          nothing ! $ plus ! as-w64 count in-count $ lends ! 12 (named 5) κ₅ (UInt w32) unacked refl $ plus ! as-ContactId id in-id $ lends ! 8 (named 1) κ₁ EntryT.the-row entries refl $
           move ! (2 ∷ 6 ∷ 0 ∷ []) $
           calls-held ! fm sought-queued-among.ended (sought-queued-among.clauses 𝓤 H A mem calling) (known .sought-queued-among) (to-among sought writable aside end count) (id⊢ 𝓤 _) as-bool
           (λ r ws. id⊢ 𝓤 _)
@@ -337,7 +343,7 @@ module _ {M : Type 1} (𝓤 : URA M) (H : Heap 𝓤) (A : Atoms 𝓤) (W : Given
   module _ (𝓣 : Tables 𝓤 H) (known : Known (𝓣 .C)) where
     walks : Walks 𝓤 H A this.ended stayed (WpFn 𝓤 H (𝓣 .C) (𝓣 .Λ) code.function) clauses
     walks = walked 𝓤 H A this.ended stayed clauses (WpFn 𝓤 H (𝓣 .C) (𝓣 .Λ) code.function)
-        (λ κs. (slice-vals, (slice-vals, (vals as-Asking, (vals as-w64, (vals as-Contact, (slice-vals, (slice-vals, (slice-vals, (slice-vals, (slice-vals, tt)))))))))))
+        (λ κs. (slice-vals, (slice-vals, (vals as-Asking, (vals as-ContactId, (vals as-Contact, (slice-vals, (slice-vals, (slice-vals, (slice-vals, (slice-vals, tt)))))))))))
         (λ κs. (
           shr-slice-tells (named 0) (κs .0) (UInt w8),
           (
@@ -345,7 +351,7 @@ module _ {M : Type 1} (𝓤 : URA M) (H : Heap 𝓤) (A : Atoms 𝓤) (W : Given
             (
               as-Asking .tells,
               (
-                as-w64 .tells,
+                as-ContactId .tells,
                 (
                   as-Contact .tells,
                   (

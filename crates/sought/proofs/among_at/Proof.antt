@@ -40,6 +40,9 @@ use Rattle.sought.specs.Sought.{amongNext}
 use Rattle.store.specs.declared.Entry.{Entry}
 use Rattle.store.proofs.Entry as EntryT
 use Rattle.store.proofs.Entry.Laws as EntryL
+use Rattle.rows.specs.declared.ContactId.{ContactId}
+use Rattle.rows.proofs.ContactId as ContactIdT
+use Rattle.rows.proofs.ContactId.Laws as ContactIdL
 use Rattle.entries.proofs.entry_at as entries-entry-at
 use Rattle.entries.proofs.entry_at.Symbol as entries-entry-at-def
 use Rattle.entries.proofs.entry_at.Met as entries-entry-at-thm
@@ -58,6 +61,9 @@ module _ {M : Type 1} (𝓤 : URA M) (H : Heap 𝓤) (A : Atoms 𝓤) (W : Given
   -- how values lie in locals
   abbrev as-bool : Held W Boolean
   as-bool = record { val = vbool; tells = bool-tells; makes = bool-makes 𝓤 H A W; lawful = bool-lawful 𝓤 H A W }
+
+  abbrev as-ContactId : Held W ContactIdT.the-row
+  as-ContactId = of-struct W ContactIdT.the-type ContactIdL.the-laws ContactIdL.the-plain
 
   abbrev as-w64 : Held W (UInt w64)
   as-w64 = number W w64
@@ -82,9 +88,9 @@ module _ {M : Type 1} (𝓤 : URA M) (H : Heap 𝓤) (A : Atoms 𝓤) (W : Given
   abbrev This : Contract 𝓤
   This = walkOf 𝓤 H A this.ended stayed clauses
 
-  module _ (κ₀ κ₁ : Lft) (q₀ q₁ : Share) (entries : RefT (List Entry)) (id : ℕ) (unacked : RefT (List ℕ)) (count : ℕ) (i : ℕ) (found : Bool)
+  module _ (κ₀ κ₁ : Lft) (q₀ q₁ : Share) (entries : RefT (List Entry)) (id : ContactId) (unacked : RefT (List ℕ)) (count : ℕ) (i : ℕ) (found : Bool)
       (in-entries : Is (ShrSlice (named 0) κ₀ EntryT.the-row) entries (slice-vals entries))
-      (in-id : Lies as-w64 id)
+      (in-id : Lies as-ContactId id)
       (in-unacked : Is (ShrSlice (named 1) κ₁ (UInt w32)) unacked (slice-vals unacked))
       (in-count : Lies as-w64 count)
       (in-i : Lies as-w64 i)
@@ -97,7 +103,7 @@ module _ {M : Type 1} (𝓤 : URA M) (H : Heap 𝓤) (A : Atoms 𝓤) (W : Given
         (q₀, (q₁, tt)),
         tt,
         (entries, (id, (unacked, (count, (i, (found, tt)))))),
-        (slice-vals entries, (vals as-w64 id, (slice-vals unacked, (vals as-w64 count, (vals as-w64 i, (vals as-bool found, tt)))))),
+        (slice-vals entries, (vals as-ContactId id, (slice-vals unacked, (vals as-w64 count, (vals as-w64 i, (vals as-bool found, tt)))))),
       ),
       tt,
     )
@@ -108,7 +114,13 @@ module _ {M : Type 1} (𝓤 : URA M) (H : Heap 𝓤) (A : Atoms 𝓤) (W : Given
 
     abbrev to-r : (e : Entry) → Its-among-next .Ghost
     to-r e = (
-      ((κ₁, tt), (q₁, tt), tt, (e, (id, (unacked, (count, (found, tt))))), (vals as-Entry e, (vals as-w64 id, (slice-vals unacked, (vals as-w64 count, (vals as-bool found, tt)))))),
+      (
+        (κ₁, tt),
+        (q₁, tt),
+        tt,
+        (e, (id, (unacked, (count, (found, tt))))),
+        (vals as-Entry e, (vals as-ContactId id, (slice-vals unacked, (vals as-w64 count, (vals as-bool found, tt))))),
+      ),
       tt,
     )
 
@@ -127,7 +139,7 @@ module _ {M : Type 1} (𝓤 : URA M) (H : Heap 𝓤) (A : Atoms 𝓤) (W : Given
           enter ! C Λ code.function (This .args bound) _ $
           alloc1 ! (λ l₀. alloc1 ! (λ l₁. alloc1 ! (λ l₂. alloc1 ! (λ l₃. alloc1 ! (λ l₄. alloc1 ! (λ l₅. alloc1 ! (λ l₆. alloc1 ! (λ l₇. alloc0 ! $ params1 ! $
           pass1 ! (init ! 12 refl (shr-slice-lawful 𝓤 H A W (named 0) κ₀ EntryT.the-row .typed entries (slice-vals entries) in-entries .0)) $
-          pass1 ! (init ! 10 refl (as-w64 .lawful .typed id _ in-id .0)) $
+          pass1 ! (init ! 10 refl (as-ContactId .lawful .typed id _ in-id .0)) $
           pass1 ! (init ! 8 refl (shr-slice-lawful 𝓤 H A W (named 1) κ₁ (UInt w32) .typed unacked (slice-vals unacked) in-unacked .0)) $
           pass1 ! (init ! 6 refl (as-w64 .lawful .typed count _ in-count .0)) $
           pass1 ! (init ! 4 refl (as-w64 .lawful .typed i _ in-i .0)) $
@@ -139,7 +151,7 @@ module _ {M : Type 1} (𝓤 : URA M) (H : Heap 𝓤) (A : Atoms 𝓤) (W : Given
           (and-then ! (local ! (look ! 16 refl)) (and-then ! (local ! (look ! 8 refl)) (no-more !))) (λ e is-e in-e.
           land ! (into !) (init ! 4 refl (as-Entry .lawful .typed e _ in-e .0)) $
           -- r is sought::among_next(e, id, unacked, count, found)
-          nothing ! $ plus ! as-bool found in-found $ plus ! as-w64 count in-count $ lends ! 3 (named 1) κ₁ (UInt w32) unacked refl $ plus ! as-w64 id in-id $ plus ! as-Entry e in-e $
+          nothing ! $ plus ! as-bool found in-found $ plus ! as-w64 count in-count $ lends ! 3 (named 1) κ₁ (UInt w32) unacked refl $ plus ! as-ContactId id in-id $ plus ! as-Entry e in-e $
           move ! (2 ∷ 0 ∷ []) $
           calls-held ! fm among-next.ended (among-next.clauses 𝓤 H A mem calling) (known .among-next) (to-r e) (id⊢ 𝓤 _) as-bool (λ r ws. id⊢ 𝓤 _)
           (and-then ! (local ! (look ! 4 refl)) (and-then ! (local ! (look ! 14 refl))
@@ -149,15 +161,21 @@ module _ {M : Type 1} (𝓤 : URA M) (H : Heap 𝓤) (A : Atoms 𝓤) (W : Given
           gone ! 18 refl refl $ gone ! 16 refl refl $ gone ! 14 refl refl $ gone ! 12 refl refl $ gone ! 10 refl refl $ gone ! 8 refl refl $ gone ! 6 refl refl $ gone ! 4 refl refl $
           free0 ! $
           suffices ! _ (ends-at 𝓤 H A this.ended stayed clauses W bound (as-bool .val r) r (tt, (tt, (tt, (tt, (tt, (tt, tt)))))) (tt, (tt, (tt, (tt, (tt, (tt, tt))))))) $
-          says ! (is-r ∙ ap (amongNext id (take count (now unacked)) found) is-e) $
+          says ! (is-r ∙ ap (amongNext (id .0) (take count (now unacked)) found) is-e) $
           keep ! (1 ∷ 0 ∷ []) $ retok ! 2 (κ₀, (κ₁, tt)) (q₀, (q₁, tt)) $ frame ! $ nothing ! $ none ! $ none ! $ none ! $ none ! $ none ! $ none ! $ frame ! $
           owned ! Boolean (Is Boolean) (as-bool .makes) r _ in-r $ done !))))))))))
 
   module _ (𝓣 : Tables 𝓤 H) (known : Known (𝓣 .C)) where
     walks : Walks 𝓤 H A this.ended stayed (WpFn 𝓤 H (𝓣 .C) (𝓣 .Λ) code.function) clauses
     walks = walked 𝓤 H A this.ended stayed clauses (WpFn 𝓤 H (𝓣 .C) (𝓣 .Λ) code.function)
-        (λ κs. (slice-vals, (vals as-w64, (slice-vals, (vals as-w64, (vals as-w64, (vals as-bool, tt)))))))
-        (λ κs. (shr-slice-tells (named 0) (κs .0) EntryT.the-row, (as-w64 .tells, (shr-slice-tells (named 1) (κs .1 .0) (UInt w32), (as-w64 .tells, (as-w64 .tells, (as-bool .tells, tt)))))))
+        (λ κs. (slice-vals, (vals as-ContactId, (slice-vals, (vals as-w64, (vals as-w64, (vals as-bool, tt)))))))
+        (λ κs. (
+          shr-slice-tells (named 0) (κs .0) EntryT.the-row,
+          (
+            as-ContactId .tells,
+            (shr-slice-tells (named 1) (κs .1 .0) (UInt w32), (as-w64 .tells, (as-w64 .tells, (as-bool .tells, tt)))),
+          ),
+        ))
         (λ κs qs bounds a g are. needs 𝓤 _ _ (λ asks. walk (κs .0) (κs .1 .0) (qs .0) (qs .1 .0) (a .0) (a .1 .0) (a .1 .1 .0) (a .1 .1 .1 .0) (a .1 .1 .1 .1 .0) (a .1 .1 .1 .1 .1 .0)
         (are .0) (are .1 .0) (are .1 .1 .0) (are .1 .1 .1 .0) (are .1 .1 .1 .1 .0) (are .1 .1 .1 .1 .1 .0) asks 𝓣 (fmOf 𝓤 H (W .laws) 𝓣) known))
 

@@ -41,12 +41,15 @@ use denote.Triple.Statement.{Contract, Triple}
 use denote.Triple.Table.{entered, cited}
 use denote.Triple.Walked.{says, needs, Stays, walkOf, Walks, ends-at, walked, walk-meets}
 use Rattle.walks.proofs.Walk.{untok, retok, gone, rest-of, drops, drops-go}
-use Rattle.walks.proofs.Held.{Held, number, vals, Lies, holds, empty, plus, lends, none, calls-held, into, local}
+use Rattle.walks.proofs.Held.{Held, number, of-struct, vals, Lies, holds, empty, plus, lends, none, calls-held, into, local}
 use lib.ListN.{take}
 use Rattle.sought.specs.Sought.{amongNext}
 use Rattle.sought.proofs.Folds.{Folding, begins, goes-on, ends, front-entry, front-inside, front-behind, in-all}
 use Rattle.store.specs.declared.Entry.{Entry}
 use Rattle.store.proofs.Entry as EntryT
+use Rattle.rows.specs.declared.ContactId.{ContactId}
+use Rattle.rows.proofs.ContactId as ContactIdT
+use Rattle.rows.proofs.ContactId.Laws as ContactIdL
 use Rattle.sought.proofs.among_at as among-at
 use Rattle.sought.proofs.among_at.Symbol as among-at-def
 use Rattle.sought.proofs.among_at.Met as among-at-thm
@@ -64,6 +67,9 @@ module _ {M : Type 1} (𝓤 : URA M) (H : Heap 𝓤) (A : Atoms 𝓤) (W : Given
   abbrev as-bool : Held W Boolean
   as-bool = record { val = vbool; tells = bool-tells; makes = bool-makes 𝓤 H A W; lawful = bool-lawful 𝓤 H A W }
 
+  abbrev as-ContactId : Held W ContactIdT.the-row
+  as-ContactId = of-struct W ContactIdT.the-type ContactIdL.the-laws ContactIdL.the-plain
+
   abbrev as-w64 : Held W (UInt w64)
   as-w64 = number W w64
 
@@ -80,9 +86,9 @@ module _ {M : Type 1} (𝓤 : URA M) (H : Heap 𝓤) (A : Atoms 𝓤) (W : Given
   abbrev This : Contract 𝓤
   This = walkOf 𝓤 H A this.ended stayed clauses
 
-  module _ (κ₀ κ₁ : Lft) (q₀ q₁ : Share) (entries : RefT (List Entry)) (id : ℕ) (unacked : RefT (List ℕ)) (count : ℕ) (n : ℕ)
+  module _ (κ₀ κ₁ : Lft) (q₀ q₁ : Share) (entries : RefT (List Entry)) (id : ContactId) (unacked : RefT (List ℕ)) (count : ℕ) (n : ℕ)
       (in-entries : Is (ShrSlice (named 0) κ₀ EntryT.the-row) entries (slice-vals entries))
-      (in-id : Lies as-w64 id)
+      (in-id : Lies as-ContactId id)
       (in-unacked : Is (ShrSlice (named 1) κ₁ (UInt w32)) unacked (slice-vals unacked))
       (in-count : Lies as-w64 count)
       (in-n : Lies as-w64 n)
@@ -94,7 +100,7 @@ module _ {M : Type 1} (𝓤 : URA M) (H : Heap 𝓤) (A : Atoms 𝓤) (W : Given
         (q₀, (q₁, tt)),
         tt,
         (entries, (id, (unacked, (count, (n, tt))))),
-        (slice-vals entries, (vals as-w64 id, (slice-vals unacked, (vals as-w64 count, (vals as-w64 n, tt))))),
+        (slice-vals entries, (vals as-ContactId id, (slice-vals unacked, (vals as-w64 count, (vals as-w64 n, tt))))),
       ),
       tt,
     )
@@ -105,10 +111,10 @@ module _ {M : Type 1} (𝓤 : URA M) (H : Heap 𝓤) (A : Atoms 𝓤) (W : Given
       found : Bool
       in-i : Lies as-w64 i
       in-found : Lies as-bool found
-      so : Folding (amongNext id (take count (now unacked))) (take n (now entries)) false i found
+      so : Folding (amongNext (id .0) (take count (now unacked))) (take n (now entries)) false i found
 
     abbrev first-turn : Turn
-    first-turn = record { i = 0; found = false; in-i = (refl, lit< tt); in-found = refl; so = begins (amongNext id (take count (now unacked))) (take n (now entries)) false }
+    first-turn = record { i = 0; found = false; in-i = (refl, lit< tt); in-found = refl; so = begins (amongNext (id .0) (take count (now unacked))) (take n (now entries)) false }
 
     abbrev far : Turn → ℕ
     far t = n - (t .i)
@@ -126,7 +132,7 @@ module _ {M : Type 1} (𝓤 : URA M) (H : Heap 𝓤) (A : Atoms 𝓤) (W : Given
         (q₀, (q₁, tt)),
         tt,
         (entries, (id, (unacked, (count, ((t .i), ((t .found), tt)))))),
-        (slice-vals entries, (vals as-w64 id, (slice-vals unacked, (vals as-w64 count, (vals as-w64 (t .i), (vals as-bool (t .found), tt)))))),
+        (slice-vals entries, (vals as-ContactId id, (slice-vals unacked, (vals as-w64 count, (vals as-w64 (t .i), (vals as-bool (t .found), tt)))))),
       ),
       tt,
     )
@@ -140,7 +146,7 @@ module _ {M : Type 1} (𝓤 : URA M) (H : Heap 𝓤) (A : Atoms 𝓤) (W : Given
 
       module _ (l₀ l₁ l₂ l₃ l₄ l₅ l₆ l₇ l₈ : ℕ) where
         abbrev En : Env 𝓤 H
-        En = (tyBool, l₀) ∷ ((sliceTy (tyRef (named 0) imm (pointee (EntryT.the-row .written)))), l₁) ∷ ((tyInt w64), l₂) ∷ ((sliceTy (tyRef (named 1) imm (tyInt w32))), l₃) ∷
+        En = (tyBool, l₀) ∷ ((sliceTy (tyRef (named 0) imm (pointee (EntryT.the-row .written)))), l₁) ∷ (ContactIdL.mir, l₂) ∷ ((sliceTy (tyRef (named 1) imm (tyInt w32))), l₃) ∷
             ((tyInt w64), l₄) ∷ ((tyInt w64), l₅) ∷ ((tyInt w64), l₆) ∷ (tyBool, l₇) ∷ (tyBool, l₈) ∷ []
 
         abbrev Before : Turn → List (Item 𝓤)
@@ -149,7 +155,7 @@ module _ {M : Type 1} (𝓤 : URA M) (H : Heap 𝓤) (A : Atoms 𝓤) (W : Given
             (holds tyBool l₇ (as-bool .val (t .found)) (holds (tyInt w64) l₆ (as-w64 .val (t .i))
             (holds (tyInt w64) l₅ (as-w64 .val n) (holds (tyInt w64) l₄ (as-w64 .val count)
             (holds (sliceTy (tyRef (named 1) imm (tyInt w32))) l₃ (sliceVal (unacked .ptr) (length (unacked .now)))
-            (holds (tyInt w64) l₂ (as-w64 .val id) (holds (sliceTy (tyRef (named 0) imm (pointee (EntryT.the-row .written)))) l₁ (sliceVal (entries .ptr) (length (entries .now)))
+            (holds ContactIdL.mir l₂ (as-ContactId .val id) (holds (sliceTy (tyRef (named 0) imm (pointee (EntryT.the-row .written)))) l₁ (sliceVal (entries .ptr) (length (entries .now)))
             (empty tyBool l₀ []))))))))
 
         abbrev Turned : Turn → Out → SProp 𝓤
@@ -163,7 +169,7 @@ module _ {M : Type 1} (𝓤 : URA M) (H : Heap 𝓤) (A : Atoms 𝓤) (W : Given
             first ! $ branches ! (local ! (look ! 4 refl))
             (λ less. skips ! $ exec ! C Λ En (rest-of (rest-of steps.turn-1)) (anyQ (Turned t)) $
             nothing ! $ plus ! as-bool (t .found) (t .in-found) $ plus ! as-w64 (t .i) (t .in-i) $ plus ! as-w64 count in-count $ lends ! 3 (named 1) κ₁ (UInt w32) unacked refl $
-            plus ! as-w64 id in-id $ lends ! 2 (named 0) κ₀ EntryT.the-row entries refl $ move ! (1 ∷ 2 ∷ 0 ∷ []) $
+            plus ! as-ContactId id in-id $ lends ! 2 (named 0) κ₀ EntryT.the-row entries refl $ move ! (1 ∷ 2 ∷ 0 ∷ []) $
             calls-held ! fm among-at.ended (among-at.clauses 𝓤 H A mem calling) (known .among-at) (to t) (factI 𝓤 _ (emp 𝓤) (in-all (t .i) n (now entries) (ltb→lt (t .i) n less) asks))
             as-bool (λ r ws. id⊢ 𝓤 _)
             (and-then ! (local ! (look ! 17 refl)) (and-then ! (local ! (look ! 15 refl))
@@ -178,16 +184,17 @@ module _ {M : Type 1} (𝓤 : URA M) (H : Heap 𝓤) (A : Atoms 𝓤) (W : Given
               in-i = (refl, fits (ltb→lt (t .i) n less));
               in-found = in-next;
               so = goes-on
-                  (amongNext id (take count (now unacked))) (take n (now entries)) false (t .i) (t .found) next (front-inside (t .i) n (now entries) (ltb→lt (t .i) n less) asks) (t .so)
-                  (told ∙ ap ((amongNext id (take count (now unacked))) (t .found)) (front-entry n (t .i) (now entries) (ltb→lt (t .i) n less)));
-            }) (add-one-dec n (t .i) (ltb→lt (t .i) n less))))
+                  (amongNext (id .0) (take count (now unacked))) (take n (now entries)) false (t .i) (t .found) next (front-inside (t .i) n (now entries) (ltb→lt (t .i) n less) asks) (t .so)
+                  (told ∙ ap ((amongNext (id .0) (take count (now unacked))) (t .found)) (front-entry n (t .i) (now entries) (ltb→lt (t .i) n less)));
+            })
+            (add-one-dec n (t .i) (ltb→lt (t .i) n less))))
             (λ over. jumps ! $ exec ! C Λ En steps.t-4 (atRet En (This .post bound)) $
             assigns ! (of-opd ! (local ! (look ! 6 refl))) (into !) (init ! 20 refl (as-bool .lawful .typed (t .found) _ (t .in-found) .0)) $ returns ! (look ! 20 refl) $
             gone ! 20 refl refl $ gone ! 18 refl refl $ gone ! 16 refl refl $ gone ! 14 refl refl $ gone ! 12 refl refl $ gone ! 10 refl refl $ gone ! 8 refl refl $ gone ! 6 refl refl $
             gone ! 4 refl refl $ free0 ! $
             suffices ! _ (ends-at 𝓤 H A this.ended stayed clauses W bound (as-bool .val (t .found)) (t .found) (tt, (tt, (tt, (tt, (tt, tt))))) (tt, (tt, (tt, (tt, (tt, tt)))))) $
-            says ! (ends (amongNext id (take count (now unacked))) (take n (now entries)) false (t .i) (t .found) (front-behind (t .i) n (now entries) (nltb→le (t .i) n over) asks) (t .so))
-            $
+            says ! (ends (amongNext (id .0) (take count (now unacked))) (take n (now entries)) false (t .i) (t .found) (front-behind (t .i) n (now entries) (nltb→le (t .i) n over) asks)
+            (t .so)) $
             keep ! (0 ∷ 1 ∷ []) $ retok ! 2 (κ₀, (κ₁, tt)) (q₀, (q₁, tt)) $ frame ! $ nothing ! $ none ! $ none ! $ none ! $ none ! $ none ! $ frame ! $
             owned ! Boolean (Is Boolean) (as-bool .makes) (t .found) _ (t .in-found) $ done !)
           where
@@ -205,7 +212,7 @@ module _ {M : Type 1} (𝓤 : URA M) (H : Heap 𝓤) (A : Atoms 𝓤) (W : Given
           enter ! C Λ code.function (This .args bound) _ $
           alloc1 ! (λ l₀. alloc1 ! (λ l₁. alloc1 ! (λ l₂. alloc1 ! (λ l₃. alloc1 ! (λ l₄. alloc1 ! (λ l₅. alloc1 ! (λ l₆. alloc1 ! (λ l₇. alloc1 ! (λ l₈. alloc0 ! $ params1 ! $
           pass1 ! (init ! 14 refl (shr-slice-lawful 𝓤 H A W (named 0) κ₀ EntryT.the-row .typed entries (slice-vals entries) in-entries .0)) $
-          pass1 ! (init ! 12 refl (as-w64 .lawful .typed id _ in-id .0)) $
+          pass1 ! (init ! 12 refl (as-ContactId .lawful .typed id _ in-id .0)) $
           pass1 ! (init ! 10 refl (shr-slice-lawful 𝓤 H A W (named 1) κ₁ (UInt w32) .typed unacked (slice-vals unacked) in-unacked .0)) $
           pass1 ! (init ! 8 refl (as-w64 .lawful .typed count _ in-count .0)) $
           pass1 ! (init ! 6 refl (as-w64 .lawful .typed n _ in-n .0)) $
@@ -217,8 +224,8 @@ module _ {M : Type 1} (𝓤 : URA M) (H : Heap 𝓤) (A : Atoms 𝓤) (W : Given
   module _ (𝓣 : Tables 𝓤 H) (known : Known (𝓣 .C)) where
     walks : Walks 𝓤 H A this.ended stayed (WpFn 𝓤 H (𝓣 .C) (𝓣 .Λ) code.function) clauses
     walks = walked 𝓤 H A this.ended stayed clauses (WpFn 𝓤 H (𝓣 .C) (𝓣 .Λ) code.function)
-        (λ κs. (slice-vals, (vals as-w64, (slice-vals, (vals as-w64, (vals as-w64, tt))))))
-        (λ κs. (shr-slice-tells (named 0) (κs .0) EntryT.the-row, (as-w64 .tells, (shr-slice-tells (named 1) (κs .1 .0) (UInt w32), (as-w64 .tells, (as-w64 .tells, tt))))))
+        (λ κs. (slice-vals, (vals as-ContactId, (slice-vals, (vals as-w64, (vals as-w64, tt))))))
+        (λ κs. (shr-slice-tells (named 0) (κs .0) EntryT.the-row, (as-ContactId .tells, (shr-slice-tells (named 1) (κs .1 .0) (UInt w32), (as-w64 .tells, (as-w64 .tells, tt))))))
         (λ κs qs bounds a g are. needs 𝓤 _ _ (λ asks. walk (κs .0) (κs .1 .0) (qs .0) (qs .1 .0) (a .0) (a .1 .0) (a .1 .1 .0) (a .1 .1 .1 .0) (a .1 .1 .1 .1 .0) (are .0) (are .1 .0)
         (are .1 .1 .0) (are .1 .1 .1 .0) (are .1 .1 .1 .1 .0) asks 𝓣 (fmOf 𝓤 H (W .laws) 𝓣) known))
 

@@ -27,7 +27,7 @@ abbrev numbers : tie.Start → List ℕ
 numbers s = take (s .args .count) (s .args .unacked .now)
 
 returns : tie.Need-returns
-returns c = let s = c .before .before in stays (s .args .e) (s .args .id) (numbers s) (s .args .found) (c .if1 .taken)
+returns c = let s = c .before .before in stays (s .args .e) (s .args .id .0) (numbers s) (s .args .found) (c .if1 .taken)
 
 is-queued-requires : tie.Need-is-queued-requires
 is-queued-requires c κs = search needs
@@ -39,13 +39,13 @@ returns-2 : tie.Need-returns-2
 returns-2 c =
     let u = c .before .before in
     let s = u .before .before .before in
-    c .is-among .ensures ∙ compared (s .args .e) (s .args .id) (numbers s) (s .args .found) (u .before .if1 .left) (sym (u .is-queued .ensures) ∙ c .before .if2 .taken)
+    c .is-among .ensures ∙ compared (s .args .e) (s .args .id .0) (numbers s) (s .args .found) (u .before .if1 .left) (sym (u .is-queued .ensures) ∙ c .before .if2 .taken)
 
 returns-3 : tie.Need-returns-3
 returns-3 c =
     let u = c .before in
     let s = u .before .before .before in
-    other (s .args .e) (s .args .id) (numbers s) (s .args .found) (u .before .if1 .left) (sym (u .is-queued .ensures) ∙ c .if2 .left)
+    other (s .args .e) (s .args .id .0) (numbers s) (s .args .found) (u .before .if1 .left) (sym (u .is-queued .ensures) ∙ c .if2 .left)
 
 pub among-next-spec : {M : Type 1} → statement M
 among-next-spec = tie.close (tie.spec returns is-queued-requires is-among-requires returns-2 returns-3)

@@ -47,6 +47,9 @@ use Rattle.sought.proofs.Sought as SoughtT
 use Rattle.sought.proofs.Sought.Laws as SoughtL
 use Rattle.store.specs.declared.Entry.{Entry}
 use Rattle.store.proofs.Entry as EntryT
+use Rattle.rows.specs.declared.ContactId.{ContactId}
+use Rattle.rows.proofs.ContactId as ContactIdT
+use Rattle.rows.proofs.ContactId.Laws as ContactIdL
 use Rattle.sought.proofs.contact_at as contact-at
 use Rattle.sought.proofs.contact_at.Symbol as contact-at-def
 use Rattle.sought.proofs.contact_at.Met as contact-at-thm
@@ -64,6 +67,9 @@ module _ {M : Type 1} (𝓤 : URA M) (H : Heap 𝓤) (A : Atoms 𝓤) (W : Given
   abbrev as-Sought : Held W SoughtT.the-row
   as-Sought = of-struct W SoughtT.the-type SoughtL.the-laws SoughtL.the-plain
 
+  abbrev as-ContactId : Held W ContactIdT.the-row
+  as-ContactId = of-struct W ContactIdT.the-type ContactIdL.the-laws ContactIdL.the-plain
+
   abbrev as-w64 : Held W (UInt w64)
   as-w64 = number W w64
 
@@ -80,14 +86,14 @@ module _ {M : Type 1} (𝓤 : URA M) (H : Heap 𝓤) (A : Atoms 𝓤) (W : Given
   abbrev This : Contract 𝓤
   This = walkOf 𝓤 H A this.ended stayed clauses
 
-  module _ (κ₀ : Lft) (q₀ : Share) (entries : RefT (List Entry)) (id : ℕ) (count : ℕ) (begun : Sought)
+  module _ (κ₀ : Lft) (q₀ : Share) (entries : RefT (List Entry)) (id : ContactId) (count : ℕ) (begun : Sought)
       (in-entries : Is (ShrSlice (named 0) κ₀ EntryT.the-row) entries (slice-vals entries))
-      (in-id : Lies as-w64 id)
+      (in-id : Lies as-ContactId id)
       (in-count : Lies as-w64 count)
       (in-begun : Lies as-Sought begun)
       (asks : count ≡ length (now entries)) where
     abbrev bound : This .Ghost
-    bound = (((κ₀, tt), (q₀, tt), tt, (entries, (id, (count, (begun, tt)))), (slice-vals entries, (vals as-w64 id, (vals as-w64 count, (vals as-Sought begun, tt))))), tt)
+    bound = (((κ₀, tt), (q₀, tt), tt, (entries, (id, (count, (begun, tt)))), (slice-vals entries, (vals as-ContactId id, (vals as-w64 count, (vals as-Sought begun, tt))))), tt)
 
     -- the variables before a turn, and what is known of them
     record Turn : Type 0 where
@@ -95,10 +101,10 @@ module _ {M : Type 1} (𝓤 : URA M) (H : Heap 𝓤) (A : Atoms 𝓤) (W : Given
       sought : Sought
       in-i : Lies as-w64 i
       in-sought : Lies as-Sought sought
-      so : Folding (soughtNext id) (now entries) begun i sought
+      so : Folding (soughtNext (id .0)) (now entries) begun i sought
 
     abbrev first-turn : Turn
-    first-turn = record { i = 0; sought = begun; in-i = (refl, lit< tt); in-sought = in-begun; so = begins (soughtNext id) (now entries) begun }
+    first-turn = record { i = 0; sought = begun; in-i = (refl, lit< tt); in-sought = in-begun; so = begins (soughtNext (id .0)) (now entries) begun }
 
     abbrev far : Turn → ℕ
     far t = count - (t .i)
@@ -110,7 +116,7 @@ module _ {M : Type 1} (𝓤 : URA M) (H : Heap 𝓤) (A : Atoms 𝓤) (W : Given
     Nearer-wf = InvImage·wf far (Nat·lt-wfRel .wf)
 
     abbrev to : Turn → Its-contact-at .Ghost
-    to t = (((κ₀, tt), (q₀, tt), tt, (entries, (id, ((t .i), ((t .sought), tt)))), (slice-vals entries, (vals as-w64 id, (vals as-w64 (t .i), (vals as-Sought (t .sought), tt))))), tt)
+    to t = (((κ₀, tt), (q₀, tt), tt, (entries, (id, ((t .i), ((t .sought), tt)))), (slice-vals entries, (vals as-ContactId id, (vals as-w64 (t .i), (vals as-Sought (t .sought), tt))))), tt)
 
     module _ (𝓣 : Tables 𝓤 H) (fm : FmC 𝓤 H (W .laws) (𝓣 .C)) (known : Known (𝓣 .C)) where
       abbrev C : Calls 𝓤 H
@@ -121,14 +127,14 @@ module _ {M : Type 1} (𝓤 : URA M) (H : Heap 𝓤) (A : Atoms 𝓤) (W : Given
 
       module _ (l₀ l₁ l₂ l₃ l₄ l₅ l₆ l₇ : ℕ) where
         abbrev En : Env 𝓤 H
-        En = (SoughtL.mir, l₀) ∷ ((sliceTy (tyRef (named 0) imm (pointee (EntryT.the-row .written)))), l₁) ∷ ((tyInt w64), l₂) ∷ ((tyInt w64), l₃) ∷ (SoughtL.mir, l₄) ∷ ((tyInt w64), l₅) ∷
-            (SoughtL.mir, l₆) ∷ (tyBool, l₇) ∷ []
+        En = (SoughtL.mir, l₀) ∷ ((sliceTy (tyRef (named 0) imm (pointee (EntryT.the-row .written)))), l₁) ∷ (ContactIdL.mir, l₂) ∷ ((tyInt w64), l₃) ∷ (SoughtL.mir, l₄) ∷ ((tyInt w64), l₅)
+            ∷ (SoughtL.mir, l₆) ∷ (tyBool, l₇) ∷ []
 
         abbrev Before : Turn → List (Item 𝓤)
         Before t = ‵ (flft κ₀ q₀) ∷ ‵ (ShrSlice (named 0) κ₀ EntryT.the-row .own entries (slice-vals entries)) ∷ empty tyBool l₇
             (holds SoughtL.mir l₆ (as-Sought .val (t .sought)) (holds (tyInt w64) l₅ (as-w64 .val (t .i))
             (holds SoughtL.mir l₄ (as-Sought .val begun) (holds (tyInt w64) l₃ (as-w64 .val count)
-            (holds (tyInt w64) l₂ (as-w64 .val id) (holds (sliceTy (tyRef (named 0) imm (pointee (EntryT.the-row .written)))) l₁ (sliceVal (entries .ptr) (length (entries .now)))
+            (holds ContactIdL.mir l₂ (as-ContactId .val id) (holds (sliceTy (tyRef (named 0) imm (pointee (EntryT.the-row .written)))) l₁ (sliceVal (entries .ptr) (length (entries .now)))
             (empty SoughtL.mir l₀ [])))))))
 
         abbrev Turned : Turn → Out → SProp 𝓤
@@ -141,7 +147,7 @@ module _ {M : Type 1} (𝓤 : URA M) (H : Heap 𝓤) (A : Atoms 𝓤) (W : Given
             assigns ! (bin ! (local ! (look ! 6 refl)) (local ! (look ! 10 refl)) tt) (into !) (init ! 2 refl (tt, tt)) $
             first ! $ branches ! (local ! (look ! 2 refl))
             (λ less. skips ! $ exec ! C Λ En (rest-of (rest-of steps.turn-1)) (anyQ (Turned t)) $
-            nothing ! $ plus ! as-Sought (t .sought) (t .in-sought) $ plus ! as-w64 (t .i) (t .in-i) $ plus ! as-w64 id in-id $ lends ! 1 (named 0) κ₀ EntryT.the-row entries refl $
+            nothing ! $ plus ! as-Sought (t .sought) (t .in-sought) $ plus ! as-w64 (t .i) (t .in-i) $ plus ! as-ContactId id in-id $ lends ! 1 (named 0) κ₀ EntryT.the-row entries refl $
             move ! (1 ∷ 0 ∷ []) $
             calls-held ! fm contact-at.ended (contact-at.clauses 𝓤 H A mem calling) (known .contact-at) (to t)
             (factI 𝓤 _ (emp 𝓤) (inside (t .i) count (now entries) (ltb→lt (t .i) count less) asks)) as-Sought (λ r ws. id⊢ 𝓤 _)
@@ -156,7 +162,7 @@ module _ {M : Type 1} (𝓤 : URA M) (H : Heap 𝓤) (A : Atoms 𝓤) (W : Given
               in-i = (refl, fits (ltb→lt (t .i) count less));
               in-sought = in-next;
               so = goes-on
-                  (soughtNext id) (now entries) begun (t .i) (t .sought) next (inside (t .i) count (now entries) (ltb→lt (t .i) count less) asks) (t .so) told;
+                  (soughtNext (id .0)) (now entries) begun (t .i) (t .sought) next (inside (t .i) count (now entries) (ltb→lt (t .i) count less) asks) (t .so) told;
             })
             (add-one-dec count (t .i) (ltb→lt (t .i) count less))))
             (λ over. jumps ! $ exec ! C Λ En steps.t-4 (atRet En (This .post bound)) $
@@ -164,7 +170,7 @@ module _ {M : Type 1} (𝓤 : URA M) (H : Heap 𝓤) (A : Atoms 𝓤) (W : Given
             gone ! 16 refl refl $ gone ! 14 refl refl $ gone ! 12 refl refl $ gone ! 10 refl refl $ gone ! 8 refl refl $ gone ! 6 refl refl $ gone ! 4 refl refl $ gone ! 2 refl refl $
             free0 ! $
             suffices ! _ (ends-at 𝓤 H A this.ended stayed clauses W bound (as-Sought .val (t .sought)) (t .sought) (tt, (tt, (tt, (tt, tt)))) (tt, (tt, (tt, (tt, tt))))) $
-            says ! (ends (soughtNext id) (now entries) begun (t .i) (t .sought) (behind (t .i) count (now entries) (nltb→le (t .i) count over) asks) (t .so)) $
+            says ! (ends (soughtNext (id .0)) (now entries) begun (t .i) (t .sought) (behind (t .i) count (now entries) (nltb→le (t .i) count over) asks) (t .so)) $
             keep ! (0 ∷ []) $ retok ! 1 (κ₀, tt) (q₀, tt) $ frame ! $ nothing ! $ none ! $ none ! $ none ! $ none ! $ frame ! $
             owned ! SoughtT.the-row (Is SoughtT.the-row) (as-Sought .makes) (t .sought) _ (t .in-sought) $ done !)
           where
@@ -181,7 +187,7 @@ module _ {M : Type 1} (𝓤 : URA M) (H : Heap 𝓤) (A : Atoms 𝓤) (W : Given
           untok ! 1 (κ₀, tt) (q₀, tt) $ move ! (1 ∷ []) $ fsplit ! $ keep ! (2 ∷ 0 ∷ []) $ enter ! C Λ code.function (This .args bound) _ $
           alloc1 ! (λ l₀. alloc1 ! (λ l₁. alloc1 ! (λ l₂. alloc1 ! (λ l₃. alloc1 ! (λ l₄. alloc1 ! (λ l₅. alloc1 ! (λ l₆. alloc1 ! (λ l₇. alloc0 ! $ params1 ! $
           pass1 ! (init ! 12 refl (shr-slice-lawful 𝓤 H A W (named 0) κ₀ EntryT.the-row .typed entries (slice-vals entries) in-entries .0)) $
-          pass1 ! (init ! 10 refl (as-w64 .lawful .typed id _ in-id .0)) $
+          pass1 ! (init ! 10 refl (as-ContactId .lawful .typed id _ in-id .0)) $
           pass1 ! (init ! 8 refl (as-w64 .lawful .typed count _ in-count .0)) $
           pass1 ! (init ! 6 refl (as-Sought .lawful .typed begun _ in-begun .0)) $
           pass0 ! $ move ! (16 ∷ 17 ∷ []) $
@@ -192,8 +198,8 @@ module _ {M : Type 1} (𝓤 : URA M) (H : Heap 𝓤) (A : Atoms 𝓤) (W : Given
   module _ (𝓣 : Tables 𝓤 H) (known : Known (𝓣 .C)) where
     walks : Walks 𝓤 H A this.ended stayed (WpFn 𝓤 H (𝓣 .C) (𝓣 .Λ) code.function) clauses
     walks = walked 𝓤 H A this.ended stayed clauses (WpFn 𝓤 H (𝓣 .C) (𝓣 .Λ) code.function)
-        (λ κs. (slice-vals, (vals as-w64, (vals as-w64, (vals as-Sought, tt)))))
-        (λ κs. (shr-slice-tells (named 0) (κs .0) EntryT.the-row, (as-w64 .tells, (as-w64 .tells, (as-Sought .tells, tt)))))
+        (λ κs. (slice-vals, (vals as-ContactId, (vals as-w64, (vals as-Sought, tt)))))
+        (λ κs. (shr-slice-tells (named 0) (κs .0) EntryT.the-row, (as-ContactId .tells, (as-w64 .tells, (as-Sought .tells, tt)))))
         (λ κs qs bounds a g are. needs 𝓤 _ _ (λ asks. walk (κs .0) (qs .0) (a .0) (a .1 .0) (a .1 .1 .0) (a .1 .1 .1 .0) (are .0) (are .1 .0) (are .1 .1 .0) (are .1 .1 .1 .0) asks 𝓣
         (fmOf 𝓤 H (W .laws) 𝓣) known))
 

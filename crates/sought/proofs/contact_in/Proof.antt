@@ -40,6 +40,9 @@ use Rattle.sought.proofs.Sought as SoughtT
 use Rattle.sought.proofs.Sought.Laws as SoughtL
 use Rattle.store.specs.declared.Entry.{Entry}
 use Rattle.store.proofs.Entry as EntryT
+use Rattle.rows.specs.declared.ContactId.{ContactId}
+use Rattle.rows.proofs.ContactId as ContactIdT
+use Rattle.rows.proofs.ContactId.Laws as ContactIdL
 use Rattle.entries.proofs.entry_count as entries-entry-count
 use Rattle.entries.proofs.entry_count.Symbol as entries-entry-count-def
 use Rattle.entries.proofs.entry_count.Met as entries-entry-count-thm
@@ -61,6 +64,9 @@ module _ {M : Type 1} (𝓤 : URA M) (H : Heap 𝓤) (A : Atoms 𝓤) (W : Given
   -- how values lie in locals
   abbrev as-Sought : Held W SoughtT.the-row
   as-Sought = of-struct W SoughtT.the-type SoughtL.the-laws SoughtL.the-plain
+
+  abbrev as-ContactId : Held W ContactIdT.the-row
+  as-ContactId = of-struct W ContactIdT.the-type ContactIdL.the-laws ContactIdL.the-plain
 
   abbrev as-w64 : Held W (UInt w64)
   as-w64 = number W w64
@@ -86,11 +92,11 @@ module _ {M : Type 1} (𝓤 : URA M) (H : Heap 𝓤) (A : Atoms 𝓤) (W : Given
   abbrev This : Contract 𝓤
   This = walkOf 𝓤 H A this.ended stayed clauses
 
-  module _ (κ₀ : Lft) (q₀ : Share) (entries : RefT (List Entry)) (id : ℕ)
+  module _ (κ₀ : Lft) (q₀ : Share) (entries : RefT (List Entry)) (id : ContactId)
       (in-entries : Is (ShrSlice (named 0) κ₀ EntryT.the-row) entries (slice-vals entries))
-      (in-id : Lies as-w64 id) where
+      (in-id : Lies as-ContactId id) where
     abbrev bound : This .Ghost
-    bound = (((κ₀, tt), (q₀, tt), tt, (entries, (id, tt)), (slice-vals entries, (vals as-w64 id, tt))), tt)
+    bound = (((κ₀, tt), (q₀, tt), tt, (entries, (id, tt)), (slice-vals entries, (vals as-ContactId id, tt))), tt)
 
     -- what each call is handed
     abbrev to-n : Its-entries-entry-count .Ghost
@@ -100,7 +106,7 @@ module _ {M : Type 1} (𝓤 : URA M) (H : Heap 𝓤) (A : Atoms 𝓤) (W : Given
     to-begun n = ((tt, tt, tt, tt, tt), tt)
 
     abbrev to-r : (n : ℕ) → (begun : Sought) → Its-contact-from .Ghost
-    to-r n begun = (((κ₀, tt), (q₀, tt), tt, (entries, (id, (n, (begun, tt)))), (slice-vals entries, (vals as-w64 id, (vals as-w64 n, (vals as-Sought begun, tt))))), tt)
+    to-r n begun = (((κ₀, tt), (q₀, tt), tt, (entries, (id, (n, (begun, tt)))), (slice-vals entries, (vals as-ContactId id, (vals as-w64 n, (vals as-Sought begun, tt))))), tt)
 
     module _ (𝓣 : Tables 𝓤 H) (fm : FmC 𝓤 H (W .laws) (𝓣 .C)) (known : Known (𝓣 .C)) where
       abbrev C : Calls 𝓤 H
@@ -116,7 +122,7 @@ module _ {M : Type 1} (𝓤 : URA M) (H : Heap 𝓤) (A : Atoms 𝓤) (W : Given
           untok ! 1 (κ₀, tt) (q₀, tt) $ move ! (1 ∷ []) $ fsplit ! $ keep ! (2 ∷ 0 ∷ []) $ enter ! C Λ code.function (This .args bound) _ $
           alloc1 ! (λ l₀. alloc1 ! (λ l₁. alloc1 ! (λ l₂. alloc1 ! (λ l₃. alloc1 ! (λ l₄. alloc0 ! $ params1 ! $
           pass1 ! (init ! 6 refl (shr-slice-lawful 𝓤 H A W (named 0) κ₀ EntryT.the-row .typed entries (slice-vals entries) in-entries .0)) $
-          pass1 ! (init ! 4 refl (as-w64 .lawful .typed id _ in-id .0)) $
+          pass1 ! (init ! 4 refl (as-ContactId .lawful .typed id _ in-id .0)) $
           pass0 ! $ move ! (10 ∷ 11 ∷ []) $
           -- n is entries::entry_count(entries)
           nothing ! $ lends ! 1 (named 0) κ₀ EntryT.the-row entries refl $ move ! (1 ∷ 0 ∷ []) $
@@ -129,7 +135,7 @@ module _ {M : Type 1} (𝓤 : URA M) (H : Heap 𝓤) (A : Atoms 𝓤) (W : Given
           (no-more !) (λ begun is-begun in-begun.
           land ! (into !) (init ! 2 refl (as-Sought .lawful .typed begun _ in-begun .0)) $
           -- r is sought::contact_from(entries, id, n, begun)
-          nothing ! $ plus ! as-Sought begun in-begun $ plus ! as-w64 n in-n $ plus ! as-w64 id in-id $ lends ! 1 (named 0) κ₀ EntryT.the-row entries refl $ move ! (1 ∷ 0 ∷ []) $
+          nothing ! $ plus ! as-Sought begun in-begun $ plus ! as-w64 n in-n $ plus ! as-ContactId id in-id $ lends ! 1 (named 0) κ₀ EntryT.the-row entries refl $ move ! (1 ∷ 0 ∷ []) $
           calls-held ! fm contact-from.ended (contact-from.clauses 𝓤 H A mem calling) (known .contact-from) (to-r n begun) (factI 𝓤 _ (emp 𝓤) is-n) as-Sought (λ r ws. id⊢ 𝓤 _)
           (and-then ! (local ! (look ! 8 refl)) (and-then ! (local ! (look ! 6 refl)) (and-then ! (local ! (look ! 4 refl)) (and-then ! (local ! (look ! 2 refl)) (no-more !)))))
           (λ r is-r in-r.
@@ -137,15 +143,15 @@ module _ {M : Type 1} (𝓤 : URA M) (H : Heap 𝓤) (A : Atoms 𝓤) (W : Given
           returns ! (look ! 10 refl) $
           gone ! 10 refl refl $ gone ! 8 refl refl $ gone ! 6 refl refl $ gone ! 4 refl refl $ gone ! 2 refl refl $ free0 ! $
           suffices ! _ (ends-at 𝓤 H A this.ended stayed clauses W bound (as-Sought .val r) r (tt, (tt, tt)) (tt, (tt, tt))) $
-          says ! (is-r ∙ (ap (λ b. foldl (soughtNext id) b (now entries)) is-begun ∙ sought-is id (now entries))) $
+          says ! (is-r ∙ (ap (λ b. foldl (soughtNext (id .0)) b (now entries)) is-begun ∙ sought-is (id .0) (now entries))) $
           keep ! (0 ∷ []) $ retok ! 1 (κ₀, tt) (q₀, tt) $ frame ! $ nothing ! $ none ! $ none ! $ frame ! $ owned ! SoughtT.the-row (Is SoughtT.the-row) (as-Sought .makes) r _ in-r $
           done !))))))))
 
   module _ (𝓣 : Tables 𝓤 H) (known : Known (𝓣 .C)) where
     walks : Walks 𝓤 H A this.ended stayed (WpFn 𝓤 H (𝓣 .C) (𝓣 .Λ) code.function) clauses
     walks = walked 𝓤 H A this.ended stayed clauses (WpFn 𝓤 H (𝓣 .C) (𝓣 .Λ) code.function)
-        (λ κs. (slice-vals, (vals as-w64, tt)))
-        (λ κs. (shr-slice-tells (named 0) (κs .0) EntryT.the-row, (as-w64 .tells, tt)))
+        (λ κs. (slice-vals, (vals as-ContactId, tt)))
+        (λ κs. (shr-slice-tells (named 0) (κs .0) EntryT.the-row, (as-ContactId .tells, tt)))
         (λ κs qs bounds a g are. via 𝓤 _ (fst∗ 𝓤 _ (emp 𝓤)) (walk (κs .0) (qs .0) (a .0) (a .1 .0) (are .0) (are .1 .0) 𝓣 (fmOf 𝓤 H (W .laws) 𝓣) known))
 
     meets : Meets 𝓤 H A this.signature (WpFn 𝓤 H (𝓣 .C) (𝓣 .Λ) code.function) (this.spec 𝓤 H A mem calling)

@@ -34,13 +34,16 @@ use denote.Triple.Statement.{Contract, Triple}
 use denote.Triple.Table.{entered, cited}
 use denote.Triple.Walked.{says, Stays, walkOf, Walks, ends-at, walked, walk-meets}
 use Rattle.walks.proofs.Walk.{untok, retok, gone, drops, drops-go}
-use Rattle.walks.proofs.Held.{Held, number, vals, Lies, plus, lends, none, calls-held, into, local}
+use Rattle.walks.proofs.Held.{Held, number, of-struct, vals, Lies, plus, lends, none, calls-held, into, local}
 use mathlib.Core.Bool.{cond}
 use lib.ListN.{length}
 use lib.Dec.{ltb}
 use Rattle.sought.proofs.Laws.{wanted-count, among-some}
 use Rattle.store.specs.declared.Entry.{Entry}
 use Rattle.store.proofs.Entry as EntryT
+use Rattle.rows.specs.declared.ContactId.{ContactId}
+use Rattle.rows.proofs.ContactId as ContactIdT
+use Rattle.rows.proofs.ContactId.Laws as ContactIdL
 use Rattle.entries.proofs.entry_count as entries-entry-count
 use Rattle.entries.proofs.entry_count.Symbol as entries-entry-count-def
 use Rattle.entries.proofs.entry_count.Met as entries-entry-count-thm
@@ -65,6 +68,9 @@ module _ {M : Type 1} (𝓤 : URA M) (H : Heap 𝓤) (A : Atoms 𝓤) (W : Given
   -- how values lie in locals
   abbrev as-bool : Held W Boolean
   as-bool = record { val = vbool; tells = bool-tells; makes = bool-makes 𝓤 H A W; lawful = bool-lawful 𝓤 H A W }
+
+  abbrev as-ContactId : Held W ContactIdT.the-row
+  as-ContactId = of-struct W ContactIdT.the-type ContactIdL.the-laws ContactIdL.the-plain
 
   abbrev as-w64 : Held W (UInt w64)
   as-w64 = number W w64
@@ -94,13 +100,13 @@ module _ {M : Type 1} (𝓤 : URA M) (H : Heap 𝓤) (A : Atoms 𝓤) (W : Given
   abbrev This : Contract 𝓤
   This = walkOf 𝓤 H A this.ended stayed clauses
 
-  module _ (κ₀ κ₁ : Lft) (q₀ q₁ : Share) (entries : RefT (List Entry)) (id : ℕ) (unacked : RefT (List ℕ)) (count : ℕ)
+  module _ (κ₀ κ₁ : Lft) (q₀ q₁ : Share) (entries : RefT (List Entry)) (id : ContactId) (unacked : RefT (List ℕ)) (count : ℕ)
       (in-entries : Is (ShrSlice (named 0) κ₀ EntryT.the-row) entries (slice-vals entries))
-      (in-id : Lies as-w64 id)
+      (in-id : Lies as-ContactId id)
       (in-unacked : Is (ShrSlice (named 1) κ₁ (UInt w32)) unacked (slice-vals unacked))
       (in-count : Lies as-w64 count) where
     abbrev bound : This .Ghost
-    bound = (((κ₀, (κ₁, tt)), (q₀, (q₁, tt)), tt, (entries, (id, (unacked, (count, tt)))), (slice-vals entries, (vals as-w64 id, (slice-vals unacked, (vals as-w64 count, tt))))), tt)
+    bound = (((κ₀, (κ₁, tt)), (q₀, (q₁, tt)), tt, (entries, (id, (unacked, (count, tt)))), (slice-vals entries, (vals as-ContactId id, (slice-vals unacked, (vals as-w64 count, tt))))), tt)
 
     -- what each call is handed
     abbrev to-total : Its-entries-entry-count .Ghost
@@ -119,7 +125,7 @@ module _ {M : Type 1} (𝓤 : URA M) (H : Heap 𝓤) (A : Atoms 𝓤) (W : Given
         (q₀, (q₁, tt)),
         tt,
         (entries, (id, (unacked, (count, (n, tt))))),
-        (slice-vals entries, (vals as-w64 id, (slice-vals unacked, (vals as-w64 count, (vals as-w64 n, tt))))),
+        (slice-vals entries, (vals as-ContactId id, (slice-vals unacked, (vals as-w64 count, (vals as-w64 n, tt))))),
       ),
       tt,
     )
@@ -139,7 +145,7 @@ module _ {M : Type 1} (𝓤 : URA M) (H : Heap 𝓤) (A : Atoms 𝓤) (W : Given
           enter ! C Λ code.function (This .args bound) _ $
           alloc1 ! (λ l₀. alloc1 ! (λ l₁. alloc1 ! (λ l₂. alloc1 ! (λ l₃. alloc1 ! (λ l₄. alloc1 ! (λ l₅. alloc1 ! (λ l₆. alloc1 ! (λ l₇. alloc0 ! $ params1 ! $
           pass1 ! (init ! 12 refl (shr-slice-lawful 𝓤 H A W (named 0) κ₀ EntryT.the-row .typed entries (slice-vals entries) in-entries .0)) $
-          pass1 ! (init ! 10 refl (as-w64 .lawful .typed id _ in-id .0)) $
+          pass1 ! (init ! 10 refl (as-ContactId .lawful .typed id _ in-id .0)) $
           pass1 ! (init ! 8 refl (shr-slice-lawful 𝓤 H A W (named 1) κ₁ (UInt w32) .typed unacked (slice-vals unacked) in-unacked .0)) $
           pass1 ! (init ! 6 refl (as-w64 .lawful .typed count _ in-count .0)) $
           pass0 ! $ move ! (16 ∷ 17 ∷ 18 ∷ 19 ∷ []) $
@@ -159,7 +165,7 @@ module _ {M : Type 1} (𝓤 : URA M) (H : Heap 𝓤) (A : Atoms 𝓤) (W : Given
           (and-then ! (local ! (look ! 7 refl)) (and-then ! (local ! (look ! 9 refl)) (no-more !))) (λ n is-n in-n.
           land ! (into !) (init ! 4 refl (as-w64 .lawful .typed n _ in-n .0)) $
           -- r is sought::among_from(entries, id, unacked, count, n)
-          nothing ! $ plus ! as-w64 n in-n $ plus ! as-w64 count in-count $ lends ! 3 (named 1) κ₁ (UInt w32) unacked refl $ plus ! as-w64 id in-id $
+          nothing ! $ plus ! as-w64 n in-n $ plus ! as-w64 count in-count $ lends ! 3 (named 1) κ₁ (UInt w32) unacked refl $ plus ! as-ContactId id in-id $
           lends ! 2 (named 0) κ₀ EntryT.the-row entries refl $ move ! (1 ∷ 2 ∷ 0 ∷ []) $
           calls-held ! fm among-from.ended (among-from.clauses 𝓤 H A mem calling) (known .among-from) (to-r total wanted n)
           (factI 𝓤 _ (emp 𝓤) (wanted-count (ltb 0 count) (length (now entries)) n (is-n ∙ (λ i. cond (is-wanted i) (is-total i) 0)))) as-bool (λ r ws. id⊢ 𝓤 _)
@@ -170,15 +176,15 @@ module _ {M : Type 1} (𝓤 : URA M) (H : Heap 𝓤) (A : Atoms 𝓤) (W : Given
           gone ! 18 refl refl $ gone ! 16 refl refl $ gone ! 14 refl refl $ gone ! 12 refl refl $ gone ! 10 refl refl $ gone ! 8 refl refl $ gone ! 6 refl refl $ gone ! 4 refl refl $
           free0 ! $
           suffices ! _ (ends-at 𝓤 H A this.ended stayed clauses W bound (as-bool .val r) r (tt, (tt, (tt, (tt, tt)))) (tt, (tt, (tt, (tt, tt))))) $
-          says ! (is-r ∙ among-some id count n (now unacked) (now entries) (is-n ∙ (λ i. cond (is-wanted i) (is-total i) 0))) $
+          says ! (is-r ∙ among-some (id .0) count n (now unacked) (now entries) (is-n ∙ (λ i. cond (is-wanted i) (is-total i) 0))) $
           keep ! (0 ∷ 1 ∷ []) $ retok ! 2 (κ₀, (κ₁, tt)) (q₀, (q₁, tt)) $ frame ! $ nothing ! $ none ! $ none ! $ none ! $ none ! $ frame ! $
           owned ! Boolean (Is Boolean) (as-bool .makes) r _ in-r $ done !))))))))))))
 
   module _ (𝓣 : Tables 𝓤 H) (known : Known (𝓣 .C)) where
     walks : Walks 𝓤 H A this.ended stayed (WpFn 𝓤 H (𝓣 .C) (𝓣 .Λ) code.function) clauses
     walks = walked 𝓤 H A this.ended stayed clauses (WpFn 𝓤 H (𝓣 .C) (𝓣 .Λ) code.function)
-        (λ κs. (slice-vals, (vals as-w64, (slice-vals, (vals as-w64, tt)))))
-        (λ κs. (shr-slice-tells (named 0) (κs .0) EntryT.the-row, (as-w64 .tells, (shr-slice-tells (named 1) (κs .1 .0) (UInt w32), (as-w64 .tells, tt)))))
+        (λ κs. (slice-vals, (vals as-ContactId, (slice-vals, (vals as-w64, tt)))))
+        (λ κs. (shr-slice-tells (named 0) (κs .0) EntryT.the-row, (as-ContactId .tells, (shr-slice-tells (named 1) (κs .1 .0) (UInt w32), (as-w64 .tells, tt)))))
         (λ κs qs bounds a g are. via 𝓤 _ (fst∗ 𝓤 _ (emp 𝓤)) (walk (κs .0) (κs .1 .0) (qs .0) (qs .1 .0) (a .0) (a .1 .0) (a .1 .1 .0) (a .1 .1 .1 .0) (are .0) (are .1 .0) (are .1 .1 .0)
         (are .1 .1 .1 .0) 𝓣 (fmOf 𝓤 H (W .laws) 𝓣) known))
 

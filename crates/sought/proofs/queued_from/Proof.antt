@@ -39,7 +39,7 @@ use denote.Triple.Statement.{Contract, Triple}
 use denote.Triple.Table.{entered, cited}
 use denote.Triple.Walked.{says, needs, Stays, walkOf, Walks, ends-at, walked, walk-meets}
 use Rattle.walks.proofs.Walk.{untok, retok, gone, rest-of, drops, drops-go}
-use Rattle.walks.proofs.Held.{Held, number, vals, Lies, holds, empty, plus, lends, none, calls-held, into, local}
+use Rattle.walks.proofs.Held.{Held, number, of-struct, vals, Lies, holds, empty, plus, lends, none, calls-held, into, local}
 use lib.ListN.{take}
 use Rattle.store.specs.Store.{entryAt}
 use Rattle.sought.specs.Sought.{queuedNext}
@@ -47,6 +47,9 @@ use Rattle.sought.proofs.Folds.{Folding, begins, goes-on, ends, front-e
 use Rattle.sought.proofs.Laws.{none-queued, one-fits, one-more}
 use Rattle.store.specs.declared.Entry.{Entry}
 use Rattle.store.proofs.Entry as EntryT
+use Rattle.rows.specs.declared.ContactId.{ContactId}
+use Rattle.rows.proofs.ContactId as ContactIdT
+use Rattle.rows.proofs.ContactId.Laws as ContactIdL
 use Rattle.sought.proofs.queued_at as queued-at
 use Rattle.sought.proofs.queued_at.Symbol as queued-at-def
 use Rattle.sought.proofs.queued_at.Met as queued-at-thm
@@ -64,6 +67,9 @@ module _ {M : Type 1} (𝓤 : URA M) (H : Heap 𝓤) (A : Atoms 𝓤) (W : Given
   abbrev as-w64 : Held W (UInt w64)
   as-w64 = number W w64
 
+  abbrev as-ContactId : Held W ContactIdT.the-row
+  as-ContactId = of-struct W ContactIdT.the-type ContactIdL.the-laws ContactIdL.the-plain
+
   -- the contracts that the proof cites, and its own
   abbrev Its-queued-at : Contract 𝓤
   Its-queued-at = tripleOf 𝓤 H A queued-at.signature (queued-at.spec 𝓤 H A mem calling)
@@ -77,13 +83,13 @@ module _ {M : Type 1} (𝓤 : URA M) (H : Heap 𝓤) (A : Atoms 𝓤) (W : Given
   abbrev This : Contract 𝓤
   This = walkOf 𝓤 H A this.ended stayed clauses
 
-  module _ (κ₀ : Lft) (q₀ : Share) (entries : RefT (List Entry)) (id : ℕ) (count : ℕ)
+  module _ (κ₀ : Lft) (q₀ : Share) (entries : RefT (List Entry)) (id : ContactId) (count : ℕ)
       (in-entries : Is (ShrSlice (named 0) κ₀ EntryT.the-row) entries (slice-vals entries))
-      (in-id : Lies as-w64 id)
+      (in-id : Lies as-ContactId id)
       (in-count : Lies as-w64 count)
       (asks : count ≤ length (now entries)) where
     abbrev bound : This .Ghost
-    bound = (((κ₀, tt), (q₀, tt), tt, (entries, (id, (count, tt))), (slice-vals entries, (vals as-w64 id, (vals as-w64 count, tt)))), tt)
+    bound = (((κ₀, tt), (q₀, tt), tt, (entries, (id, (count, tt))), (slice-vals entries, (vals as-ContactId id, (vals as-w64 count, tt)))), tt)
 
     -- the variables before a turn, and what is known of them
     record Turn : Type 0 where
@@ -91,10 +97,10 @@ module _ {M : Type 1} (𝓤 : URA M) (H : Heap 𝓤) (A : Atoms 𝓤) (W : Given
       queued : ℕ
       in-i : Lies as-w64 i
       in-queued : Lies as-w64 queued
-      so : (queued ≤ i) × Folding (queuedNext id) (take count (now entries)) 0 i queued
+      so : (queued ≤ i) × Folding (queuedNext (id .0)) (take count (now entries)) 0 i queued
 
     abbrev first-turn : Turn
-    first-turn = record { i = 0; queued = 0; in-i = (refl, lit< tt); in-queued = (refl, lit< tt); so = (none-queued, begins (queuedNext id) (take count (now entries)) 0) }
+    first-turn = record { i = 0; queued = 0; in-i = (refl, lit< tt); in-queued = (refl, lit< tt); so = (none-queued, begins (queuedNext (id .0)) (take count (now entries)) 0) }
 
     abbrev far : Turn → ℕ
     far t = count - (t .i)
@@ -106,7 +112,7 @@ module _ {M : Type 1} (𝓤 : URA M) (H : Heap 𝓤) (A : Atoms 𝓤) (W : Given
     Nearer-wf = InvImage·wf far (Nat·lt-wfRel .wf)
 
     abbrev to : Turn → Its-queued-at .Ghost
-    to t = (((κ₀, tt), (q₀, tt), tt, (entries, (id, ((t .i), ((t .queued), tt)))), (slice-vals entries, (vals as-w64 id, (vals as-w64 (t .i), (vals as-w64 (t .queued), tt))))), tt)
+    to t = (((κ₀, tt), (q₀, tt), tt, (entries, (id, ((t .i), ((t .queued), tt)))), (slice-vals entries, (vals as-ContactId id, (vals as-w64 (t .i), (vals as-w64 (t .queued), tt))))), tt)
 
     module _ (𝓣 : Tables 𝓤 H) (fm : FmC 𝓤 H (W .laws) (𝓣 .C)) (known : Known (𝓣 .C)) where
       abbrev C : Calls 𝓤 H
@@ -117,13 +123,13 @@ module _ {M : Type 1} (𝓤 : URA M) (H : Heap 𝓤) (A : Atoms 𝓤) (W : Given
 
       module _ (l₀ l₁ l₂ l₃ l₄ l₅ l₆ : ℕ) where
         abbrev En : Env 𝓤 H
-        En = ((tyInt w64), l₀) ∷ ((sliceTy (tyRef (named 0) imm (pointee (EntryT.the-row .written)))), l₁) ∷ ((tyInt w64), l₂) ∷ ((tyInt w64), l₃) ∷ ((tyInt w64), l₄) ∷ ((tyInt w64), l₅) ∷
-            (tyBool, l₆) ∷ []
+        En = ((tyInt w64), l₀) ∷ ((sliceTy (tyRef (named 0) imm (pointee (EntryT.the-row .written)))), l₁) ∷ (ContactIdL.mir, l₂) ∷ ((tyInt w64), l₃) ∷ ((tyInt w64), l₄) ∷ ((tyInt w64), l₅)
+            ∷ (tyBool, l₆) ∷ []
 
         abbrev Before : Turn → List (Item 𝓤)
         Before t = ‵ (flft κ₀ q₀) ∷ ‵ (ShrSlice (named 0) κ₀ EntryT.the-row .own entries (slice-vals entries)) ∷ empty tyBool l₆
             (holds (tyInt w64) l₅ (as-w64 .val (t .queued)) (holds (tyInt w64) l₄ (as-w64 .val (t .i))
-            (holds (tyInt w64) l₃ (as-w64 .val count) (holds (tyInt w64) l₂ (as-w64 .val id)
+            (holds (tyInt w64) l₃ (as-w64 .val count) (holds ContactIdL.mir l₂ (as-ContactId .val id)
             (holds (sliceTy (tyRef (named 0) imm (pointee (EntryT.the-row .written)))) l₁ (sliceVal (entries .ptr) (length (entries .now))) (empty (tyInt w64) l₀ []))))))
 
         abbrev Turned : Turn → Out → SProp 𝓤
@@ -136,7 +142,7 @@ module _ {M : Type 1} (𝓤 : URA M) (H : Heap 𝓤) (A : Atoms 𝓤) (W : Given
             assigns ! (bin ! (local ! (look ! 6 refl)) (local ! (look ! 8 refl)) tt) (into !) (init ! 2 refl (tt, tt)) $
             first ! $ branches ! (local ! (look ! 2 refl))
             (λ less. skips ! $ exec ! C Λ En (rest-of (rest-of steps.turn-1)) (anyQ (Turned t)) $
-            nothing ! $ plus ! as-w64 (t .queued) (t .in-queued) $ plus ! as-w64 (t .i) (t .in-i) $ plus ! as-w64 id in-id $ lends ! 1 (named 0) κ₀ EntryT.the-row entries refl $
+            nothing ! $ plus ! as-w64 (t .queued) (t .in-queued) $ plus ! as-w64 (t .i) (t .in-i) $ plus ! as-ContactId id in-id $ lends ! 1 (named 0) κ₀ EntryT.the-row entries refl $
             move ! (1 ∷ 0 ∷ []) $
             calls-held ! fm queued-at.ended (queued-at.clauses 𝓤 H A mem calling) (known .queued-at) (to t)
             (factI 𝓤 _ (emp 𝓤) (in-all (t .i) count (now entries) (ltb→lt (t .i) count less) asks, one-fits (t .i) count (t .queued) ((t .so) .0) (ltb→lt (t .i) count less) (in-count .1)))
@@ -152,17 +158,17 @@ module _ {M : Type 1} (𝓤 : URA M) (H : Heap 𝓤) (A : Atoms 𝓤) (W : Given
               in-i = (refl, fits (ltb→lt (t .i) count less));
               in-queued = in-next;
               so = (
-                one-more id (t .i) (t .queued) next (entryAt (now entries) (t .i)) ((t .so) .0) told,
-                goes-on (queuedNext id) (take count (now entries)) 0 (t .i) (t .queued) next
+                one-more (id .0) (t .i) (t .queued) next (entryAt (now entries) (t .i)) ((t .so) .0) told,
+                goes-on (queuedNext (id .0)) (take count (now entries)) 0 (t .i) (t .queued) next
                     (front-inside (t .i) count (now entries) (ltb→lt (t .i) count less) asks) ((t .so) .1)
-                    (told ∙ ap (queuedNext id (t .queued)) (front-entry count (t .i) (now entries) (ltb→lt (t .i) count less))),
+                    (told ∙ ap (queuedNext (id .0) (t .queued)) (front-entry count (t .i) (now entries) (ltb→lt (t .i) count less))),
               );
             }) (add-one-dec count (t .i) (ltb→lt (t .i) count less))))
             (λ over. jumps ! $ exec ! C Λ En steps.t-4 (atRet En (This .post bound)) $
             assigns ! (of-opd ! (local ! (look ! 4 refl))) (into !) (init ! 14 refl (as-w64 .lawful .typed (t .queued) _ (t .in-queued) .0)) $ returns ! (look ! 14 refl) $
             gone ! 14 refl refl $ gone ! 12 refl refl $ gone ! 10 refl refl $ gone ! 8 refl refl $ gone ! 6 refl refl $ gone ! 4 refl refl $ gone ! 2 refl refl $ free0 ! $
             suffices ! _ (ends-at 𝓤 H A this.ended stayed clauses W bound (as-w64 .val (t .queued)) (t .queued) (tt, (tt, (tt, tt))) (tt, (tt, (tt, tt)))) $
-            says ! (ends (queuedNext id) (take count (now entries)) 0 (t .i) (t .queued) (front-behind (t .i) count (now entries) (nltb→le (t .i) count over) asks) ((t .so) .1)) $
+            says ! (ends (queuedNext (id .0)) (take count (now entries)) 0 (t .i) (t .queued) (front-behind (t .i) count (now entries) (nltb→le (t .i) count over) asks) ((t .so) .1)) $
             keep ! (0 ∷ []) $ retok ! 1 (κ₀, tt) (q₀, tt) $ frame ! $ nothing ! $ none ! $ none ! $ none ! $ frame ! $
             owned ! (UInt w64) (Is (UInt w64)) (as-w64 .makes) (t .queued) _ (t .in-queued) $ done !)
           where
@@ -179,7 +185,7 @@ module _ {M : Type 1} (𝓤 : URA M) (H : Heap 𝓤) (A : Atoms 𝓤) (W : Given
           untok ! 1 (κ₀, tt) (q₀, tt) $ move ! (1 ∷ []) $ fsplit ! $ keep ! (2 ∷ 0 ∷ []) $ enter ! C Λ code.function (This .args bound) _ $
           alloc1 ! (λ l₀. alloc1 ! (λ l₁. alloc1 ! (λ l₂. alloc1 ! (λ l₃. alloc1 ! (λ l₄. alloc1 ! (λ l₅. alloc1 ! (λ l₆. alloc0 ! $ params1 ! $
           pass1 ! (init ! 10 refl (shr-slice-lawful 𝓤 H A W (named 0) κ₀ EntryT.the-row .typed entries (slice-vals entries) in-entries .0)) $
-          pass1 ! (init ! 8 refl (as-w64 .lawful .typed id _ in-id .0)) $
+          pass1 ! (init ! 8 refl (as-ContactId .lawful .typed id _ in-id .0)) $
           pass1 ! (init ! 6 refl (as-w64 .lawful .typed count _ in-count .0)) $
           pass0 ! $ move ! (14 ∷ 15 ∷ []) $
           assigns ! (of-opd ! (lit ! tt)) (into !) (init ! 6 refl (as-w64 .lawful .typed 0 _ (refl, lit< tt) .0)) $
@@ -189,8 +195,8 @@ module _ {M : Type 1} (𝓤 : URA M) (H : Heap 𝓤) (A : Atoms 𝓤) (W : Given
   module _ (𝓣 : Tables 𝓤 H) (known : Known (𝓣 .C)) where
     walks : Walks 𝓤 H A this.ended stayed (WpFn 𝓤 H (𝓣 .C) (𝓣 .Λ) code.function) clauses
     walks = walked 𝓤 H A this.ended stayed clauses (WpFn 𝓤 H (𝓣 .C) (𝓣 .Λ) code.function)
-        (λ κs. (slice-vals, (vals as-w64, (vals as-w64, tt))))
-        (λ κs. (shr-slice-tells (named 0) (κs .0) EntryT.the-row, (as-w64 .tells, (as-w64 .tells, tt))))
+        (λ κs. (slice-vals, (vals as-ContactId, (vals as-w64, tt))))
+        (λ κs. (shr-slice-tells (named 0) (κs .0) EntryT.the-row, (as-ContactId .tells, (as-w64 .tells, tt))))
         (λ κs qs bounds a g are. needs 𝓤 _ _ (λ asks. walk (κs .0) (qs .0) (a .0) (a .1 .0) (a .1 .1 .0) (are .0) (are .1 .0) (are .1 .1 .0) asks 𝓣 (fmOf 𝓤 H (W .laws) 𝓣) known))
 
     meets : Meets 𝓤 H A this.signature (WpFn 𝓤 H (𝓣 .C) (𝓣 .Λ) code.function) (this.spec 𝓤 H A mem calling)

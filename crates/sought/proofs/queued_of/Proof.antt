@@ -34,12 +34,15 @@ use denote.Triple.Statement.{Contract, Triple}
 use denote.Triple.Table.{entered, cited}
 use denote.Triple.Walked.{says, Stays, walkOf, Walks, ends-at, walked, walk-meets}
 use Rattle.walks.proofs.Walk.{untok, retok, gone, drops, drops-go}
-use Rattle.walks.proofs.Held.{Held, number, vals, Lies, plus, lends, none, calls-held, into, local}
+use Rattle.walks.proofs.Held.{Held, number, of-struct, vals, Lies, plus, lends, none, calls-held, into, local}
 use mathlib.Core.Bool.{cond}
 use lib.ListN.{length}
 use Rattle.sought.proofs.Laws.{wanted-count, queued-wanted}
 use Rattle.store.specs.declared.Entry.{Entry}
 use Rattle.store.proofs.Entry as EntryT
+use Rattle.rows.specs.declared.ContactId.{ContactId}
+use Rattle.rows.proofs.ContactId as ContactIdT
+use Rattle.rows.proofs.ContactId.Laws as ContactIdL
 use Rattle.entries.proofs.entry_count as entries-entry-count
 use Rattle.entries.proofs.entry_count.Symbol as entries-entry-count-def
 use Rattle.entries.proofs.entry_count.Met as entries-entry-count-thm
@@ -61,6 +64,9 @@ module _ {M : Type 1} (𝓤 : URA M) (H : Heap 𝓤) (A : Atoms 𝓤) (W : Given
   -- how values lie in locals
   abbrev as-w64 : Held W (UInt w64)
   as-w64 = number W w64
+
+  abbrev as-ContactId : Held W ContactIdT.the-row
+  as-ContactId = of-struct W ContactIdT.the-type ContactIdL.the-laws ContactIdL.the-plain
 
   abbrev as-bool : Held W Boolean
   as-bool = record { val = vbool; tells = bool-tells; makes = bool-makes 𝓤 H A W; lawful = bool-lawful 𝓤 H A W }
@@ -86,12 +92,12 @@ module _ {M : Type 1} (𝓤 : URA M) (H : Heap 𝓤) (A : Atoms 𝓤) (W : Given
   abbrev This : Contract 𝓤
   This = walkOf 𝓤 H A this.ended stayed clauses
 
-  module _ (κ₀ : Lft) (q₀ : Share) (entries : RefT (List Entry)) (id : ℕ) (wanted : Bool)
+  module _ (κ₀ : Lft) (q₀ : Share) (entries : RefT (List Entry)) (id : ContactId) (wanted : Bool)
       (in-entries : Is (ShrSlice (named 0) κ₀ EntryT.the-row) entries (slice-vals entries))
-      (in-id : Lies as-w64 id)
+      (in-id : Lies as-ContactId id)
       (in-wanted : Lies as-bool wanted) where
     abbrev bound : This .Ghost
-    bound = (((κ₀, tt), (q₀, tt), tt, (entries, (id, (wanted, tt))), (slice-vals entries, (vals as-w64 id, (vals as-bool wanted, tt)))), tt)
+    bound = (((κ₀, tt), (q₀, tt), tt, (entries, (id, (wanted, tt))), (slice-vals entries, (vals as-ContactId id, (vals as-bool wanted, tt)))), tt)
 
     -- what each call is handed
     abbrev to-n : Its-entries-entry-count .Ghost
@@ -101,7 +107,7 @@ module _ {M : Type 1} (𝓤 : URA M) (H : Heap 𝓤) (A : Atoms 𝓤) (W : Given
     to-count n = ((tt, tt, tt, (wanted, (n, tt)), (vals as-bool wanted, (vals as-w64 n, tt))), tt)
 
     abbrev to-r : (n : ℕ) → (count : ℕ) → Its-queued-from .Ghost
-    to-r n count = (((κ₀, tt), (q₀, tt), tt, (entries, (id, (count, tt))), (slice-vals entries, (vals as-w64 id, (vals as-w64 count, tt)))), tt)
+    to-r n count = (((κ₀, tt), (q₀, tt), tt, (entries, (id, (count, tt))), (slice-vals entries, (vals as-ContactId id, (vals as-w64 count, tt)))), tt)
 
     module _ (𝓣 : Tables 𝓤 H) (fm : FmC 𝓤 H (W .laws) (𝓣 .C)) (known : Known (𝓣 .C)) where
       abbrev C : Calls 𝓤 H
@@ -117,7 +123,7 @@ module _ {M : Type 1} (𝓤 : URA M) (H : Heap 𝓤) (A : Atoms 𝓤) (W : Given
           untok ! 1 (κ₀, tt) (q₀, tt) $ move ! (1 ∷ []) $ fsplit ! $ keep ! (2 ∷ 0 ∷ []) $ enter ! C Λ code.function (This .args bound) _ $
           alloc1 ! (λ l₀. alloc1 ! (λ l₁. alloc1 ! (λ l₂. alloc1 ! (λ l₃. alloc1 ! (λ l₄. alloc1 ! (λ l₅. alloc0 ! $ params1 ! $
           pass1 ! (init ! 8 refl (shr-slice-lawful 𝓤 H A W (named 0) κ₀ EntryT.the-row .typed entries (slice-vals entries) in-entries .0)) $
-          pass1 ! (init ! 6 refl (as-w64 .lawful .typed id _ in-id .0)) $
+          pass1 ! (init ! 6 refl (as-ContactId .lawful .typed id _ in-id .0)) $
           pass1 ! (init ! 4 refl (as-bool .lawful .typed wanted _ in-wanted .0)) $
           pass0 ! $ move ! (12 ∷ 13 ∷ []) $
           -- n is entries::entry_count(entries)
@@ -131,7 +137,7 @@ module _ {M : Type 1} (𝓤 : URA M) (H : Heap 𝓤) (A : Atoms 𝓤) (W : Given
           (and-then ! (local ! (look ! 7 refl)) (and-then ! (local ! (look ! 5 refl)) (no-more !))) (λ count is-count in-count.
           land ! (into !) (init ! 2 refl (as-w64 .lawful .typed count _ in-count .0)) $
           -- r is sought::queued_from(entries, id, count)
-          nothing ! $ plus ! as-w64 count in-count $ plus ! as-w64 id in-id $ lends ! 1 (named 0) κ₀ EntryT.the-row entries refl $ move ! (1 ∷ 0 ∷ []) $
+          nothing ! $ plus ! as-w64 count in-count $ plus ! as-ContactId id in-id $ lends ! 1 (named 0) κ₀ EntryT.the-row entries refl $ move ! (1 ∷ 0 ∷ []) $
           calls-held ! fm queued-from.ended (queued-from.clauses 𝓤 H A mem calling) (known .queued-from) (to-r n count)
           (factI 𝓤 _ (emp 𝓤) (wanted-count wanted (length (now entries)) count (is-count ∙ ap (λ n. cond wanted n 0) is-n))) as-w64 (λ r ws. id⊢ 𝓤 _)
           (and-then ! (local ! (look ! 10 refl)) (and-then ! (local ! (look ! 8 refl)) (and-then ! (local ! (look ! 2 refl)) (no-more !)))) (λ r is-r in-r.
@@ -139,15 +145,15 @@ module _ {M : Type 1} (𝓤 : URA M) (H : Heap 𝓤) (A : Atoms 𝓤) (W : Given
           returns ! (look ! 12 refl) $
           gone ! 12 refl refl $ gone ! 10 refl refl $ gone ! 8 refl refl $ gone ! 6 refl refl $ gone ! 4 refl refl $ gone ! 2 refl refl $ free0 ! $
           suffices ! _ (ends-at 𝓤 H A this.ended stayed clauses W bound (as-w64 .val r) r (tt, (tt, (tt, tt))) (tt, (tt, (tt, tt)))) $
-          says ! (is-r ∙ queued-wanted id wanted count (now entries) (is-count ∙ ap (λ n. cond wanted n 0) is-n)) $
+          says ! (is-r ∙ queued-wanted (id .0) wanted count (now entries) (is-count ∙ ap (λ n. cond wanted n 0) is-n)) $
           keep ! (0 ∷ []) $ retok ! 1 (κ₀, tt) (q₀, tt) $ frame ! $ nothing ! $ none ! $ none ! $ none ! $ frame ! $ owned ! (UInt w64) (Is (UInt w64)) (as-w64 .makes) r _ in-r $
           done !)))))))))
 
   module _ (𝓣 : Tables 𝓤 H) (known : Known (𝓣 .C)) where
     walks : Walks 𝓤 H A this.ended stayed (WpFn 𝓤 H (𝓣 .C) (𝓣 .Λ) code.function) clauses
     walks = walked 𝓤 H A this.ended stayed clauses (WpFn 𝓤 H (𝓣 .C) (𝓣 .Λ) code.function)
-        (λ κs. (slice-vals, (vals as-w64, (vals as-bool, tt))))
-        (λ κs. (shr-slice-tells (named 0) (κs .0) EntryT.the-row, (as-w64 .tells, (as-bool .tells, tt))))
+        (λ κs. (slice-vals, (vals as-ContactId, (vals as-bool, tt))))
+        (λ κs. (shr-slice-tells (named 0) (κs .0) EntryT.the-row, (as-ContactId .tells, (as-bool .tells, tt))))
         (λ κs qs bounds a g are. via 𝓤 _ (fst∗ 𝓤 _ (emp 𝓤)) (walk (κs .0) (qs .0) (a .0) (a .1 .0) (a .1 .1 .0) (are .0) (are .1 .0) (are .1 .1 .0) 𝓣 (fmOf 𝓤 H (W .laws) 𝓣) known))
 
     meets : Meets 𝓤 H A this.signature (WpFn 𝓤 H (𝓣 .C) (𝓣 .Λ) code.function) (this.spec 𝓤 H A mem calling)

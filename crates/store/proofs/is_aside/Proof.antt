@@ -15,7 +15,7 @@ returns : tie.Need-returns
 returns c = search needs
 
 returns-2 : tie.Need-returns-2
-returns-2 c = let t = c .before in rw (t .before .before .before .aside .given .1, eq-eqb _ CONTACT (t .if1 .taken))
+returns-2 c = let t = c .before .before in rw (t .before .before .before .aside .given .1, eq-eqb _ CONTACT (t .if1 .taken))
 
 returns-3 : tie.Need-returns-3
 returns-3 c = rw (c .before .before .before .aside .given .1, ne-eqb _ CONTACT (c .if1 .left))

@@ -16,7 +16,7 @@ use Rattle.text.proofs.queued_in.Statement.{statement}
 use Rattle.text.proofs.queued_in.Tie as tie
 
 abbrev Inv-loop : tie.InvT-loop
-Inv-loop places n id i₀ found₀ i found = (i ≤ n) × (found ≤ i) × (found + queuedOf id (entriesFrom places i (n - i)) ≡ queuedOf id (entriesOf places n))
+Inv-loop places n id i₀ found₀ i found = (i ≤ n) × (found ≤ i) × (found + queuedOf (id .0) (entriesFrom places i (n - i)) ≡ queuedOf (id .0) (entriesOf places n))
 
 abbrev μ-loop : tie.MeasureT-loop
 μ-loop places n id i₀ found₀ i found = n - i
@@ -43,15 +43,15 @@ loop-again : tie.Need-loop-again Inv-loop μ-loop
 loop-again c =
     let l = c .before .before .before .before in
     let a = l .before .before .args in
-    let x = ap {B = ℕ} (λ (t : Bool). cond t 1 0) (c .before .is-queued .ensures ∙ ap (λ (e : Entry). isOf QUEUED (a .id) e) (c .before .before .entry-in .ensures)) in
+    let x = ap {B = ℕ} (λ (t : Bool). cond t 1 0) (c .before .is-queued .ensures ∙ ap (λ (e : Entry). isOf QUEUED (a .id .0) e) (c .before .before .entry-in .ensures)) in
     let o = c .one-more .ensures in
-    (omega arith, omega (arith, o, at-most-one (c .before .is-queued .result)), omega (arith, o, sum-turn (queued-rows (a .id)) (a .places .now) (a .n) (l .loop .i) (l .loop .found) (l .loop .inv .2) (c .before .before .before .loop-test .taken) x))
+    (omega arith, omega (arith, o, at-most-one (c .before .is-queued .result)), omega (arith, o, sum-turn (queued-rows (a .id .0)) (a .places .now) (a .n) (l .loop .i) (l .loop .found) (l .loop .inv .2) (c .before .before .before .loop-test .taken) x))
 
 returns : tie.Need-returns Inv-loop μ-loop
 returns c =
     let l = c .before in
     let a = l .before .before .args in
-    sum-end (queued-rows (a .id)) (a .places .now) (a .n) (l .loop .i) (l .loop .found) (l .loop .inv .2) (c .loop-test .left)
+    sum-end (queued-rows (a .id .0)) (a .places .now) (a .n) (l .loop .i) (l .loop .found) (l .loop .inv .2) (c .loop-test .left)
 
 pub queued-in-spec : {M : Type 1} → statement M
 queued-in-spec =

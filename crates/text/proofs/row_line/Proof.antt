@@ -41,7 +41,7 @@ returns : tie.Need-returns
 returns c =
     let k = c .before .before .before in
     let a = k .before .before .args in
-    refused-line (a .row .now) (a .version) (a .id) (a .queued) (says k) (c .before .enum-told .given .1) (c .no-line .ensures)
+    refused-line (a .row .now) (a .version) (a .id .0) (a .queued) (says k) (c .before .enum-told .given .1) (c .no-line .ensures)
 
 wide-requires : tie.Need-wide-requires
 wide-requires c κs = search needs
@@ -71,7 +71,7 @@ returns-2 c =
     let k = w .before .before .before .before .before in
     let s = k .before .before in
     let a = s .before .before .args in
-    read-line (a .row .now) (a .version) (a .id) (a .queued) (says s) (k .check .given .1) (w .before .before .before .wide .ensures .0) (w .before .wide2 .ensures .0)
+    read-line (a .row .now) (a .version) (a .id .0) (a .queued) (says s) (k .check .given .1) (w .before .before .before .wide .ensures .0) (w .before .wide2 .ensures .0)
     (w .wide3 .ensures .0) (n .numbers-in-row .ensures) (c .numbers-in-row2 .ensures)
 
 pub row-line-spec : {M : Type 1} → statement M

@@ -15,7 +15,7 @@ use Rattle.transcript.proofs.opened_line.Statement.{statement}
 use Rattle.transcript.proofs.opened_line.Tie as tie
 
 abbrev text : tie.After-decimal-len → List ℕ
-text d = let a = d .before .before .before .before .args in stateText (a .id) (a .row .now) (pairs (a .count) (a .above .now))
+text d = let a = d .before .before .before .before .args in stateText (a .id .0) (a .row .now) (pairs (a .count) (a .above .now))
 
 -- how long the ranges' text is, and the room for it
 abbrev ranges : tie.After-decimal-len → ℕ
@@ -25,7 +25,7 @@ abbrev room : tie.After-decimal-len → ℕ
 room d = let a = d .before .before .before .before .args in length (a .out .now) - (d .decimal-len .result + 1 + 3) - 2 * length (a .row .now)
 
 long : (d : tie.After-decimal-len) → length (text d) ≡ d .decimal-len .result + 1 + 2 * length (d .before .before .before .before .args .row .now) + ranges d
-long d = let a = d .before .before .before .before .args in omega (arith, length-state (a .id) (a .row .now) (pairs (a .count) (a .above .now)), d .decimal-len .ensures .0)
+long d = let a = d .before .before .before .before .args in omega (arith, length-state (a .id .0) (a .row .now) (pairs (a .count) (a .above .now)), d .decimal-len .ensures .0)
 
 decimal-len-requires : tie.Need-decimal-len-requires
 decimal-len-requires c κs = search needs

@@ -21,7 +21,7 @@ returns : tie.Need-returns
 returns c =
     let l = c .before .before in
     let a = l .before .before .before .before .before .before .args in
-    as-line (a .out .now) (ap (λ (rs : List Range). stateText (a .id) (a .row .now) rs) (pairs-lent (a .count) (a .above .now) (omega arith))) (l .opened-line .ensures)
+    as-line (a .out .now) (ap (λ (rs : List Range). stateText (a .id .0) (a .row .now) rs) (pairs-lent (a .count) (a .above .now) (omega arith))) (l .opened-line .ensures)
 
 opened-line-requires-2 : tie.Need-opened-line-requires-2
 opened-line-requires-2 c κs = search needs

@@ -19,7 +19,7 @@ put-decimal-requires c κs =
     let b = c .before .before .before in
     let s = b .before .before .before .before .before in
     let a = s .args in
-    omega (arith, length-state (a .id) (a .row .now) (pairs (a .count) (a .above .now)), s .pre .1, b .begin .ensures .0)
+    omega (arith, length-state (a .id .0) (a .row .now) (pairs (a .count) (a .above .now)), s .pre .1, b .begin .ensures .0)
 
 put-byte-requires : tie.Need-put-byte-requires
 put-byte-requires c κs =
@@ -27,7 +27,7 @@ put-byte-requires c κs =
     let b = d .before .before .before .before in
     let s = b .before .before .before .before .before in
     let a = s .args in
-    omega (arith, length-state (a .id) (a .row .now) (pairs (a .count) (a .above .now)), s .pre .1, b .begin .ensures .0, d .put-decimal .ensures .0)
+    omega (arith, length-state (a .id .0) (a .row .now) (pairs (a .count) (a .above .now)), s .pre .1, b .begin .ensures .0, d .put-decimal .ensures .0)
 
 put-pairs-requires : tie.Need-put-pairs-requires
 put-pairs-requires c κs =
@@ -36,7 +36,7 @@ put-pairs-requires c κs =
     let b = d .before .before .before .before in
     let s = b .before .before .before .before .before in
     let a = s .args in
-    omega (arith, length-state (a .id) (a .row .now) (pairs (a .count) (a .above .now)), s .pre .1, b .begin .ensures .0, d .put-decimal .ensures .0, p .put-byte .ensures .0)
+    omega (arith, length-state (a .id .0) (a .row .now) (pairs (a .count) (a .above .now)), s .pre .1, b .begin .ensures .0, d .put-decimal .ensures .0, p .put-byte .ensures .0)
 
 put-ranges-requires : tie.Need-put-ranges-requires
 put-ranges-requires c κs =
@@ -47,7 +47,7 @@ put-ranges-requires c κs =
     let s = b .before .before .before .before .before in
     let a = s .args in (
       s .pre .0,
-      omega (arith, length-state (a .id) (a .row .now) (pairs (a .count) (a .above .now)), s .pre .1, b .begin .ensures .0, d .put-decimal .ensures .0, p .put-byte .ensures .0, h .put-pairs .ensures .0),
+      omega (arith, length-state (a .id .0) (a .row .now) (pairs (a .count) (a .above .now)), s .pre .1, b .begin .ensures .0, d .put-decimal .ensures .0, p .put-byte .ensures .0, h .put-pairs .ensures .0),
     )
 
 put-byte-requires-2 : tie.Need-put-byte-requires-2
@@ -59,7 +59,7 @@ put-byte-requires-2 c κs =
     let b = d .before .before .before .before in
     let s = b .before .before .before .before .before in
     let a = s .args in
-    omega (arith, length-state (a .id) (a .row .now) (pairs (a .count) (a .above .now)), s .pre .1, b .begin .ensures .0, d .put-decimal .ensures .0, p .put-byte .ensures .0, h .put-pairs .ensures .0, r .put-ranges .ensures .0)
+    omega (arith, length-state (a .id .0) (a .row .now) (pairs (a .count) (a .above .now)), s .pre .1, b .begin .ensures .0, d .put-decimal .ensures .0, p .put-byte .ensures .0, h .put-pairs .ensures .0, r .put-ranges .ensures .0)
 
 same-length : tie.Need-same-length
 same-length c = search needs
@@ -74,7 +74,7 @@ returns c =
     let b = d .before .before .before .before in
     let s = b .before .before .before .before .before in
     let a = s .args in
-    line-written (a .out .now) (stateText (a .id) (a .row .now) (pairs (a .count) (a .above .now)))
+    line-written (a .out .now) (stateText (a .id .0) (a .row .now) (pairs (a .count) (a .above .now)))
     (s .pre .1)
     (b .begin .ensures .1)
     (d .put-decimal .ensures .1 then (p .put-byte .ensures .1 then (h .put-pairs .ensures .1 then r .put-ranges .ensures .1)))
