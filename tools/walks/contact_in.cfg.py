@@ -1,9 +1,4 @@
 crate = "sought"
 fn = "contact_in"
-requires = {"r": "is-n"}
-ends = "is-r ∙ (ap (λ b. foldl (soughtNext (id .0)) b (now entries)) is-begun ∙ sought-is (id .0) (now entries))"
-uses = [
-    "use mathlib.Core.List.{foldl}",
-    "use Rattle.sought.specs.Sought.{soughtNext}",
-    "use Rattle.sought.proofs.Laws.{sought-is}",
-]
+ends = "sought-is (id .0) n p wanted (now entries) e r is-n is-wanted is-p is-e is-r"
+uses = ["use Rattle.sought.proofs.Laws.{sought-is}"]

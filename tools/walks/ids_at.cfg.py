@@ -1,5 +1,4 @@
 crate = "lent_again"
 fn = "ids_at"
-requires = {"e": "asks"}
 ends = "(is-r .0, is-same .1 ∙ ap (λ e. set (now ids) i (idOf e)) is-e, is-r .1 ∙ ap (set (now kept) place) (is-same .0 ∙ is-e))"
 uses = ["use lib.ListN.{set}", "use Rattle.lent_again.specs.Ids.{idOf}"]

@@ -6,7 +6,6 @@ INSIDE = "(inside {i} n (length (now entries)) {less} asks)"
 END = "n (length (now kept)) {i} {s}"
 invariant = f"Placed {END} × Laid {IDS} {{i}} {{ids}} × Laid {KEPT} {{i}} {{kept}}"
 start = f"(none-placed n (length (now kept)), none-laid {IDS}, none-laid {KEPT})"
-requires = INSIDE
 next = (
     "(placed-next n {i} {s} {next} (now kept) {kept} {less} {long_kept} ({so} .0) ({told} .0), "
     f"laid-of idOf noEntry (now ids) (now entries) {{i}} {{ids}} {{next_ids}} {INSIDE} ({{so}} .1) ({{told}} .1), "

@@ -35,7 +35,7 @@ IMPORTS = [
     ("contract.Monad", "Fun factI"),
     ("contract.Running", "givenOf tables tablesOf"),
     ("types.Kit", "Given Item ‵ raw runs anyQ atRet Sq _$_ _∵_ ! qed move keep drop fsplit fjoin feqL suffices frame done"),
-    ("types.Run", "look init and-then no-more land returns enter alloc1 alloc0 params1 pass1 pass0 free1 free0"),
+    ("types.Run", "look init and-then no-more land returns returns-within enter alloc1 alloc0 params1 pass1 pass0 free1 free0"),
     ("types.Run", "store forget lit true-lit false-lit of-opd bin assigns assigns-last first skips jumps blocks branches exec Below again loops"),
     ("sound.WpLaws", "FmC fmOf WpFn-mono"),
     ("denote.RattleType", "owns"),

@@ -1,57 +1,37 @@
--- What holds before each turn of `find`: the entries from the i-th on and below `hi` are still to be looked at, or the search has ended at `hi`.
+-- What holds before each turn of `find`: of the entries from the i-th on the first that is wanted is the one that is looked for.
 -- Assumes nothing.
 use Prim.Native.Nat.{ℕ, suc, _+_, _-_, _≤_, _<_}
 use native.Mathlib.Omega.{arith}
+use native.Mathlib.Numerals.{add-one}
 use mathlib.Core.List.{List}
-use mathlib.Core.Bool.{Bool, true, false, cond}
-use mathlib.Core.Path.{_≡_, refl, sym, _∙_, ap}
+use mathlib.Core.Bool.{Bool, true, false, cond, not}
+use mathlib.Core.Path.{_≡_, refl, _∙_, ap}
+use lib.Dec.{T}
 use Rattle.store.specs.declared.Entry.{Entry}
 use Rattle.store.specs.declared.Wanted.{Wanted}
 use Rattle.store.specs.Store.{entryAt}
-use Rattle.store.specs.Find.{isWanted, narrowedTo, firstOf}
+use Rattle.store.specs.Find.{isWanted, firstOf}
 
-pub record Looking (es : List Entry) (w : Wanted) (upto found i hi : ℕ) : Type 0 where
-  pub within : hi ≤ upto
-  pub ahead : i < hi → firstOf es w i (hi - i) ≡ found
-  pub ended : hi ≤ i → hi ≡ found
+pub record Looking (es : List Entry) (w : Wanted) (from upto i : ℕ) : Type 0 where
+  pub same : firstOf es w i (upto - i) ≡ firstOf es w from (upto - from)
 
-module _ (es : List Entry) (w : Wanted) where
-  pub begins : (from upto : ℕ) → from ≤ upto → Looking es w upto (firstOf es w from (upto - from)) from upto
-  begins from upto l = record {
-    within = omega arith;
-    ahead = λ p. refl;
-    ended = λ p. let none : upto - from ≡ 0 = omega (arith, p) in let same : upto ≡ from = omega (arith, p, l) in same ∙ sym (ap (firstOf es w from) none);
-  }
+module _ (es : List Entry) (w : Wanted) (from upto : ℕ) where
+  pub begins : Looking es w from upto from
+  begins = record { same = refl }
 
-  -- a turn ends the search, or goes on with one entry fewer
-  pub turned : (upto found i hi next : ℕ) → Looking es w upto found i hi → i < hi → next ≡ narrowedTo (entryAt es i) w i hi → Looking es w upto found (i + 1) next
-  turned upto found i hi next k l e = go (isWanted w (entryAt es i)) refl e
-    where
-      first : firstOf es w i (suc (hi - (i + 1))) ≡ found
-      first = let n : suc (hi - (i + 1)) ≡ hi - i = omega (arith, l) in ap (firstOf es w i) n ∙ k .ahead l
+  -- the i-th is looked at: it is the one, or one of those behind it is
+  looks : (i : ℕ) (b : Bool) → i < upto → Looking es w from upto i → b ≡ isWanted w (entryAt es i) → cond b i (firstOf es w (i + 1) (upto - (i + 1))) ≡ firstOf es w from (upto - from)
+  looks i b l k e =
+      let left : suc (upto - (i + 1)) ≡ upto - i = omega (arith, l) in
+      (λ j. cond (e j) i (firstOf es w (add-one i j) (upto - (i + 1)))) ∙ (ap (firstOf es w i) left ∙ k .same)
 
-      go : (b : Bool) → isWanted w (entryAt es i) ≡ b → next ≡ cond b i hi → Looking es w upto found (i + 1) next
-      go true t n = record {
-        within = let m = k .within in omega (arith, n, m, l);
-        ahead = λ p. absurd (omega (arith, n, p));
-        ended = λ p. n ∙ (ap (λ b. cond b i (firstOf es w (suc i) (hi - (i + 1)))) (sym t) ∙ first);
-      }
-      go false t n =
-          let later : firstOf es w (suc i) (hi - (i + 1)) ≡ found = ap (λ b. cond b i (firstOf es w (suc i) (hi - (i + 1)))) (sym t) ∙ first in
-          let after : i + 1 ≡ suc i = omega arith in
-          record {
-            within = let m = k .within in omega (arith, n, m);
-            ahead = λ p. (λ j. firstOf es w (after j) (n j - (i + 1))) ∙ later;
-            ended = λ p. let none : hi - (i + 1) ≡ 0 = omega (arith, n, p) in let same : next ≡ suc i = omega (arith, n, p, l) in same ∙ (sym (ap (firstOf es w (suc i)) none) ∙ later);
-          }
+  pub found-at : (i : ℕ) (b : Bool) → i < upto → Looking es w from upto i → b ≡ isWanted w (entryAt es i) → T b → i ≡ firstOf es w from (upto - from)
+  found-at i true l k e said = looks i true l k e
+  found-at i false l k e said = absurd said
 
-  pub nearer : (i hi next : ℕ) → i < hi → next ≡ narrowedTo (entryAt es i) w i hi → next - (i + 1) < hi - i
-  nearer i hi next l e = go (isWanted w (entryAt es i)) e
-    where
-      go : (b : Bool) → next ≡ cond b i hi → next - (i + 1) < hi - i
-      go true n = omega (arith, n, l)
-      go false n = omega (arith, n, l)
+  pub goes-on : (i : ℕ) (b : Bool) → i < upto → Looking es w from upto i → b ≡ isWanted w (entryAt es i) → T (not b) → Looking es w from upto (i + 1)
+  goes-on i true l k e said = absurd said
+  goes-on i false l k e said = record { same = looks i false l k e }
 
--- where the turn looks there is an entry
-pub inside : (i hi upto n : ℕ) → i < hi → hi ≤ upto → upto ≤ n → i < n
-inside i hi upto n l m u = omega arith
+  pub ends : (i : ℕ) → upto ≤ i → Looking es w from upto i → i ≡ firstOf es w from (upto - from)
+  ends i l k = let none : 0 ≡ upto - i = omega (arith, l) in ap (firstOf es w i) none ∙ k .same

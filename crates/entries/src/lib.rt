@@ -2,17 +2,27 @@
 use store::Entry;
 use store::Wanted;
 ghost use mathlib.Core.Path.{_≡_};
-ghost use Prim.Native.Nat.{_-_, _≤_, _<_};
+ghost use Prim.Native.Nat.{_-_};
 ghost use lib.ListN.{length, set};
 ghost use Rattle.store.specs.Store.{entryAt};
-ghost use Rattle.store.specs.Find.{isWanted, narrowedTo, firstOf};
+ghost use Rattle.store.specs.Find.{isWanted, firstOf};
 ghost use Rattle.entries.specs.Next.{nextIn};
 
+// The entry at an index; past the end all zeros.
 pub fn entry_at(entries: &[Entry], i: usize) -> Entry
-    requires { ⌜ i < length (now entries) ⌝ }
     ensures { λ r. ⌜ r ≡ entryAt (now (entries .entry)) i ⌝ }
 {
-    entries[i]
+    if i < entries.len() {
+        return entries[i];
+    }
+    Entry {
+        id: 0,
+        start: 0,
+        len: 0,
+        msgno: 0,
+        version: 0,
+        kind: 0,
+    }
 }
 
 pub fn entry_count(entries: &[Entry]) -> usize
@@ -47,31 +57,24 @@ fn is_wanted(e: Entry, wanted: Wanted) -> bool
     e.msgno == wanted.msgno
 }
 
-// Where a search that has come to the i-th entry, this one, ends: there, if it is wanted.
-fn narrowed(e: Entry, wanted: Wanted, i: usize, upto: usize) -> usize
-    ensures { λ r. ⌜ r ≡ narrowedTo e wanted i upto ⌝ }
-{
-    if is_wanted(e, wanted) { i } else { upto }
-}
-
-fn narrowed_at(entries: &[Entry], wanted: Wanted, i: usize, upto: usize) -> usize
-    requires { ⌜ i < length (now entries) ⌝ }
-    ensures { λ r. ⌜ r ≡ narrowedTo (entryAt (now (entries .entry)) i) wanted i upto ⌝ }
+fn is_wanted_at(entries: &[Entry], wanted: Wanted, i: usize) -> bool
+    ensures { λ r. ⌜ r ≡ isWanted wanted (entryAt (now (entries .entry)) i) ⌝ }
 {
     let e = entry_at(entries, i);
-    narrowed(e, wanted, i, upto)
+    is_wanted(e, wanted)
 }
 
-// The first of the entries from `from` on, below `upto`, that is wanted; `upto` where none is.
+// The first of the entries from `from` on, below `upto`, that is wanted; `upto` where none is, and `from` where there are none to look at. Those past the end are
+// all zeros.
 pub fn find(entries: &[Entry], wanted: Wanted, from: usize, upto: usize) -> usize
-    requires { ⌜ (from ≤ upto) × (upto ≤ length (now entries)) ⌝ }
     ensures { λ r. ⌜ r ≡ firstOf (now (entries .entry)) wanted from (upto - from) ⌝ }
 {
     let mut i = from;
-    let mut hi = upto;
-    while i < hi {
-        hi = narrowed_at(entries, wanted, i, hi);
+    while i < upto {
+        if is_wanted_at(entries, wanted, i) {
+            return i;
+        }
         i = i + 1;
     }
-    hi
+    i
 }

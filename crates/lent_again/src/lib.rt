@@ -2,7 +2,7 @@
 use store::Entry;
 ghost use mathlib.Core.Path.{_≡_};
 ghost use mathlib.Core.List.{map};
-ghost use Prim.Native.Nat.{_≤_, _<_, min};
+ghost use Prim.Native.Nat.{_≤_, min};
 ghost use lib.ListN.{length, set, take};
 ghost use Rattle.store.specs.Store.{entryAt};
 ghost use Rattle.entries.specs.Next.{nextIn};
@@ -21,7 +21,6 @@ fn put_id(e: Entry, ids: &mut [u64], i: usize) -> Entry
 }
 
 fn ids_at(entries: &[Entry], ids: &mut [u64], kept: &mut [Entry], i: usize, place: usize) -> usize
-    requires { ⌜ i < length (now entries) ⌝ }
     ensures { λ r. ⌜ (r ≡ nextIn (now (kept .entry)) place) × (now (ids .exit) ≡ set (now (ids .entry)) i (idOf (entryAt (now (entries .entry)) i)))
         × (now (kept .exit) ≡ set (now (kept .entry)) place (entryAt (now (entries .entry)) i)) ⌝ }
 {

@@ -16,19 +16,9 @@ use Rattle.across.specs.declared.Across.{Across}
 use Rattle.across.specs.Owner.{ownerFound, OwnerStands}
 use Rattle.across.specs.Across.{ownerOf, ownerLimit, spotOf, Reusable, twinOf, twinLimit, settled}
 use Rattle.across.specs.At.{At}
-use Rattle.across.proofs.Laws.{owner-below, limit-below, twin-below-limit, reusable, turned}
+use Rattle.across.proofs.Laws.{reusable, turned}
 
--- ---- one turn: the places are among the entries
-pub limit-place : (e : Entry) (i : ℕ) (s : Across) (limit n : ℕ) → limit ≡ ownerLimit e i s → i < n → limit ≤ n
-limit-place e i s limit n is l = omega (arith, is, limit-below e i s, l)
-
-pub owner-place : (es : List Entry) (e : Entry) (i : ℕ) (s : Across) (limit spot p n : ℕ) → limit ≡ ownerLimit e i s → p ≡ ownerOf es e limit spot → i < n → p < n
-owner-place es e i s limit spot p n is-limit is-p l = omega (arith, is-limit, limit-below e i s, is-p, owner-below es e limit spot, l)
-
-pub twin-places : (e : Entry) (i : ℕ) (s : Across) (upto n : ℕ) → upto ≡ twinLimit e i s → i < n → (0 ≤ upto) × (upto ≤ n)
-twin-places e i s upto n is l = (omega arith, omega (arith, is, twin-below-limit e i s, l))
-
--- ---- what is found is what the definitions name
+-- ---- one turn: what is found is what the definitions name
 module _ (run : List ℕ) (es : List Entry) (aside : Aside) (i : ℕ) (s : Across) (l : i < length es) (at : At run es aside i s)
     (e c : Entry) (limit spot p : ℕ) (is-e : e ≡ entryAt es i) (is-limit : limit ≡ ownerLimit e i s) (is-spot : spot ≡ spotOf s) (is-p : p ≡ ownerOf es e limit spot) (is-c : c ≡ entryAt es p) where
   abbrev its-limit : ℕ

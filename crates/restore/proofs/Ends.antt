@@ -1,6 +1,6 @@
 -- How the questions begin and end: what the rounds have left is what the questions across the rows begin with, and what those leave is the answer.
 -- Assumes nothing.
-use Prim.Native.Nat.{ℕ, _≤_, _<_}
+use Prim.Native.Nat.{ℕ, _<_}
 use native.Mathlib.Omega.{arith}
 use mathlib.Core.List.{List, [], _∷_}
 use mathlib.Core.Path.{_≡_, refl, sym, _∙_, ap, subst}
@@ -25,21 +25,20 @@ use Rattle.across.proofs.Laws.{begins}
 use Rattle.restore.specs.declared.Restored.{Restored}
 use Rattle.restore.specs.Restored.{begunWith, ended, answered, granting, questioned}
 
-pub all-places : (n : ℕ) (es : List Entry) → n ≡ length es → n ≤ length es
-all-places n es e = omega (arith, e)
-
 -- ---- the rounds before
 module _ (run : List ℕ) (es : List Entry) (aside : Aside) where
   abbrev round : ℕ → Round
   round q = roundOf q run es aside
 
-  pub begins-at : (n : ℕ) (begun ordered bounded read : Asked) (state : Across) → n ≡ length es → begun ≡ begunWith n → ordered ≡ turns (round ORDER) 0 n begun
-      → bounded ≡ turns (round BOUNDS) 0 n ordered → read ≡ turns (round VERSION) 0 n bounded → state ≡ begunFrom read → At run es aside 0 state
+  abbrev all : ℕ → Asked → Asked
+  all q = turns (round q) 0 (length es)
+
+  pub begins-at : (n : ℕ) (begun ordered bounded read : Asked) (state : Across) → n ≡ length es → begun ≡ begunWith n → ordered ≡ all ORDER begun → bounded ≡ all BOUNDS ordered
+      → read ≡ all VERSION bounded → state ≡ begunFrom read → At run es aside 0 state
   begins-at n begun ordered bounded read state is-n is-begun is-ordered is-bounded is-read is-state =
-      let first : ordered ≡ turns (round ORDER) 0 (length es) (begunWith (length es)) = is-ordered ∙ (λ k. turns (round ORDER) 0 (is-n k) ((is-begun ∙ ap begunWith is-n) k)) in
-      let second : bounded ≡ turns (round BOUNDS) 0 (length es) (turns (round ORDER) 0 (length es) (begunWith (length es))) =
-      is-bounded ∙ (λ k. turns (round BOUNDS) 0 (is-n k) (first k)) in
-      subst (At run es aside 0) (sym (is-state ∙ ap begunFrom (is-read ∙ (λ k. turns (round VERSION) 0 (is-n k) (second k))))) (begins run es aside)
+      let first : ordered ≡ all ORDER (begunWith (length es)) = is-ordered ∙ ap (all ORDER) (is-begun ∙ ap begunWith is-n) in
+      let second : bounded ≡ all BOUNDS (all ORDER (begunWith (length es))) = is-bounded ∙ ap (all BOUNDS) first in
+      subst (At run es aside 0) (sym (is-state ∙ ap begunFrom (is-read ∙ ap (all VERSION) second))) (begins run es aside)
 
 -- ---- the end
 -- a store with no entries is refused
@@ -54,8 +53,8 @@ ends-at run es aside (Going w) at =
     λ k. granting (at .asked k) (next k) (slot k)
 ends-at run es aside (Refused number place) at = ap (λ (a : Asked). granting a (nextIn (sight run es aside) es) (slotsBelow es (length es))) (at .asked)
 
-pub answers : (run : List ℕ) (es : List Entry) (aside : Aside) (n : ℕ) (end : Across) (r : Restored) → n ≡ length es → At run es aside n end → r ≡ ended end → r ≡ questioned run es aside
-answers run es aside n end r is-n at is-r = is-r ∙ ends-at run es aside end (subst (λ k. At run es aside k end) is-n at)
+pub answers : (run : List ℕ) (es : List Entry) (aside : Aside) (end : Across) (r : Restored) → At run es aside (length es) end → r ≡ ended end → r ≡ questioned run es aside
+answers run es aside end r at is-r = is-r ∙ ends-at run es aside end at
 
 -- ---- restore: with nothing aside
 restored : (run : List ℕ) (es : List Entry) → questioned run es Nothing ≡ answered (restore (storeOf run es))

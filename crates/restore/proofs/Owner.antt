@@ -1,24 +1,13 @@
--- Where a queued row's contact is looked for, and that the places are among the entries.
+-- Where a queued row's contact is found: what the searches answer, together.
 -- Assumes nothing.
-use Prim.Native.Nat.{ℕ, _-_, _≤_}
-use native.Mathlib.Omega.{arith}
+use Prim.Native.Nat.{ℕ, _-_}
 use native.Mathlib.Nat.{sub-zero}
 use mathlib.Core.List.{List}
-use mathlib.Core.Path.{_≡_, sym, _∙_, ap, subst}
-use lib.Dec.{ltb}
+use mathlib.Core.Path.{_≡_, _∙_, ap}
 use Rattle.store.specs.declared.Entry.{Entry}
 use Rattle.store.specs.declared.Wanted.{Wanted}
 use Rattle.store.specs.Find.{firstOf}
 use Rattle.across.specs.Across.{contactOf, earlier, farLimit, chosen, ownerOf}
-use Rattle.across.proofs.Laws.{earlier-below, or-limit}
-
-pub near-places : (near spot upto n : ℕ) → near ≡ earlier spot upto → upto ≤ n → (near ≤ upto) × (upto ≤ n)
-near-places near spot upto n e m = (subst (λ k. k ≤ upto) (sym e) (earlier-below spot upto), m)
-
-pub far-places : (p near spot upto far n : ℕ) → near ≡ earlier spot upto → far ≡ farLimit p near upto → upto ≤ n → (0 ≤ far) × (far ≤ n)
-far-places p near spot upto far n is-near is-far m =
-    let below : farLimit p near upto ≤ near = or-limit (ltb p upto) near in
-    (omega arith, omega (arith, is-far, below, near-places near spot upto n is-near m .0, m))
 
 pub owner-is : (es : List Entry) (e : Entry) (upto spot near p far o r : ℕ) (w : Wanted) → w ≡ contactOf e → near ≡ earlier spot upto → p ≡ firstOf es w near (upto - near) → far ≡ farLimit p near upto
     → o ≡ firstOf es w 0 (far - 0) → r ≡ chosen p o far upto → r ≡ ownerOf es e upto spot

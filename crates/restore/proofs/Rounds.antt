@@ -15,9 +15,6 @@ use Rattle.rounds.specs.Rounds.{roundOf, roundAsks}
 use Rattle.rounds.proofs.Laws.{asks-is}
 
 -- ---- one turn
-pub before-below : (i j n : ℕ) → j ≡ i - 1 → i < n → j < n
-before-below i j n e l = omega (arith, e, l)
-
 pub turn-is : (run : List ℕ) (es : List Entry) (aside : Aside) (q i j : ℕ) (b e : Entry) (a r : Asked) → j ≡ i - 1 → b ≡ entryAt es j → e ≡ entryAt es i → r ≡ turn (roundAsks run aside b e q i) i a
     → r ≡ turn (roundOf q run es aside i) i a
 turn-is run es aside q i j b e a r is-j is-b is-e is-r =
@@ -38,6 +35,3 @@ module _ (round : Round) (upto : ℕ) (asked : Asked) where
 
   pub stops : (i : ℕ) (a : Asked) → upto ≤ i → Still round upto asked i a → a ≡ turns round 0 upto asked
   stops i a l s = let none : 0 ≡ upto - i = omega (arith, l) in ap (λ n. turns round i n a) none ∙ s .same
-
-pub within : (i upto n : ℕ) → i < upto → upto ≤ n → i < n
-within i upto n l m = omega arith

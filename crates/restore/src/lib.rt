@@ -5,7 +5,7 @@ use store::Aside;
 use store::Asked;
 use store::Entry;
 ghost use mathlib.Core.Path.{_≡_};
-ghost use Prim.Native.Nat.{_+_, _-_, _≤_, _<_};
+ghost use Prim.Native.Nat.{_+_, _-_, _<_};
 ghost use lib.ListN.{length};
 ghost use Rattle.store.specs.Rounds.{turn, turns};
 ghost use Rattle.store.specs.Store.{storeOf, restore};
@@ -55,7 +55,6 @@ fn before(i: usize) -> usize
 }
 
 fn turn_at(run: &[u8], entries: &[Entry], aside: Aside, round: u8, i: usize, asked: Asked) -> Asked
-    requires { ⌜ i < length (now entries) ⌝ }
     ensures { λ r. ⌜ r ≡ turn (roundOf round (now (run .entry)) (now (entries .entry)) aside i) i asked ⌝ }
 {
     let j = before(i);
@@ -64,14 +63,14 @@ fn turn_at(run: &[u8], entries: &[Entry], aside: Aside, round: u8, i: usize, ask
     rounds::turn(run, aside, b, e, round, i, asked)
 }
 
-// A round of the entries below `upto`.
-fn turns(run: &[u8], entries: &[Entry], aside: Aside, round: u8, upto: usize, asked: Asked) -> Asked
-    requires { ⌜ upto ≤ length (now entries) ⌝ }
-    ensures { λ r. ⌜ r ≡ turns (roundOf round (now (run .entry)) (now (entries .entry)) aside) 0 upto asked ⌝ }
+// A round of all entries.
+fn turns(run: &[u8], entries: &[Entry], aside: Aside, round: u8, asked: Asked) -> Asked
+    ensures { λ r. ⌜ r ≡ turns (roundOf round (now (run .entry)) (now (entries .entry)) aside) 0 (length (now (entries .entry))) asked ⌝ }
 {
+    let n = entries::entry_count(entries);
     let mut i = 0;
     let mut a = asked;
-    while i < upto {
+    while i < n {
         a = turn_at(run, entries, aside, round, i, a);
         i = i + 1;
     }
@@ -80,7 +79,6 @@ fn turns(run: &[u8], entries: &[Entry], aside: Aside, round: u8, upto: usize, as
 
 // Where the contact of a queued row stands, below `upto`: from the kept spot on, then from the start. `upto` where there is none.
 fn owner_at(entries: &[Entry], e: Entry, upto: usize, spot: usize) -> usize
-    requires { ⌜ upto ≤ length (now entries) ⌝ }
     ensures { λ r. ⌜ r ≡ ownerOf (now (entries .entry)) e upto spot ⌝ }
 {
     let wanted = across::contact_of(e);
@@ -107,14 +105,15 @@ fn across_at(run: &[u8], entries: &[Entry], aside: Aside, i: usize, state: Acros
     across::settle(run, e, c, i, p, t, owner, state)
 }
 
-// 25 to 33, of the entries below `upto`.
-fn across_turns(run: &[u8], entries: &[Entry], aside: Aside, upto: usize, state: Across) -> Across
-    requires { ⌜ (upto ≤ length (now entries)) × At (now run) (now entries) aside 0 state ⌝ }
-    ensures { λ r. ⌜ At (now (run .entry)) (now (entries .entry)) aside upto r ⌝ }
+// 25 to 33, of all entries.
+fn across_turns(run: &[u8], entries: &[Entry], aside: Aside, state: Across) -> Across
+    requires { ⌜ At (now run) (now entries) aside 0 state ⌝ }
+    ensures { λ r. ⌜ At (now (run .entry)) (now (entries .entry)) aside (length (now (entries .entry))) r ⌝ }
 {
+    let n = entries::entry_count(entries);
     let mut i = 0;
     let mut after = state;
-    while i < upto {
+    while i < n {
         after = across_at(run, entries, aside, i, after);
         i = i + 1;
     }
@@ -127,11 +126,11 @@ pub fn questions(run: &[u8], entries: &[Entry], aside: Aside) -> Restored
 {
     let n = entries::entry_count(entries);
     let begun = begin(n);
-    let ordered = turns(run, entries, aside, question::ORDER, n, begun);
-    let bounded = turns(run, entries, aside, question::BOUNDS, n, ordered);
-    let read = turns(run, entries, aside, question::VERSION, n, bounded);
+    let ordered = turns(run, entries, aside, question::ORDER, begun);
+    let bounded = turns(run, entries, aside, question::BOUNDS, ordered);
+    let read = turns(run, entries, aside, question::VERSION, bounded);
     let state = across::begin(read);
-    let end = across_turns(run, entries, aside, n, state);
+    let end = across_turns(run, entries, aside, state);
     answer(end)
 }
 

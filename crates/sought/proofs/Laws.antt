@@ -2,37 +2,63 @@
 -- Assumes nothing.
 use Prim.Native.Nat.{ℕ, zero, suc, _+_, _-_, _^_, _≤_, _<_}
 use native.Mathlib.Omega.{arith}
+use native.Mathlib.Nat.{sub-zero}
 use mathlib.Core.List.{List, [], _∷_, foldl}
 use mathlib.Core.Bool.{Bool, true, false, cond, _&&_, _||_}
 use mathlib.Core.Option.{none, some}
 use mathlib.Core.Path.{_≡_, refl, sym, _∙_, ap}
 use lib.ListN.{length, take}
 use lib.Seq.{take-length}
-use lib.Dec.{ltb}
+use lib.Dec.{ltb, leb·suc-suc}
 use borrow.Author.Tests.{lt-ltb}
 use Rattle.rows.specs.Checks.{any}
 use Rattle.store.specs.declared.Entry.{Entry}
+use Rattle.store.specs.declared.Wanted.{Wanted}
 use Rattle.store.specs.Kinds.{CONTACT, QUEUED}
 use Rattle.store.specs.Store.{entryAt, isOf, anyBelow, before}
+use Rattle.store.specs.Find.{isWanted, firstOf}
 use Rattle.ledger.specs.Step.{contactIn}
 use Rattle.line.specs.Line.{queuedOf}
 use Rattle.sought.specs.Sought as sought
-use Rattle.sought.specs.Sought.{soughtOf, soughtIn, queuedAmong, isQueuedFound, queuedFound, soughtNext, queuedNext, amongNext}
+use Rattle.sought.specs.declared.Sought.{Sought}
+use Rattle.sought.specs.Sought.{soughtOf, soughtIn, contactWanted, soughtAt, queuedAmong, isQueuedFound, queuedFound, queuedNext, amongNext}
 use Rattle.sought.proofs.Halves.{Rises, found-rising}
 
--- ---- a contact's first entry: what is found stays
-found-stays : (k : ℕ) (e : Entry) (es : List Entry) → foldl (soughtNext k) (soughtOf (some e)) es ≡ soughtOf (some e)
-found-stays k e [] = refl
-found-stays k e (x ∷ es) = found-stays k e es
-
-pub sought-is : (k : ℕ) (es : List Entry) → foldl (soughtNext k) (soughtOf none) es ≡ soughtIn es k
-sought-is k [] = refl
-sought-is k (e ∷ es) = go (isOf CONTACT k e) (sought-is k es)
+-- ---- a contact's first entry: what a search for it finds
+-- one entry in front moves what is found by one
+one-behind : (x : Entry) (es : List Entry) (w : Wanted) (j n : ℕ) → firstOf (x ∷ es) w (suc j) n ≡ suc (firstOf es w j n)
+one-behind x es w j zero = refl
+one-behind x es w j (suc n) = go (isWanted w (entryAt es j)) (one-behind x es w (suc j) n)
   where
-    go : (b : Bool) → foldl (soughtNext k) (soughtOf none) es ≡ soughtIn es k
-        → foldl (soughtNext k) (cond b (soughtOf (some e)) (soughtOf none)) es ≡ soughtOf (cond b (some e) (contactIn es k))
-    go true later = found-stays k e es
+    go : (b : Bool) → firstOf (x ∷ es) w (suc (suc j)) n ≡ suc (firstOf es w (suc j) n) → cond b (suc j) (firstOf (x ∷ es) w (suc (suc j)) n) ≡ suc (cond b j (firstOf es w (suc j) n))
+    go true later = refl
     go false later = later
+
+abbrev found-if : Entry → Bool → Sought
+found-if e b = record { entry = e; found = b }
+
+abbrev first-at : (contact : ℕ) → List Entry → ℕ
+first-at k es = firstOf es (contactWanted k) 0 (length es)
+
+abbrev there : List Entry → ℕ → Sought
+there es p = soughtAt (entryAt es p) p (length es)
+
+first-found : (k : ℕ) (es : List Entry) → there es (first-at k es) ≡ soughtIn es k
+first-found k [] = refl
+first-found k (e ∷ es) = go (isOf CONTACT k e) (first-found k es)
+  where
+    go : (b : Bool) → there es (first-at k es) ≡ soughtIn es k
+        → there (e ∷ es) (cond (b && true) 0 (firstOf (e ∷ es) (contactWanted k) 1 (length es))) ≡ soughtOf (cond b (some e) (contactIn es k))
+    go true later = ap (found-if e) (lt-ltb 0 (suc (length es)) (omega arith))
+    go false later =
+        let p = first-at k es in
+        ap (there (e ∷ es)) (one-behind e es (contactWanted k) 0 (length es)) ∙ (ap (found-if (entryAt es p)) (leb·suc-suc (suc p) (length es)) ∙ later)
+
+pub sought-is : (k n p : ℕ) (w : Wanted) (es : List Entry) (e : Entry) (r : Sought) → n ≡ length es → w ≡ contactWanted k → p ≡ firstOf es w 0 (n - 0) → e ≡ entryAt es p → r ≡ soughtAt e p n
+    → r ≡ soughtIn es k
+sought-is k n p w es e r is-n is-w is-p is-e is-r =
+    let found : p ≡ first-at k es = is-p ∙ (ap (firstOf es w 0) (sub-zero n) ∙ (λ i. firstOf es (is-w i) 0 (is-n i))) in
+    is-r ∙ ((λ i. soughtAt ((is-e ∙ ap (entryAt es) found) i) (found i) (is-n i)) ∙ first-found k es)
 
 -- found is whether an entry of the contact is among them
 any-front : (n : ℕ) (p : ℕ → Bool) → anyBelow (suc n) p ≡ (p 0 || anyBelow n (λ j. p (suc j)))

@@ -8,6 +8,7 @@ use lib.ListN.{length, getD}
 use lib.Dec.{eqb, ltb}
 use Rattle.rows.specs.Checks.{any}
 use Rattle.store.specs.declared.Entry.{Entry}
+use Rattle.store.specs.declared.Wanted.{Wanted}
 use Rattle.store.specs.Kinds.{CONTACT, QUEUED}
 use Rattle.store.specs.Store.{noEntry, isOf}
 use Rattle.ledger.specs.Step.{contactIn}
@@ -21,6 +22,13 @@ soughtOf (some e) = record { entry = e; found = true }
 -- the contact's first entry
 abbrev pub soughtIn : List Entry → (contact : ℕ) → Sought
 soughtIn es k = soughtOf (contactIn es k)
+
+-- ... as a search of all n entries finds it at p: at n where there is none
+abbrev pub contactWanted : (contact : ℕ) → Wanted
+contactWanted k = record { id = k; msgno = 0; kind = CONTACT }
+
+abbrev pub soughtAt : Entry → (p n : ℕ) → Sought
+soughtAt e p n = record { entry = e; found = ltb p n }
 
 -- whether a queued entry of this contact has a msgno among these numbers
 abbrev pub isAmong : (contact : ℕ) → (numbers : List ℕ) → Entry → Bool
@@ -51,9 +59,6 @@ abbrev pub queuedFound : (contact : ℕ) → (numbers : List ℕ) → List Entry
 queuedFound k numbers = any (isQueuedFound k numbers)
 
 -- ---- on the way, with one entry more
-abbrev pub soughtNext : (contact : ℕ) → Sought → Entry → Sought
-soughtNext k s e = cond (s .found) s (cond (isOf CONTACT k e) (soughtOf (some e)) s)
-
 abbrev pub queuedNext : (contact : ℕ) → ℕ → Entry → ℕ
 queuedNext k n e = cond (isOf QUEUED k e) (n + 1) n
 

@@ -1,18 +1,18 @@
-// What is looked for among lent entries: a contact's entry, and its queued ones. Each search is a loop over entries with one call in its turn; where nothing is
-// to be found the loop has no turn.
+// What is looked for among lent entries: a contact's entry, and its queued ones. Queued ones are gone through by a loop with one call in its turn; where nothing
+// is to be found the loop has no turn.
 use rows::ContactId;
 use store::Entry;
+use store::Wanted;
 ghost use mathlib.Core.Path.{_≡_};
 ghost use mathlib.Core.List.{foldl};
 ghost use mathlib.Core.Bool.{false, cond};
-ghost use mathlib.Core.Option.{none};
 ghost use Prim.Native.Nat.{_-_, _^_, _≤_, _<_};
 ghost use lib.ListN.{length, take};
 ghost use lib.Dec.{ltb};
 ghost use Rattle.store.specs.Kinds.{QUEUED};
 ghost use Rattle.store.specs.Store.{entryAt, isOf};
 ghost use Rattle.line.specs.Line.{queuedOf};
-ghost use Rattle.sought.specs.Sought.{soughtOf, soughtIn, isFound, queuedFound, soughtNext, queuedNext, amongNext};
+ghost use Rattle.sought.specs.Sought.{soughtIn, contactWanted, soughtAt, isFound, queuedFound, queuedNext, amongNext};
 
 // A contact's entry; all zeros where there is none.
 pub struct Sought {
@@ -22,60 +22,24 @@ pub struct Sought {
 
 // ---- a contact's first entry
 
-fn none_yet() -> Sought
-    ensures { λ r. ⌜ r ≡ soughtOf none ⌝ }
+fn contact_wanted(id: ContactId) -> Wanted
+    ensures { λ r. ⌜ r ≡ contactWanted (id .0) ⌝ }
 {
-    let entry = Entry {
-        id: 0,
-        start: 0,
-        len: 0,
+    Wanted {
+        id: id.0,
         msgno: 0,
-        version: 0,
-        kind: 0,
-    };
+        kind: store::CONTACT,
+    }
+}
+
+// What was found at p, of n entries.
+fn sought_at(entry: Entry, p: usize, n: usize) -> Sought
+    ensures { λ r. ⌜ r ≡ soughtAt entry p n ⌝ }
+{
     Sought {
         entry,
-        found: false,
+        found: p < n,
     }
-}
-
-fn contact_next(e: Entry, id: ContactId, sought: Sought) -> Sought
-    ensures { λ r. ⌜ r ≡ soughtNext (id .0) sought e ⌝ }
-{
-    if sought.found {
-        return sought;
-    }
-    if e.kind != store::CONTACT {
-        return sought;
-    }
-    if e.id != id.0 {
-        return sought;
-    }
-    Sought {
-        entry: e,
-        found: true,
-    }
-}
-
-fn contact_at(entries: &[Entry], id: ContactId, i: usize, sought: Sought) -> Sought
-    requires { ⌜ i < length (now entries) ⌝ }
-    ensures { λ r. ⌜ r ≡ soughtNext (id .0) sought (entryAt (now (entries .entry)) i) ⌝ }
-{
-    let e = entries::entry_at(entries, i);
-    contact_next(e, id, sought)
-}
-
-fn contact_from(entries: &[Entry], id: ContactId, count: usize, begun: Sought) -> Sought
-    requires { ⌜ count ≡ length (now entries) ⌝ }
-    ensures { λ r. ⌜ r ≡ foldl (soughtNext (id .0)) begun (now (entries .entry)) ⌝ }
-{
-    let mut i = 0;
-    let mut sought = begun;
-    while i < count {
-        sought = contact_at(entries, id, i, sought);
-        i = i + 1;
-    }
-    sought
 }
 
 // The first entry of this contact.
@@ -83,8 +47,10 @@ pub fn contact_in(entries: &[Entry], id: ContactId) -> Sought
     ensures { λ r. ⌜ r ≡ soughtIn (now (entries .entry)) (id .0) ⌝ }
 {
     let n = entries::entry_count(entries);
-    let begun = none_yet();
-    contact_from(entries, id, n, begun)
+    let wanted = contact_wanted(id);
+    let p = entries::find(entries, wanted, 0, n);
+    let e = entries::entry_at(entries, p);
+    sought_at(e, p, n)
 }
 
 // ---- how many rows of a contact are queued
@@ -110,7 +76,7 @@ fn queued_next(e: Entry, id: ContactId, queued: u64) -> u64
 }
 
 fn queued_at(entries: &[Entry], id: ContactId, i: usize, queued: u64) -> u64
-    requires { ⌜ (i < length (now entries)) × (queued < 2 ^ 64 - 1) ⌝ }
+    requires { ⌜ queued < 2 ^ 64 - 1 ⌝ }
     ensures { λ r. ⌜ r ≡ queuedNext (id .0) queued (entryAt (now (entries .entry)) i) ⌝ }
 {
     let e = entries::entry_at(entries, i);
@@ -198,7 +164,6 @@ fn among_at(
     i: usize,
     found: bool,
 ) -> bool
-    requires { ⌜ i < length (now entries) ⌝ }
     ensures { λ r. ⌜ r ≡ amongNext (id .0) (take count (now (unacked .entry))) found (entryAt (now (entries .entry)) i) ⌝ }
 {
     let e = entries::entry_at(entries, i);

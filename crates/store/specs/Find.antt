@@ -13,9 +13,6 @@ use Rattle.store.specs.declared.Wanted.{Wanted}
 abbrev pub isWanted : Wanted → Entry → Bool
 isWanted w e = isOf (w .kind) (w .id) e && (not (eqb (w .kind) QUEUED) || eqb (e .msgno) (w .msgno))
 
-abbrev pub narrowedTo : Entry → Wanted → (i upto : ℕ) → ℕ
-narrowedTo e w i upto = cond (isWanted w e) i upto
-
 -- the first of n entries from the j-th on that is wanted, or the place behind them
 abbrev pub firstOf : List Entry → Wanted → (j n : ℕ) → ℕ
 firstOf es w j zero = j

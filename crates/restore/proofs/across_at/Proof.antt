@@ -36,7 +36,7 @@ use denote.Triple.Walked.{says, needs, Stays, walkOf, Walks, ends-at, walked, wa
 use Rattle.walks.proofs.Walk.{untok, retok, gone, drops, drops-go}
 use Rattle.walks.proofs.Held.{Held, number, of-struct, of-enum, vals, Lies, plus, lends, none, calls-held, into, local}
 use Rattle.across.specs.At.{At}
-use Rattle.restore.proofs.Across.{limit-place, owner-place, twin-places, may-reuse, settled-at}
+use Rattle.restore.proofs.Across.{may-reuse, settled-at}
 use Rattle.across.specs.declared.Across.{Across}
 use Rattle.across.proofs.Across as AcrossT
 use Rattle.across.proofs.Across.Laws as AcrossL
@@ -252,7 +252,7 @@ module _ {M : Type 1} (𝓤 : URA M) (H : Heap 𝓤) (A : Atoms 𝓤) (W : Given
           pass0 ! $ move ! (30 ∷ 31 ∷ 32 ∷ 33 ∷ []) $
           -- e is entries::entry_at(entries, i)
           nothing ! $ plus ! as-w64 i in-i $ lends ! 3 (named 1) κ₁ EntryT.the-row entries refl $ move ! (2 ∷ 0 ∷ []) $
-          calls-held ! fm entries-entry-at.ended (entries-entry-at.clauses 𝓤 H A mem calling) (known .entries-entry-at) to-e (factI 𝓤 _ (emp 𝓤) (asks .0)) as-Entry (λ r ws. id⊢ 𝓤 _)
+          calls-held ! fm entries-entry-at.ended (entries-entry-at.clauses 𝓤 H A mem calling) (known .entries-entry-at) to-e (id⊢ 𝓤 _) as-Entry (λ r ws. id⊢ 𝓤 _)
           (and-then ! (local ! (look ! 28 refl)) (and-then ! (local ! (look ! 24 refl)) (no-more !))) (λ e is-e in-e.
           land ! (into !) (init ! 20 refl (as-Entry .lawful .typed e _ in-e .0)) $
           -- limit is across::owner_limit(e, i, state)
@@ -267,15 +267,13 @@ module _ {M : Type 1} (𝓤 : URA M) (H : Heap 𝓤) (A : Atoms 𝓤) (W : Given
           land ! (into !) (init ! 16 refl (as-w64 .lawful .typed spot _ in-spot .0)) $
           -- p is restore::owner_at(entries, e, limit, spot)
           nothing ! $ plus ! as-w64 spot in-spot $ plus ! as-w64 limit in-limit $ plus ! as-Entry e in-e $ lends ! 3 (named 1) κ₁ EntryT.the-row entries refl $ move ! (1 ∷ 0 ∷ []) $
-          calls-held ! fm owner-at.ended (owner-at.clauses 𝓤 H A mem calling) (known .owner-at) (to-p e limit spot)
-          (factI 𝓤 _ (emp 𝓤) (limit-place e i state limit (length (now entries)) is-limit (asks .0))) as-w64 (λ r ws. id⊢ 𝓤 _)
+          calls-held ! fm owner-at.ended (owner-at.clauses 𝓤 H A mem calling) (known .owner-at) (to-p e limit spot) (id⊢ 𝓤 _) as-w64 (λ r ws. id⊢ 𝓤 _)
           (and-then ! (local ! (look ! 28 refl)) (and-then ! (local ! (look ! 20 refl)) (and-then ! (local ! (look ! 18 refl)) (and-then ! (local ! (look ! 16 refl)) (no-more !)))))
           (λ p is-p in-p.
           land ! (into !) (init ! 14 refl (as-w64 .lawful .typed p _ in-p .0)) $
           -- c is entries::entry_at(entries, p)
           nothing ! $ plus ! as-w64 p in-p $ lends ! 3 (named 1) κ₁ EntryT.the-row entries refl $ move ! (1 ∷ 0 ∷ []) $
-          calls-held ! fm entries-entry-at.ended (entries-entry-at.clauses 𝓤 H A mem calling) (known .entries-entry-at) (to-c e limit spot p)
-          (factI 𝓤 _ (emp 𝓤) (owner-place (now entries) e i state limit spot p (length (now entries)) is-limit is-p (asks .0))) as-Entry (λ r ws. id⊢ 𝓤 _)
+          calls-held ! fm entries-entry-at.ended (entries-entry-at.clauses 𝓤 H A mem calling) (known .entries-entry-at) (to-c e limit spot p) (id⊢ 𝓤 _) as-Entry (λ r ws. id⊢ 𝓤 _)
           (and-then ! (local ! (look ! 28 refl)) (and-then ! (local ! (look ! 14 refl)) (no-more !))) (λ c is-c in-c.
           land ! (into !) (init ! 12 refl (as-Entry .lawful .typed c _ in-c .0)) $
           -- owner is across::owner_of(run, aside, c, p, limit, state)
@@ -300,8 +298,7 @@ module _ {M : Type 1} (𝓤 : URA M) (H : Heap 𝓤) (A : Atoms 𝓤) (W : Given
           -- t is entries::find(entries, twin, 0, upto)
           nothing ! $ plus ! as-w64 upto in-upto $ plus ! as-w64 0 (refl, lit< tt) $ plus ! as-Wanted twin in-twin $ lends ! 3 (named 1) κ₁ EntryT.the-row entries refl $
           move ! (2 ∷ 0 ∷ []) $
-          calls-held ! fm entries-find.ended (entries-find.clauses 𝓤 H A mem calling) (known .entries-find) (to-t e limit spot p c owner twin upto)
-          (factI 𝓤 _ (emp 𝓤) (twin-places e i state upto (length (now entries)) is-upto (asks .0))) as-w64 (λ r ws. id⊢ 𝓤 _)
+          calls-held ! fm entries-find.ended (entries-find.clauses 𝓤 H A mem calling) (known .entries-find) (to-t e limit spot p c owner twin upto) (id⊢ 𝓤 _) as-w64 (λ r ws. id⊢ 𝓤 _)
           (and-then ! (local ! (look ! 28 refl)) (and-then ! (local ! (look ! 8 refl)) (and-then ! (lit ! tt) (and-then ! (local ! (look ! 6 refl)) (no-more !))))) (λ t is-t in-t.
           land ! (into !) (init ! 4 refl (as-w64 .lawful .typed t _ in-t .0)) $
           -- r is across::settle(run, e, c, i, p, t, owner, state)

@@ -34,7 +34,7 @@ use denote.Triple.Table.{entered, cited}
 use denote.Triple.Walked.{says, Stays, walkOf, Walks, ends-at, walked, walk-meets}
 use Rattle.walks.proofs.Walk.{untok, retok, gone, drops, drops-go}
 use Rattle.walks.proofs.Held.{Held, number, of-enum, vals, Lies, plus, lends, none, calls-held, into, local}
-use Rattle.restore.proofs.Ends.{all-places, begins-at, answers}
+use Rattle.restore.proofs.Ends.{begins-at, answers}
 use Rattle.restore.proofs.Restored as RestoredT
 use Rattle.restore.proofs.Restored.Laws as RestoredL
 use Rattle.store.specs.declared.Entry.{Entry}
@@ -147,8 +147,8 @@ module _ {M : Type 1} (𝓤 : URA M) (H : Heap 𝓤) (A : Atoms 𝓤) (W : Given
         (κ₀, (κ₁, tt)),
         (q₀, (q₁, tt)),
         tt,
-        (run, (entries, (aside, (1, (n, (begun, tt)))))),
-        (slice-vals run, (slice-vals entries, (vals as-Aside aside, (vals as-w8 1, (vals as-w64 n, (vals as-Asked begun, tt)))))),
+        (run, (entries, (aside, (1, (begun, tt))))),
+        (slice-vals run, (slice-vals entries, (vals as-Aside aside, (vals as-w8 1, (vals as-Asked begun, tt))))),
       ),
       tt,
     )
@@ -159,8 +159,8 @@ module _ {M : Type 1} (𝓤 : URA M) (H : Heap 𝓤) (A : Atoms 𝓤) (W : Given
         (κ₀, (κ₁, tt)),
         (q₀, (q₁, tt)),
         tt,
-        (run, (entries, (aside, (2, (n, (ordered, tt)))))),
-        (slice-vals run, (slice-vals entries, (vals as-Aside aside, (vals as-w8 2, (vals as-w64 n, (vals as-Asked ordered, tt)))))),
+        (run, (entries, (aside, (2, (ordered, tt))))),
+        (slice-vals run, (slice-vals entries, (vals as-Aside aside, (vals as-w8 2, (vals as-Asked ordered, tt))))),
       ),
       tt,
     )
@@ -171,8 +171,8 @@ module _ {M : Type 1} (𝓤 : URA M) (H : Heap 𝓤) (A : Atoms 𝓤) (W : Given
         (κ₀, (κ₁, tt)),
         (q₀, (q₁, tt)),
         tt,
-        (run, (entries, (aside, (3, (n, (bounded, tt)))))),
-        (slice-vals run, (slice-vals entries, (vals as-Aside aside, (vals as-w8 3, (vals as-w64 n, (vals as-Asked bounded, tt)))))),
+        (run, (entries, (aside, (3, (bounded, tt))))),
+        (slice-vals run, (slice-vals entries, (vals as-Aside aside, (vals as-w8 3, (vals as-Asked bounded, tt))))),
       ),
       tt,
     )
@@ -186,8 +186,8 @@ module _ {M : Type 1} (𝓤 : URA M) (H : Heap 𝓤) (A : Atoms 𝓤) (W : Given
         (κ₀, (κ₁, tt)),
         (q₀, (q₁, tt)),
         tt,
-        (run, (entries, (aside, (n, (state, tt))))),
-        (slice-vals run, (slice-vals entries, (vals as-Aside aside, (vals as-w64 n, (vals as-Across state, tt))))),
+        (run, (entries, (aside, (state, tt)))),
+        (slice-vals run, (slice-vals entries, (vals as-Aside aside, (vals as-Across state, tt)))),
       ),
       tt,
     )
@@ -223,48 +223,39 @@ module _ {M : Type 1} (𝓤 : URA M) (H : Heap 𝓤) (A : Atoms 𝓤) (W : Given
           calls-held ! fm begin.ended (begin.clauses 𝓤 H A mem calling) (known .begin) (to-begun n) (id⊢ 𝓤 _) as-Asked (λ r ws. id⊢ 𝓤 _)
           (and-then ! (local ! (look ! 17 refl)) (no-more !)) (λ begun is-begun in-begun.
           land ! (into !) (init ! 14 refl (as-Asked .lawful .typed begun _ in-begun .0)) $
-          -- ordered is restore::turns(run, entries, aside, 1, n, begun)
-          nothing ! $ plus ! as-Asked begun in-begun $ plus ! as-w64 n in-n $ plus ! as-w8 1 (refl, lit< tt) $ plus ! as-Aside aside in-aside $
-          lends ! 3 (named 1) κ₁ EntryT.the-row entries refl $ lends ! 2 (named 0) κ₀ (UInt w8) run refl $ move ! (2 ∷ 1 ∷ 0 ∷ []) $
-          calls-held ! fm turns.ended (turns.clauses 𝓤 H A mem calling) (known .turns) (to-ordered n begun) (factI 𝓤 _ (emp 𝓤) (all-places n (now entries) is-n)) as-Asked (λ r ws. id⊢ 𝓤 _)
+          -- ordered is restore::turns(run, entries, aside, 1, begun)
+          nothing ! $ plus ! as-Asked begun in-begun $ plus ! as-w8 1 (refl, lit< tt) $ plus ! as-Aside aside in-aside $ lends ! 3 (named 1) κ₁ EntryT.the-row entries refl $
+          lends ! 2 (named 0) κ₀ (UInt w8) run refl $ move ! (2 ∷ 1 ∷ 0 ∷ []) $
+          calls-held ! fm turns.ended (turns.clauses 𝓤 H A mem calling) (known .turns) (to-ordered n begun) (id⊢ 𝓤 _) as-Asked (λ r ws. id⊢ 𝓤 _)
           (and-then ! (local ! (look ! 21 refl)) (and-then ! (local ! (look ! 19 refl))
-          (and-then ! (local ! (look ! 17 refl)) (and-then ! (lit ! tt) (and-then ! (local ! (look ! 15 refl)) (and-then ! (local ! (look ! 13 refl)) (no-more !)))))))
-          (λ ordered is-ordered in-ordered.
+          (and-then ! (local ! (look ! 17 refl)) (and-then ! (lit ! tt) (and-then ! (local ! (look ! 13 refl)) (no-more !)))))) (λ ordered is-ordered in-ordered.
           land ! (into !) (init ! 12 refl (as-Asked .lawful .typed ordered _ in-ordered .0)) $
-          -- bounded is restore::turns(run, entries, aside, 2, n, ordered)
-          nothing ! $ plus ! as-Asked ordered in-ordered $ plus ! as-w64 n in-n $ plus ! as-w8 2 (refl, lit< tt) $ plus ! as-Aside aside in-aside $
-          lends ! 3 (named 1) κ₁ EntryT.the-row entries refl $ lends ! 2 (named 0) κ₀ (UInt w8) run refl $ move ! (1 ∷ 2 ∷ 0 ∷ []) $
-          calls-held ! fm turns.ended (turns.clauses 𝓤 H A mem calling) (known .turns) (to-bounded n begun ordered) (factI 𝓤 _ (emp 𝓤) (all-places n (now entries) is-n)) as-Asked
-          (λ r ws. id⊢ 𝓤 _)
+          -- bounded is restore::turns(run, entries, aside, 2, ordered)
+          nothing ! $ plus ! as-Asked ordered in-ordered $ plus ! as-w8 2 (refl, lit< tt) $ plus ! as-Aside aside in-aside $ lends ! 3 (named 1) κ₁ EntryT.the-row entries refl $
+          lends ! 2 (named 0) κ₀ (UInt w8) run refl $ move ! (1 ∷ 2 ∷ 0 ∷ []) $
+          calls-held ! fm turns.ended (turns.clauses 𝓤 H A mem calling) (known .turns) (to-bounded n begun ordered) (id⊢ 𝓤 _) as-Asked (λ r ws. id⊢ 𝓤 _)
           (and-then ! (local ! (look ! 21 refl)) (and-then ! (local ! (look ! 19 refl))
-          (and-then ! (local ! (look ! 17 refl)) (and-then ! (lit ! tt) (and-then ! (local ! (look ! 15 refl)) (and-then ! (local ! (look ! 11 refl)) (no-more !)))))))
-          (λ bounded is-bounded in-bounded.
+          (and-then ! (local ! (look ! 17 refl)) (and-then ! (lit ! tt) (and-then ! (local ! (look ! 11 refl)) (no-more !)))))) (λ bounded is-bounded in-bounded.
           land ! (into !) (init ! 10 refl (as-Asked .lawful .typed bounded _ in-bounded .0)) $
-          -- read is restore::turns(run, entries, aside, 3, n, bounded)
-          nothing ! $ plus ! as-Asked bounded in-bounded $ plus ! as-w64 n in-n $ plus ! as-w8 3 (refl, lit< tt) $ plus ! as-Aside aside in-aside $
-          lends ! 3 (named 1) κ₁ EntryT.the-row entries refl $ lends ! 2 (named 0) κ₀ (UInt w8) run refl $ move ! (1 ∷ 2 ∷ 0 ∷ []) $
-          calls-held ! fm turns.ended (turns.clauses 𝓤 H A mem calling) (known .turns) (to-read n begun ordered bounded) (factI 𝓤 _ (emp 𝓤) (all-places n (now entries) is-n)) as-Asked
-          (λ r ws. id⊢ 𝓤 _)
+          -- read is restore::turns(run, entries, aside, 3, bounded)
+          nothing ! $ plus ! as-Asked bounded in-bounded $ plus ! as-w8 3 (refl, lit< tt) $ plus ! as-Aside aside in-aside $ lends ! 3 (named 1) κ₁ EntryT.the-row entries refl $
+          lends ! 2 (named 0) κ₀ (UInt w8) run refl $ move ! (1 ∷ 2 ∷ 0 ∷ []) $
+          calls-held ! fm turns.ended (turns.clauses 𝓤 H A mem calling) (known .turns) (to-read n begun ordered bounded) (id⊢ 𝓤 _) as-Asked (λ r ws. id⊢ 𝓤 _)
           (and-then ! (local ! (look ! 21 refl)) (and-then ! (local ! (look ! 19 refl))
-          (and-then ! (local ! (look ! 17 refl)) (and-then ! (lit ! tt) (and-then ! (local ! (look ! 15 refl)) (and-then ! (local ! (look ! 9 refl)) (no-more !)))))))
-          (λ read is-read in-read.
+          (and-then ! (local ! (look ! 17 refl)) (and-then ! (lit ! tt) (and-then ! (local ! (look ! 9 refl)) (no-more !)))))) (λ read is-read in-read.
           land ! (into !) (init ! 8 refl (as-Asked .lawful .typed read _ in-read .0)) $
           -- state is across::begin(read)
           nothing ! $ plus ! as-Asked read in-read $
           calls-held ! fm across-begin.ended (across-begin.clauses 𝓤 H A mem calling) (known .across-begin) (to-state n begun ordered bounded read) (id⊢ 𝓤 _) as-Across (λ r ws. id⊢ 𝓤 _)
           (and-then ! (local ! (look ! 9 refl)) (no-more !)) (λ state is-state in-state.
           land ! (into !) (init ! 6 refl (as-Across .lawful .typed state _ in-state .0)) $
-          -- end is restore::across_turns(run, entries, aside, n, state)
-          nothing ! $ plus ! as-Across state in-state $ plus ! as-w64 n in-n $ plus ! as-Aside aside in-aside $ lends ! 3 (named 1) κ₁ EntryT.the-row entries refl $
-          lends ! 2 (named 0) κ₀ (UInt w8) run refl $ move ! (1 ∷ 2 ∷ 0 ∷ []) $
+          -- end is restore::across_turns(run, entries, aside, state)
+          nothing ! $ plus ! as-Across state in-state $ plus ! as-Aside aside in-aside $ lends ! 3 (named 1) κ₁ EntryT.the-row entries refl $ lends ! 2 (named 0) κ₀ (UInt w8) run refl $
+          move ! (1 ∷ 2 ∷ 0 ∷ []) $
           calls-held ! fm across-turns.ended (across-turns.clauses 𝓤 H A mem calling) (known .across-turns) (to-end n begun ordered bounded read state)
-          (factI 𝓤 _ (emp 𝓤) (
-            all-places n (now entries) is-n,
-            begins-at (now run) (now entries) aside n begun ordered bounded read state is-n is-begun is-ordered is-bounded is-read
-                is-state,
-          )) as-Across (λ r ws. id⊢ 𝓤 _)
-          (and-then ! (local ! (look ! 21 refl)) (and-then ! (local ! (look ! 19 refl))
-          (and-then ! (local ! (look ! 17 refl)) (and-then ! (local ! (look ! 15 refl)) (and-then ! (local ! (look ! 5 refl)) (no-more !)))))) (λ end is-end in-end.
+          (factI 𝓤 _ (emp 𝓤) (begins-at (now run) (now entries) aside n begun ordered bounded read state is-n is-begun is-ordered is-bounded is-read is-state)) as-Across (λ r ws. id⊢ 𝓤 _)
+          (and-then ! (local ! (look ! 21 refl)) (and-then ! (local ! (look ! 19 refl)) (and-then ! (local ! (look ! 17 refl)) (and-then ! (local ! (look ! 5 refl)) (no-more !)))))
+          (λ end is-end in-end.
           land ! (into !) (init ! 4 refl (as-Across .lawful .typed end _ in-end .0)) $
           -- r is restore::answer(end)
           nothing ! $ plus ! as-Across end in-end $
@@ -275,7 +266,7 @@ module _ {M : Type 1} (𝓤 : URA M) (H : Heap 𝓤) (A : Atoms 𝓤) (W : Given
           gone ! 24 refl refl $ gone ! 22 refl refl $ gone ! 20 refl refl $ gone ! 18 refl refl $ gone ! 16 refl refl $ gone ! 14 refl refl $ gone ! 12 refl refl $ gone ! 10 refl refl $
           gone ! 8 refl refl $ gone ! 6 refl refl $ gone ! 4 refl refl $ free0 ! $
           suffices ! _ (ends-at 𝓤 H A this.ended stayed clauses W bound (as-Restored .val r) r (tt, (tt, (tt, tt))) (tt, (tt, (tt, tt)))) $
-          says ! (answers (now run) (now entries) aside n end r is-n is-end is-r) $
+          says ! (answers (now run) (now entries) aside end r is-end is-r) $
           keep ! (0 ∷ 1 ∷ []) $ retok ! 2 (κ₀, (κ₁, tt)) (q₀, (q₁, tt)) $ frame ! $ nothing ! $ none ! $ none ! $ none ! $ frame ! $
           owned ! RestoredT.the-row (Is RestoredT.the-row) (as-Restored .makes) r _ in-r $ done !)))))))))))))))))))
 

@@ -43,7 +43,7 @@ use Rattle.walks.proofs.Held.{Held, number, of-struct, vals, Lies, holds, empty
 use lib.ListN.{take}
 use Rattle.store.specs.Store.{entryAt}
 use Rattle.sought.specs.Sought.{queuedNext}
-use Rattle.sought.proofs.Folds.{Folding, begins, goes-on, ends, front-entry, front-inside, front-behind, in-all}
+use Rattle.sought.proofs.Folds.{Folding, begins, goes-on, ends, front-entry, front-inside, front-behind}
 use Rattle.sought.proofs.Laws.{none-queued, one-fits, one-more}
 use Rattle.store.specs.declared.Entry.{Entry}
 use Rattle.store.proofs.Entry as EntryT
@@ -145,8 +145,7 @@ module _ {M : Type 1} (𝓤 : URA M) (H : Heap 𝓤) (A : Atoms 𝓤) (W : Given
             nothing ! $ plus ! as-w64 (t .queued) (t .in-queued) $ plus ! as-w64 (t .i) (t .in-i) $ plus ! as-ContactId id in-id $ lends ! 1 (named 0) κ₀ EntryT.the-row entries refl $
             move ! (1 ∷ 0 ∷ []) $
             calls-held ! fm queued-at.ended (queued-at.clauses 𝓤 H A mem calling) (known .queued-at) (to t)
-            (factI 𝓤 _ (emp 𝓤) (in-all (t .i) count (now entries) (ltb→lt (t .i) count less) asks, one-fits (t .i) count (t .queued) ((t .so) .0) (ltb→lt (t .i) count less) (in-count .1)))
-            as-w64 (λ r ws. id⊢ 𝓤 _)
+            (factI 𝓤 _ (emp 𝓤) (one-fits (t .i) count (t .queued) ((t .so) .0) (ltb→lt (t .i) count less) (in-count .1))) as-w64 (λ r ws. id⊢ 𝓤 _)
             (and-then ! (local ! (look ! 12 refl)) (and-then ! (local ! (look ! 10 refl)) (and-then ! (local ! (look ! 6 refl)) (and-then ! (local ! (look ! 4 refl)) (no-more !)))))
             (λ next told in-next.
             land ! (into !) (store ! 4 refl (as-w64 .lawful .typed next _ in-next .0)) $
