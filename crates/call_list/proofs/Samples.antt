@@ -4,9 +4,9 @@ use mathlib.Core.List.{[], _∷_}
 use mathlib.Core.Path.{_≡_, refl}
 use Rattle.layout.specs.Questions.{ORDER, STORE}
 use Rattle.contact.specs.Contact.{lists}
-use Rattle.ledger.specs.Step as steps
-use Rattle.ledger.specs.Replay.{answers}
-use Rattle.ledger.specs.Proved.{HIGHEST}
+use Rattle.calls_step.specs.Step as steps
+use Rattle.calls_step.specs.Replay.{answers}
+use Rattle.calls_step.specs.Proved.{HIGHEST}
 use Rattle.table.specs.Table as tables
 use Rattle.call_code.specs.Encoding as encoding
 use Rattle.call_code.specs.Encoding.{RESTORE, OPEN, TAKE, NO, «NO_AT», callsOf, numbersOf}

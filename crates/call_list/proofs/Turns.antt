@@ -12,13 +12,14 @@ use Rattle.layout.specs.RowLaws.{Bytes}
 use Rattle.put.specs.Put as storing
 use Rattle.put.specs.Put.{put}
 use Rattle.put.proofs.Put.{put-append}
-use Rattle.ledger.specs.Call.{Call, Answer, granted, advanced, truth, number, wrote, said, refused, refusedAt, Hand}
-use Rattle.ledger.specs.Step.{step}
-use Rattle.ledger.specs.Legal.{lastLeft}
-use Rattle.ledger.specs.Replay.{answers, left}
-use Rattle.ledger.specs.Proved.{HIGHEST}
-use Rattle.ledger.proofs.Proved.{proved}
-use Rattle.ledger.proofs.Replay.{last-left}
+use Rattle.ledger.specs.Call.{Call, Answer, granted, advanced, truth, number, wrote, said, refused, refusedAt}
+use Rattle.calls_step.specs.Hand.{Hand}
+use Rattle.calls_step.specs.Step.{step}
+use Rattle.calls_step.specs.Legal.{lastLeft}
+use Rattle.calls_step.specs.Replay.{answers, left}
+use Rattle.calls_step.specs.Proved.{HIGHEST}
+use Rattle.calls_step.proofs.Proved.{proved}
+use Rattle.calls_step.proofs.Replay.{last-left}
 use Rattle.call_code.specs.Coded.{six}
 use Rattle.session.specs.declared.Session.{Session}
 use Rattle.session.specs.declared.CallLeft.{CallLeft}

@@ -3,11 +3,12 @@
 use mathlib.Core.List.{List, [], _∷_}
 use mathlib.Core.Path.{_≡_, refl, sym, ap, ap₂, _∙_}
 use Rattle.put.specs.Put.{put}
-use Rattle.ledger.specs.Call.{Call, Answer, Hand}
-use Rattle.ledger.specs.Two.{AlikeAll}
-use Rattle.ledger.specs.Replay.{replay, answers, AllAlike}
-use Rattle.ledger.specs.Proved.{HIGHEST}
-use Rattle.ledger.proofs.Proved.{proved}
+use Rattle.ledger.specs.Call.{Call, Answer}
+use Rattle.calls_step.specs.Hand.{Hand}
+use Rattle.calls_step.specs.Two.{AlikeAll}
+use Rattle.calls_step.specs.Replay.{replay, answers, AllAlike}
+use Rattle.calls_step.specs.Proved.{HIGHEST}
+use Rattle.calls_step.proofs.Proved.{proved}
 use Rattle.call_code.specs.Encoding.{numbersOf}
 use Rattle.call_list.specs.Replay.{TwoRuns}
 

@@ -11,9 +11,9 @@ use Rattle.layout.specs.RowLaws.{Bytes}
 use Rattle.layout.proofs.At.{bytes-drop}
 use Rattle.layout.proofs.Front.{bytes-take}
 use Rattle.ledger.specs.Call.{Call}
-use Rattle.ledger.specs.Legal.{Typed}
-use Rattle.ledger.specs.Replay.{AllTyped}
-use Rattle.ledger.specs.Proved.{HIGHEST}
+use Rattle.calls_step.specs.Legal.{Typed}
+use Rattle.calls_step.specs.Replay.{AllTyped}
+use Rattle.calls_step.specs.Proved.{HIGHEST}
 use Rattle.call_code.specs.Encoding as encoding
 use Rattle.call_code.specs.Encoding.{RESTORE, OPEN, COVER, CONTAINS, COVERS, TAKE, STATEMENT, WRITE, callIn, followedBy, callsFrom}
 

@@ -5,15 +5,16 @@ use mathlib.Core.List.{List, [], _∷_}
 use mathlib.Core.Path.{_≡_}
 use lib.ListN.{drop}
 use Rattle.put.specs.Put.{put}
-use Rattle.ledger.specs.Call.{Call, Hand, lentOf}
-use Rattle.ledger.specs.Step.{step}
+use Rattle.ledger.specs.Call.{Call}
+use Rattle.calls_step.specs.Hand.{Hand, lentOf}
+use Rattle.calls_step.specs.Step.{step}
 use Rattle.ledger.specs.Ledger.{Ledger}
-use Rattle.ledger.specs.Legal.{lastLeft}
-use Rattle.ledger.specs.Stands.{SoundLedger, StandsFor}
-use Rattle.ledger.specs.Two.{LedgersAlike}
-use Rattle.ledger.specs.Replay as list
-use Rattle.ledger.specs.Replay.{AllTyped, Agreed, AllAlike, AgreedAlike}
-use Rattle.ledger.specs.Proved.{HIGHEST}
+use Rattle.calls_step.specs.Legal.{lastLeft}
+use Rattle.calls_step.specs.Stands.{SoundLedger, StandsFor}
+use Rattle.calls_step.specs.Two.{LedgersAlike}
+use Rattle.calls_step.specs.Replay as list
+use Rattle.calls_step.specs.Replay.{AllTyped, Agreed, AllAlike, AgreedAlike}
+use Rattle.calls_step.specs.Proved.{HIGHEST}
 use Rattle.call_code.specs.Encoding.{numbersOf}
 use Rattle.session.specs.declared.Session.{Session}
 use Rattle.session.specs.Session.{storeAt, movedBy}

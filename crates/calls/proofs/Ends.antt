@@ -12,12 +12,12 @@ use Rattle.store.specs.Store.{storeOf}
 use Rattle.store.specs.Store as store
 use Rattle.restore.specs.declared.Restored.{Restored}
 use Rattle.restore.specs.Restored.{answered}
-use Rattle.line.specs.Line.{queuedOf}
-use Rattle.ledger.specs.declared.Mark.{Mark}
-use Rattle.ledger.specs.declared.Mark.the-variants.{Fresh, Restored as Had, Opened}
-use Rattle.ledger.specs.Call.{Hand}
-use Rattle.ledger.specs.Step.{restoring}
-use Rattle.ledger.specs.Step as steps
+use Rattle.store.specs.Line.{queuedOf}
+use Rattle.calls_step.specs.declared.Mark.{Mark}
+use Rattle.calls_step.specs.declared.Mark.the-variants.{Fresh, Restored as Had, Opened}
+use Rattle.calls_step.specs.Hand.{Hand}
+use Rattle.calls_step.specs.Step.{restoring}
+use Rattle.calls_step.specs.Step as steps
 use Rattle.sought.specs.Sought.{soughtIn}
 use Rattle.passes.specs.declared.Asking.{Asking}
 use Rattle.passes.specs.declared.Passed.{Passed}

@@ -10,11 +10,12 @@ use Rattle.store.specs.Store.{storeOf}
 use Rattle.restore.specs.declared.Restored.{Restored}
 use Rattle.restore.specs.declared.Restored.the-variants as restored
 use Rattle.restore.specs.Restored.{answered}
-use Rattle.ledger.specs.declared.Mark.{Mark}
-use Rattle.ledger.specs.declared.Mark.the-variants as mark
-use Rattle.ledger.specs.Call.{restore, granted, refusedAt, Hand, Left, leaves}
-use Rattle.ledger.specs.Step.{step}
-use Rattle.ledger.specs.Proved.{HIGHEST}
+use Rattle.calls_step.specs.declared.Mark.{Mark}
+use Rattle.calls_step.specs.declared.Mark.the-variants as mark
+use Rattle.ledger.specs.Call.{restore, granted, refusedAt}
+use Rattle.calls_step.specs.Hand.{Hand, Left, leaves}
+use Rattle.calls_step.specs.Step.{step}
+use Rattle.calls_step.specs.Proved.{HIGHEST}
 use Rattle.passes.specs.declared.Passed.{Passed}
 use Rattle.passes.specs.declared.Asking.{Asking}
 use Rattle.passes.specs.declared.Asking.the-variants as asking

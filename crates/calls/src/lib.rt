@@ -16,8 +16,8 @@ ghost use mathlib.Core.Path.{_≡_};
 ghost use mathlib.Core.List.{List};
 ghost use Prim.Native.Nat.{ℕ};
 ghost use Rattle.contact.specs.Contact.{listsBefore, listsAfter};
-ghost use Rattle.ledger.specs.Step.{step};
-ghost use Rattle.ledger.specs.Proved.{HIGHEST};
+ghost use Rattle.calls_step.specs.Step.{step};
+ghost use Rattle.calls_step.specs.Proved.{HIGHEST};
 ghost use Rattle.dispatch.specs.Dispatch.{callOf, handOf, leftOf, gateOf, idIn, idFor, countsQueued, OfStore};
 ghost use Rattle.calls.specs.Calls.{storedFor, openedFor, askingFor, notedAs, restoreLeft, RestoreSteps};
 

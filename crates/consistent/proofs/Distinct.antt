@@ -13,7 +13,7 @@ use Rattle.layout.specs.RowLaws.{Bytes}
 use Rattle.layout.proofs.Front.{big-below}
 use Rattle.layout.proofs.At.{bytes-drop}
 use Rattle.rows.specs.Checks.{any, distinct, Place, samePlace}
-use Rattle.received.proofs.Tests.{and-both}
+use Rattle.rows.proofs.Tests.{and-both}
 use Rattle.consistent.specs.Cells.{cells, placeAt, numberOf, placeNumbers, ascending, chainWidth, gens}
 use Rattle.consistent.specs.Cells as stand
 

@@ -6,6 +6,7 @@ use lib.ListN.{length}
 use Rattle.layout.specs.Layout.{Answer, accepted, refusedBy}
 use Rattle.rows.specs.Values as value
 use Rattle.offsets.specs.Offset.{offset}
+use Rattle.numbers.specs.Lists.{Counts, counts}
 use Rattle.rows.specs.Rows.{contact}
 use Rattle.parts.specs.Parts.{pairedOf, keysOf, chainedOf, numbersOf, joined}
 use Rattle.parts.specs.Places.{pairedAt, pairedFrom, keysAt, keysFrom, chainedAt, chainedFrom, numbersAt, numbersFrom, CardPlaces, ChainedLists, NumbersLists}
@@ -25,6 +26,11 @@ contactAt version v = record {
   chained = chainedAt (offset (contact version) 13 v) (chainedOf v);
   numbers = numbersAt (offset (contact version) 17 v) (numbersOf v);
 }
+
+-- how many items its lists have
+abbrev pub countsAt : ContactAt → Counts
+countsAt at =
+    counts (at .chained .chains .count) (at .chained .skipped .count) (at .numbers .above .count) (at .numbers .unacked .count) (at .numbers .expired .count)
 
 abbrev pub checked : ℕ → Answer value.Contact → ContactCheck
 checked version (accepted v) = check.Fields (contactAt version v)

@@ -1,11 +1,10 @@
 -- An opened contact: a struct, and five lists that the caller lends. What reading a row leaves in them.
 -- Assumes nothing.
-use Prim.Native.Nat.{ℕ, _*_, _/_, _≤_}
+use Prim.Native.Nat.{ℕ, _*_, _≤_}
 use mathlib.Core.List.{List}
-use mathlib.Core.Bool.{Bool, false, cond, _&&_}
+use mathlib.Core.Bool.{Bool, false, cond}
 use mathlib.Core.Option.{Option, none, some}
 use lib.ListN.{length}
-use lib.Dec.{leb}
 use denote.Ref.{RefT, now}
 use denote.Triple.Both.{Both}
 use Rattle.layout.specs.Questions.{LISTS}
@@ -21,6 +20,7 @@ use Rattle.card.specs.Card.{cardOf, zeroCard}
 use Rattle.put.specs.Put.{put}
 use Rattle.lists.specs.Places.{printPlaces}
 use Rattle.received.specs.Lent.{flat}
+use Rattle.numbers.specs.Lists.{«CHAIN_PLACE», «SKIPPED_PLACE», Counts, counts, itemsOf, roomFor}
 use Rattle.contact.specs.declared.SendChain.{SendChain}
 use Rattle.contact.specs.declared.SendChain.the-variants as sendChain
 use Rattle.contact.specs.declared.Contact.{Contact}
@@ -44,6 +44,13 @@ pub record Lists : Type 0 where
 
 abbrev pub lists : (chains skipped above unacked expired : List ℕ) → Lists
 lists chains skipped above unacked expired = record { chains = chains; skipped = skipped; above = above; unacked = unacked; expired = expired }
+
+abbrev pub lengthsOf : Lists → Counts
+lengthsOf l = counts (length (l .chains)) (length (l .skipped)) (length (l .above)) (length (l .unacked)) (length (l .expired))
+
+-- the items that an opened contact counts
+abbrev pub countsOf : Contact → Counts
+countsOf c = counts (c .chains) (c .skipped) (c .above) (c .unacked) (c .expired)
 
 -- a slice of numbers that a function is lent, as its contract sees it: at entry and at exit
 abbrev pub Slice : Type 0
@@ -141,20 +148,15 @@ zeroContact = record {
   «send_key» = zeros 32;
 }
 
--- ---- 36: is each lent list long enough for the row's items? A length counts whole items
+-- ---- 36
 abbrev pub longEnough : value.Contact → Lists → Bool
-longEnough v l =
-    leb (length (v .chains)) (length (l .chains) / 51)
-    && leb (length (v .skipped)) (length (l .skipped) / 46)
-    && leb (length (v .above)) (length (l .above) / 2)
-    && leb (length (v .unacked)) (length (l .unacked))
-    && leb (length (v .expired)) (length (l .expired) / 2)
+longEnough v l = roomFor (itemsOf v) (lengthsOf l)
 
 -- the lists with the row's items in them; places past the items stay
 abbrev pub filled : value.Contact → Lists → Lists
 filled v l = record {
-  chains = put (l .chains) 0 (printPlaces 51 (group chain) (v .chains));
-  skipped = put (l .skipped) 0 (printPlaces 46 (group skipped) (v .skipped));
+  chains = put (l .chains) 0 (printPlaces «CHAIN_PLACE» (group chain) (v .chains));
+  skipped = put (l .skipped) 0 (printPlaces «SKIPPED_PLACE» (group skipped) (v .skipped));
   above = put (l .above) 0 (flat (v .above));
   unacked = put (l .unacked) 0 (v .unacked);
   expired = put (l .expired) 0 (flat (v .expired));
@@ -183,8 +185,8 @@ reads version row l = opened (readRow (contact version) row) l
 -- ---- before filling: the row's items stand there, and there are places for them
 pub record Fillable (row : List ℕ) (at : ContactAt) (l : Lists) : Type 0 where
   pub places : Places row at
-  pub chains : 51 * at .chained .chains .count ≤ length (l .chains)
-  pub skipped : 46 * at .chained .skipped .count ≤ length (l .skipped)
+  pub chains : «CHAIN_PLACE» * at .chained .chains .count ≤ length (l .chains)
+  pub skipped : «SKIPPED_PLACE» * at .chained .skipped .count ≤ length (l .skipped)
   pub above : 2 * at .numbers .above .count ≤ length (l .above)
   pub unacked : at .numbers .unacked .count ≤ length (l .unacked)
   pub expired : 2 * at .numbers .expired .count ≤ length (l .expired)

@@ -16,17 +16,14 @@ use rows::PairingRole;
 use rows::Verdict;
 use rows::Verification;
 ghost use mathlib.Core.Path.{_≡_};
-ghost use mathlib.Core.Bool.{_&&_};
 ghost use Prim.Native.Nat.{_/_, _^_, _<_};
-ghost use lib.Dec.{leb};
 ghost use Rattle.layout.specs.Layout.{readRow};
 ghost use Rattle.rows.specs.Rows as layouts;
+ghost use Rattle.numbers.specs.Lists.{counts, roomFor};
 ghost use Rattle.card.specs.Card.{cardOf};
-ghost use Rattle.parts.specs.Places.{ChainedLists, NumbersLists, chainedFrom, numbersFrom};
-ghost use Rattle.parts.specs.Places.{CardPlaces, cardIn, pendingFrom, sendFrom};
+ghost use Rattle.parts.specs.Places.{ChainedLists, NumbersLists, chainedFrom, numbersFrom, CardPlaces, cardIn, pendingFrom, sendFrom};
 ghost use Rattle.contact.specs.Consistent.{chainsRefusal, numbersRefusal, inconsistency, refusalIn};
-ghost use Rattle.contact.specs.Check.{contactFrom, Places, checked, checkRefusal};
-ghost use Rattle.contact.specs.Check.{PendingRuns, SendRuns, Filling};
+ghost use Rattle.contact.specs.Check.{contactFrom, Places, countsAt, checked, checkRefusal, PendingRuns, SendRuns, Filling};
 ghost use Rattle.contact.specs.Contact.{pendingKeysOf, sendPartOf, contactOf, zeroContact, lists, listsBefore, listsAfter, filled, Fillable, refusedBy, leaves, reads};
 
 // The send chain's numbers; its key stands beside it. Absent until the first Resume.
@@ -373,8 +370,7 @@ pub fn long_enough(
     unacked: usize,
     expired: usize,
 ) -> bool
-    ensures { λ r. ⌜ r ≡ (leb (at .chained .chains .count) (chains / 51) && leb (at .chained .skipped .count) (skipped / 46)
-        && leb (at .numbers .above .count) (above / 2) && leb (at .numbers .unacked .count) unacked && leb (at .numbers .expired .count) (expired / 2)) ⌝ }
+    ensures { λ r. ⌜ r ≡ roomFor (countsAt at) (counts chains skipped above unacked expired) ⌝ }
 {
     if chains / lent::CHAIN_PLACE < at.chained.chains.count {
         return false;

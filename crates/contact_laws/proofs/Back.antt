@@ -32,7 +32,8 @@ use Rattle.contact.specs.Contact.{Lists, sendKeyOf, pendingKeyOf, pendingSeedOf
 use Rattle.contact.specs.Contact as contacts
 use Rattle.contact.proofs.Counts.{Five, five, in-51, in-46, in-2}
 use Rattle.contact_put.specs.Row as spec
-use Rattle.contact_put.specs.Row.{within, counted, pairedOf, sendOf, chainedOf, numbersOf, chainedImage, image, contactIn}
+use Rattle.numbers.specs.Lists.{within}
+use Rattle.contact_put.specs.Row.{counted, pairedOf, sendOf, chainedOf, numbersOf, chainedImage, image, contactIn}
 use Rattle.contact_put.proofs.Bytes.{list-is}
 
 -- ---- lists with items in them

@@ -10,7 +10,8 @@ use borrow.Author.Tests.{leb-true}
 use Rattle.contact.specs.Contact.{Lists}
 use Rattle.contact.specs.declared.Contact.{Contact}
 use Rattle.contact.proofs.Counts.{both, five, in-51, in-46, in-2}
-use Rattle.contact_put.specs.Row.{within, counted}
+use Rattle.numbers.specs.Lists.{within}
+use Rattle.contact_put.specs.Row.{counted}
 
 -- n items, of w each, in a list of so many
 pub record Counted (n w long : ℕ) : Type 0 where

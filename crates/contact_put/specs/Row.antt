@@ -1,12 +1,11 @@
 -- Which row an opened contact stands for, and what writing it leaves.
 -- Assumes nothing.
-use Prim.Native.Nat.{ℕ, _*_, _/_, _^_, _≤_, _<_}
+use Prim.Native.Nat.{ℕ, _*_, _^_, _≤_, _<_}
 use mathlib.Core.List.{List, _++_}
-use mathlib.Core.Bool.{Bool, true, cond, _&&_}
+use mathlib.Core.Bool.{Bool, true, cond}
 use mathlib.Core.Option.{Option, none, some}
 use mathlib.Core.Path.{_≡_}
 use lib.ListN.{length, getD, take}
-use lib.Dec.{leb}
 use Rattle.layout.specs.Questions.{LISTS}
 use Rattle.layout.specs.Form.{bytesOf, u32}
 use Rattle.layout.specs.Layout.{print, group, optional, list}
@@ -18,22 +17,15 @@ use Rattle.card.specs.Card.{CardTyped, valueOf}
 use Rattle.parts.specs.Parts.{Paired, paired, Keys, keys, Chained, Numbers, numbers, joined}
 use Rattle.received.specs.Lent.{pairs}
 use Rattle.lent.specs.Lent.{Granted, chainsOf, skippedOf, chainsBytes, skippedBytes}
-use Rattle.contact.specs.Contact.{Lists}
+use Rattle.numbers.specs.Lists as lists
+use Rattle.contact.specs.Contact.{Lists, lengthsOf, countsOf}
 use Rattle.contact.specs.declared.SendChain.{SendChain}
 use Rattle.contact.specs.declared.SendChain.the-variants as sendChain
 use Rattle.contact.specs.declared.Contact.{Contact}
 
--- ---- 36: no count above its list's length, in whole items, or above 65,535
-abbrev pub within : ℕ → ℕ → Bool
-within n items = leb n items && leb n 65535
-
+-- ---- 36
 unfoldable pub counted : Contact → Lists → Bool
-counted c l =
-    within (c .chains) (length (l .chains) / 51)
-    && within (c .skipped) (length (l .skipped) / 46)
-    && within (c .above) (length (l .above) / 2)
-    && within (c .unacked) (length (l .unacked))
-    && within (c .expired) (length (l .expired) / 2)
+counted c l = lists.counted (countsOf c) (lengthsOf l)
 
 -- ---- the parts of the value; what a flag leaves out is no part of it
 abbrev pub pairedOf : Contact → Paired

@@ -17,9 +17,8 @@ ghost use Rattle.card.specs.Card as cards;
 ghost use Rattle.parts.specs.Parts.{paired, keys, numbers};
 ghost use Rattle.received.specs.Lent.{pairs};
 ghost use Rattle.lent.specs.Lent.{Granted, chainsBytes, skippedBytes};
-ghost use Rattle.contact_put.specs.Row.{SendTyped, ContactTyped, pairedOf, keysOf, pendingOf, sendOf, numbersOf, counters, listsImage, chainedImage, image};
+ghost use Rattle.contact_put.specs.Row.{SendTyped, ContactTyped, pairedOf, keysOf, pendingOf, sendOf, numbersOf, counters, listsImage, chainedImage, image, ChainsLent, NumbersLent, Writable};
 ghost use Rattle.contact.specs.Contact.{lists, listsBefore};
-ghost use Rattle.contact_put.specs.Row.{ChainsLent, NumbersLent, Writable};
 
 // What the types say, as facts.
 fn send_typed(send: SendChain) -> u8

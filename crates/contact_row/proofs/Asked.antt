@@ -35,7 +35,8 @@ use Rattle.contact.specs.declared.Contact.{Contact}
 use Rattle.contact.specs.declared.SendChain.{SendChain}
 use Rattle.contact.specs.declared.SendChain.the-variants.{Absent, Present}
 use Rattle.contact_put.specs.Row as spec
-use Rattle.contact_put.specs.Row.{within, counted, pairedOf, pendingOf, sendOf, contactIn, image, askedContact, ContactTyped, ListsTyped}
+use Rattle.numbers.specs.Lists.{within}
+use Rattle.contact_put.specs.Row.{counted, pairedOf, pendingOf, sendOf, contactIn, image, askedContact, ContactTyped, ListsTyped}
 use Rattle.contact_put.proofs.Counts.{AllCounted, all-counted}
 use Rattle.contact_put.proofs.Fits.{paired-refusal}
 use Rattle.contact_put.proofs.Image.{paired-refused, chains-refused, skipped-refused, all-read}

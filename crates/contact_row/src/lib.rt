@@ -6,7 +6,6 @@ use rows::Verdict;
 use rows::Written;
 ghost use mathlib.Core.Path.{_≡_};
 ghost use mathlib.Core.List.{[]};
-ghost use mathlib.Core.Bool.{_&&_};
 ghost use Prim.Native.Nat.{_+_, _*_, _/_, _^_, _≤_, _<_};
 ghost use lib.ListN.{take};
 ghost use Rattle.rows.specs.Answers.{writtenSays};
@@ -14,8 +13,9 @@ ghost use Rattle.rows.specs.Answers as answers;
 ghost use Rattle.received.specs.Lent.{pairs};
 ghost use Rattle.lent.specs.Lent.{chainsOf, skippedOf};
 ghost use Rattle.contact.specs.Consistent.{chainsRefusal, numbersRefusal, inconsistency, refusalIn};
-ghost use Rattle.contact.specs.Contact.{lists, listsBefore};
-ghost use Rattle.contact_put.specs.Row.{within, ChainsLent, NumbersLent, contactIn, askedContact, writesContact};
+ghost use Rattle.contact.specs.Contact.{lists, listsBefore, countsOf};
+ghost use Rattle.numbers.specs.Lists.{counts, within, counted};
+ghost use Rattle.contact_put.specs.Row.{ChainsLent, NumbersLent, contactIn, askedContact, writesContact};
 ghost use Rattle.contact_row.specs.Sizes.{sendSize, rowSize};
 
 // The most items that a count of a row says.
@@ -46,7 +46,7 @@ fn counts_fit(
     unacked: usize,
     expired: usize,
 ) -> bool
-    ensures { λ r. ⌜ r ≡ (within (contact .chains) (chains / 51) && within (contact .skipped) (skipped / 46) && within (contact .above) (above / 2) && within (contact .unacked) unacked && within (contact .expired) (expired / 2)) ⌝ }
+    ensures { λ r. ⌜ r ≡ counted (countsOf contact) (counts chains skipped above unacked expired) ⌝ }
 {
     if !within(contact.chains, chains / lent::CHAIN_PLACE) {
         return false;

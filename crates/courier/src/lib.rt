@@ -11,8 +11,7 @@ ghost use Rattle.layout.specs.Field.{readAt};
 ghost use Rattle.layout.specs.Layout.{group, readRow};
 ghost use Rattle.rows.specs.Rows.{carried, tombstone, courier};
 ghost use Rattle.offsets.specs.Offset.{located};
-ghost use Rattle.courier.specs.Courier.{kindForm, kindSays, kindRefusal, carriedAt, carriedSays, carriedRefusal, tombstoneAt, tombstoneSays};
-ghost use Rattle.courier.specs.Courier.{checked, checkRefusal, sealedAt};
+ghost use Rattle.courier.specs.Courier.{kindForm, kindSays, kindRefusal, carriedAt, carriedSays, carriedRefusal, tombstoneAt, tombstoneSays, checked, checkRefusal, sealedAt};
 
 // What a courier row holds.
 pub enum Kind {

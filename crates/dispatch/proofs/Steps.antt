@@ -15,25 +15,25 @@ use Rattle.layout.specs.Write as writer
 use Rattle.rows.specs.Values as value
 use Rattle.rows.specs.Rows as rows
 use Rattle.rows.specs.declared.ContactId.{ContactId}
-use Rattle.received.specs.Ranges.{changeOf}
+use Rattle.received.specs.Change.{changeOf}
 use Rattle.received.specs.Lent.{fits, planOf, listAfter}
 use Rattle.received.specs.declared.Planned.the-variants as planned
-use Rattle.received.proofs.Tests.{either, and-both}
+use Rattle.rows.proofs.Tests.{either, and-both}
 use Rattle.contact.specs.declared.Contact.{Contact}
 use Rattle.contact.specs.Contact as contacts
 use Rattle.contact.specs.Contact.{Lists}
 use Rattle.contact_put.specs.Row.{counted, image, writesContact, ContactTyped, ListsTyped}
 use Rattle.contact_put.proofs.Counts.{all-counted}
 use Rattle.store.specs.declared.Entry.{Entry}
-use Rattle.store.specs.Store.{partOf, replacedPasses}
-use Rattle.line.specs.Line.{lineOf, queuedOf}
-use Rattle.ledger.specs.declared.Mark.{Mark}
-use Rattle.ledger.specs.declared.Mark.the-variants.{Fresh, Restored, Opened}
-use Rattle.ledger.specs.Call.{Hand, Left, leaves, no}
-use Rattle.ledger.specs.Step.{onStore, passes, onOpened, contactIn, filling, aboveAs, output, writing, wroteRow, saidLine, lineIn, step}
-use Rattle.ledger.specs.Step as steps
-use Rattle.ledger.specs.Proved.{HIGHEST}
-use Rattle.ledger.proofs.Contracts.{passed-writes}
+use Rattle.store.specs.Store.{partOf, replacedPasses, contactIn}
+use Rattle.store.specs.Line.{lineOf, queuedOf}
+use Rattle.calls_step.specs.declared.Mark.{Mark}
+use Rattle.calls_step.specs.declared.Mark.the-variants.{Fresh, Restored, Opened}
+use Rattle.calls_step.specs.Hand.{Hand, Left, leaves, no}
+use Rattle.calls_step.specs.Step.{onStore, passes, onOpened, filling, aboveAs, output, writing, wroteRow, saidLine, lineIn, step}
+use Rattle.calls_step.specs.Step as steps
+use Rattle.calls_step.specs.Proved.{HIGHEST}
+use Rattle.calls_step.proofs.Contracts.{passed-writes}
 use Rattle.sought.specs.declared.Sought.{Sought}
 use Rattle.sought.specs.Sought.{soughtOf}
 use Rattle.dispatch.specs.declared.Call.{Call}

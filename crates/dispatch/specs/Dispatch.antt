@@ -13,13 +13,14 @@ use Rattle.contact.specs.declared.Contact.{Contact}
 use Rattle.contact_put.specs.Row.{writesContact, ContactTyped, ListsTyped}
 use Rattle.store.specs.declared.Entry.{Entry}
 use Rattle.store.specs.Store.{storePasses}
-use Rattle.line.specs.Line.{queuedOf}
+use Rattle.store.specs.Line.{queuedOf}
 use Rattle.sought.specs.Sought.{soughtIn}
-use Rattle.ledger.specs.declared.Mark.{Mark}
-use Rattle.ledger.specs.declared.Mark.the-variants.{Fresh, Restored, Opened}
+use Rattle.calls_step.specs.declared.Mark.{Mark}
+use Rattle.calls_step.specs.declared.Mark.the-variants.{Fresh, Restored, Opened}
 use Rattle.ledger.specs.Call as ledger
-use Rattle.ledger.specs.Call.{granted, advanced, truth, number, wrote, said, refused, Hand, leaves}
-use Rattle.ledger.specs.Step.{passes, aboveAs}
+use Rattle.ledger.specs.Call.{granted, advanced, truth, number, wrote, said, refused}
+use Rattle.calls_step.specs.Hand.{Hand, leaves}
+use Rattle.calls_step.specs.Step.{passes, aboveAs}
 use Rattle.opened.specs.declared.Answer.{Answer}
 use Rattle.opened.specs.declared.Answer.the-variants as answer
 use Rattle.opened.specs.declared.Left.{Left}

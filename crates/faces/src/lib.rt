@@ -9,7 +9,7 @@ ghost use lib.ListN.{length};
 ghost use Rattle.layout.specs.Form.{flagByte};
 ghost use Rattle.layout.specs.Write.{wrote, writes};
 ghost use Rattle.rows.specs.Rows.{device, queued, courier};
-ghost use Rattle.received.specs.Ranges.{contains, covers};
+ghost use Rattle.numbers.specs.Ranges.{contains, covers};
 ghost use Rattle.received.specs.Lent.{receivedIn};
 ghost use Rattle.received.specs.declared.Planned.the-variants as planned;
 ghost use Rattle.export.specs.Faces.{leaves, shown, zeroOr};

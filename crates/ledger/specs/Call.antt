@@ -1,13 +1,10 @@
--- The calls of document 01, what a call is handed, and what it leaves.
+-- The calls of document 01, and what they answer.
 -- Assumes nothing.
 use Prim.Native.Nat.{ℕ}
 use mathlib.Core.List.{List}
 use mathlib.Core.Bool.{Bool, true, false}
-use lib.ListN.{length}
+use Rattle.numbers.specs.Lists.{Counts, counts}
 use Rattle.store.specs.declared.Entry.{Entry}
-use Rattle.contact.specs.declared.Contact.{Contact}
-use Rattle.contact.specs.Contact.{Lists}
-use Rattle.ledger.specs.declared.Mark.{Mark}
 
 -- a call with its own arguments. Restore is handed a store; the other calls are handed it again
 pub data Call : Type 0 where
@@ -53,16 +50,6 @@ hasOutput take = false
 hasOutput statement = true
 hasOutput write = true
 
--- all that is handed to a call. The MARK is document 01's: whether a store is restored, and which contact is open
-pub record Hand : Type 0 where
-  pub mark : Mark
-  pub run : List ℕ
-  pub entries : List Entry
-  -- the opened fields, and the lists that hold their items
-  pub contact : Contact
-  pub lists : Lists
-  pub out : List ℕ
-
 -- the lent lengths alone
 pub record Lent : Type 0 where
   pub chains : ℕ
@@ -72,24 +59,5 @@ pub record Lent : Type 0 where
   pub expired : ℕ
   pub out : ℕ
 
-abbrev pub lentOf : Hand → Lent
-lentOf h = record {
-  chains = length (h .lists .chains);
-  skipped = length (h .lists .skipped);
-  above = length (h .lists .above);
-  unacked = length (h .lists .unacked);
-  expired = length (h .lists .expired);
-  out = length (h .out);
-}
-
--- what a call leaves: its answer, and what stands afterwards where it was handed something
-pub record Left : Type 0 where
-  pub answer : Answer
-  pub after : Hand
-
-abbrev pub leaves : Answer → Hand → Left
-leaves a h = record { answer = a; after = h }
-
--- a no changes no state and no lent byte
-abbrev pub no : ℕ → Hand → Left
-no q h = leaves (refused q) h
+abbrev pub listsOf : Lent → Counts
+listsOf l = counts (l .chains) (l .skipped) (l .above) (l .unacked) (l .expired)

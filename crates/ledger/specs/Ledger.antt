@@ -1,6 +1,6 @@
 -- THE LEDGER of document 01. It is fed the calls with their own arguments and lent lengths, and nothing that earlier calls left.
 -- N is the highest message number; a set of message numbers is its test. Assumes nothing.
-use Prim.Native.Nat.{ℕ, _+_, _-_, _/_}
+use Prim.Native.Nat.{ℕ, _+_, _-_}
 use mathlib.Core.List.{List, []}
 use mathlib.Core.Bool.{Bool, cond, _&&_, _||_, not}
 use mathlib.Core.Option.{Option, none, some}
@@ -12,16 +12,14 @@ use Rattle.layout.specs.Layout as layout
 use Rattle.rows.specs.Values.{Contact}
 use Rattle.rows.specs.Checks.{any}
 use Rattle.rows.specs.Rows as rows
-use Rattle.received.specs.Ranges.{Received, inside}
-use Rattle.received.specs.Lent.{limitOf}
-use Rattle.received.specs.Sets.{add, allOf, howMany, recordOf}
-use Rattle.contact_put.specs.Row.{within}
+use Rattle.numbers.specs.Ranges.{Received, isRange, inside}
+use Rattle.numbers.specs.Lists.{itemsOf, roomFor, counted, limitOf}
+use Rattle.numbers.specs.Sets.{add, allOf, howMany, recordOf}
 use Rattle.store.specs.declared.Entry.{Entry}
 use Rattle.store.specs.Store as store
-use Rattle.store.specs.Store.{storeOf, partOf, storePasses, replacedPasses}
-use Rattle.ledger.specs.Call.{Call, restore, opens, cover, contains, covers, take, statement, write, Answer, granted, advanced, truth, number, wrote, said, refused, refusedAt, Lent}
-use Rattle.line.specs.Line.{lineOf, queuedOf}
-use Rattle.ledger.specs.Step.{contactIn, inOrder}
+use Rattle.store.specs.Store.{storeOf, contactIn, partOf, storePasses, replacedPasses}
+use Rattle.store.specs.Line.{lineOf, queuedOf}
+use Rattle.ledger.specs.Call.{Call, restore, opens, cover, contains, covers, take, statement, write, Answer, granted, advanced, truth, number, wrote, said, refused, refusedAt, Lent, listsOf}
 
 -- ---- its state
 -- an open contact: the fields that its row holds, its sent number n, and the set S of covered numbers
@@ -78,24 +76,12 @@ withNumbers sent covered c = record {
   expired = c .expired;
 }
 
--- ---- the lent lengths, in whole items
--- 36: is each list long enough for the items?
+-- ---- 36 of a reader, and 34, by the lent lengths
 abbrev pub enough : Contact → Lent → Bool
-enough v l =
-    leb (length (v .chains)) (l .chains / 51)
-    && leb (length (v .skipped)) (l .skipped / 46)
-    && leb (length (v .above)) (l .above / 2)
-    && leb (length (v .unacked)) (l .unacked)
-    && leb (length (v .expired)) (l .expired / 2)
+enough v l = roomFor (itemsOf v) (listsOf l)
 
--- 34: no count above its list's length, or above 65,535
 abbrev pub fitting : Contact → Lent → Bool
-fitting v l =
-    within (length (v .chains)) (l .chains / 51)
-    && within (length (v .skipped)) (l .skipped / 46)
-    && within (length (v .above)) (l .above / 2)
-    && within (length (v .unacked)) (l .unacked)
-    && within (length (v .expired)) (l .expired / 2)
+fitting v l = counted (itemsOf v) (listsOf l)
 
 -- ---- restore
 abbrev pub restores : (run : List ℕ) → List Entry → Ledger → store.Outcome → Account
@@ -186,9 +172,9 @@ module _ (N : ℕ) where
   unfoldable pub ledger : Call → Lent → Ledger → Account
   ledger (restore run es) lent l = restores run es l (store.restore (storeOf run es))
   ledger (opens k) lent l = openOn k lent l
-  ledger (cover f t) lent l = onOpen lent l (λ run es o. cond (inOrder f t) (coverNow f t lent run es o) (refuse RANGE (opened run es o)))
+  ledger (cover f t) lent l = onOpen lent l (λ run es o. cond (isRange f t) (coverNow f t lent run es o) (refuse RANGE (opened run es o)))
   ledger (contains m) lent l = onOpen lent l (λ run es o. plain (truth (o .S m)) (opened run es o))
-  ledger (covers f t) lent l = onOpen lent l (λ run es o. cond (inOrder f t) (plain (truth (allOf (o .S) f (t + 1 - f))) (opened run es o)) (refuse RANGE (opened run es o)))
+  ledger (covers f t) lent l = onOpen lent l (λ run es o. cond (isRange f t) (plain (truth (allOf (o .S) f (t + 1 - f))) (opened run es o)) (refuse RANGE (opened run es o)))
   ledger take lent l = onOpen lent l takeNow
   ledger statement lent l = onOpen lent l (λ run es o. writeNow (said (length (lineNow es o)) (lineNow es o)) (lineNow es o) lent (opened run es o))
   ledger write lent l = onOpen lent l (λ run es o. writeNow (wrote (length (rowNow o))) (rowNow o) lent (opened run es o))

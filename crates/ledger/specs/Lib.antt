@@ -1,13 +1,2 @@
 pub mod Call
-pub mod Step
 pub mod Ledger
-pub mod Aside
-pub mod Legal
-pub mod Agree
-pub mod Stands
-pub mod Stuck
-pub mod Wish
-pub mod Two
-pub mod Replay
-pub mod Blank
-pub mod Proved

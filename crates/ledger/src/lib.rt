@@ -1,9 +1,1 @@
-// The calls on a restored store and an open contact: what is handed from one call to the next beside the store, the opened fields and their lists.
-use rows::ContactId;
-
-// Whether a store is restored, and which contact is open.
-pub enum Mark {
-    Fresh,
-    Restored,
-    Opened(ContactId),
-}
+// The ledger of document 01 (specs/Ledger.antt), which judges the calls. It has no code.

@@ -19,7 +19,7 @@ use Rattle.rows.specs.Rows.{range}
 use Rattle.reader.specs.Reader.{ended}
 use Rattle.lists.specs.Lists.{items, itemsOf, Stands}
 use Rattle.lists.specs.Lists as lists
-use Rattle.received.specs.Ranges as received
+use Rattle.numbers.specs.Ranges as received
 use Rattle.received.specs.Lent.{pairs, flat}
 use Rattle.received.proofs.Pairs.{flat-pairs}
 

@@ -9,9 +9,10 @@ use lib.ListN.{length, getD, drop, length-append, drop-of-length-le}
 use lib.Seq.{drop-cons}
 use Rattle.put.specs.Put.{Wrote}
 use Rattle.put.proofs.Put.{Writing, writing-step, writing-done}
-use Rattle.line.specs.Line as line
-use Rattle.line.specs.Line.{LF, COMMA, decimal, fieldsText, lineText, lineOf}
-use Rattle.line.proofs.Decimal.{digits-64, digits-32}
+use Rattle.store.specs.Line as line
+use Rattle.numbers.specs.Decimal.{LF, COMMA, decimal, fieldsText}
+use Rattle.store.specs.Line.{lineText, lineOf}
+use Rattle.numbers.proofs.Decimal.{digits-64, digits-32}
 
 -- ---- the fields from the i-th on
 pub field-text : (ns : List ℕ) (i : ℕ) → i < length ns → fieldsText (drop i ns) ≡ COMMA ∷ (decimal (getD ns i 0) ++ fieldsText (drop (i + 1) ns))

@@ -12,9 +12,10 @@ ghost use lib.ListN.{length};
 ghost use Rattle.layout.specs.Write.{stored};
 ghost use Rattle.rows.specs.Answers.{leaves};
 ghost use Rattle.put.specs.Put.{Wrote};
-ghost use Rattle.received.specs.Sets.{size};
+ghost use Rattle.numbers.specs.Sets.{size};
 ghost use Rattle.received.specs.Lent.{pairs};
-ghost use Rattle.line.specs.Line.{COMMA, decimal, fieldsText, lineText, lineOf};
+ghost use Rattle.numbers.specs.Decimal.{COMMA, decimal, fieldsText};
+ghost use Rattle.store.specs.Line.{lineText, lineOf};
 
 const LF: u8 = 0x0A;
 

@@ -11,9 +11,9 @@ use Rattle.layout.specs.Write as writer
 use Rattle.rows.specs.declared.ContactId.{ContactId}
 use Rattle.rows.specs.declared.Verdict.{Verdict}
 use Rattle.rows.specs.declared.Verdict.the-variants as verdict
-use Rattle.received.specs.Ranges as received
-use Rattle.received.specs.Ranges.{Received}
-use Rattle.received.specs.Sets.{size}
+use Rattle.numbers.specs.Ranges as received
+use Rattle.numbers.specs.Ranges.{Received, isRange}
+use Rattle.numbers.specs.Sets.{size}
 use Rattle.received.specs.Lent.{pairs, receivedIn, planOf, listAfter}
 use Rattle.received.specs.declared.Planned.{Planned}
 use Rattle.received.specs.declared.Planned.the-variants as planned
@@ -21,12 +21,12 @@ use Rattle.contact.specs.Contact as contacts
 use Rattle.contact.specs.Contact.{Lists, reads}
 use Rattle.contact.specs.declared.Contact.{Contact}
 use Rattle.store.specs.Store.{partOf}
-use Rattle.line.specs.Line.{lineOf}
+use Rattle.store.specs.Line.{lineOf}
 use Rattle.sought.specs.declared.Sought.{Sought}
-use Rattle.ledger.specs.declared.Mark.{Mark}
-use Rattle.ledger.specs.declared.Mark.the-variants.{Opened}
-use Rattle.ledger.specs.Step.{inOrder, renumbered}
-use Rattle.ledger.specs.Proved.{HIGHEST}
+use Rattle.calls_step.specs.declared.Mark.{Mark}
+use Rattle.calls_step.specs.declared.Mark.the-variants.{Opened}
+use Rattle.calls_step.specs.Step.{renumbered}
+use Rattle.calls_step.specs.Proved.{HIGHEST}
 use Rattle.opened.specs.declared.Answer.{Answer}
 use Rattle.opened.specs.declared.Answer.the-variants as answer
 use Rattle.opened.specs.declared.Left.{Left}
@@ -44,7 +44,7 @@ containsSays c above n = answer.Truth (received.contains (coveredIn c above) n)
 
 -- 37
 abbrev pub coversSays : Contact → (above : List ℕ) → (from to : ℕ) → Answer
-coversSays c above f t = cond (inOrder f t) (answer.Truth (received.covers (coveredIn c above) f t)) (answer.No RANGE)
+coversSays c above f t = cond (isRange f t) (answer.Truth (received.covers (coveredIn c above) f t)) (answer.No RANGE)
 
 -- 38
 abbrev pub coveredBy : Planned → Contact → Mark → Left
@@ -52,10 +52,10 @@ coveredBy (planned.Change x) c m = left (renumbered (c .«sent_msgno») (x .cont
 coveredBy (planned.Refused q) c m = left c m (answer.No q)
 
 abbrev pub coverLeaves : Contact → Mark → (above : List ℕ) → (from to : ℕ) → Left
-coverLeaves c m above f t = cond (inOrder f t) (coveredBy (planOf (coveredIn c above) (length above) f t) c m) (left c m (answer.No RANGE))
+coverLeaves c m above f t = cond (isRange f t) (coveredBy (planOf (coveredIn c above) (length above) f t) c m) (left c m (answer.No RANGE))
 
 abbrev pub coverList : Contact → (above : List ℕ) → (from to : ℕ) → List ℕ
-coverList c above f t = cond (inOrder f t) (listAfter (coveredIn c above) above f t) above
+coverList c above f t = cond (isRange f t) (listAfter (coveredIn c above) above f t) above
 
 -- ---- take: 39
 abbrev pub takeLeaves : Contact → Mark → Left

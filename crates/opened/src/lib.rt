@@ -13,9 +13,9 @@ ghost use mathlib.Core.Path.{_≡_};
 ghost use Rattle.rows.specs.Answers.{writtenSays};
 ghost use Rattle.contact.specs.Contact.{listsBefore, listsAfter};
 ghost use Rattle.contact_put.specs.Row.{writesContact};
-ghost use Rattle.ledger.specs.Step.{inOrder, renumbered};
-ghost use Rattle.opened.specs.Calls.{left, containsSays, coversSays, coveredBy, coverLeaves, coverList, takeLeaves};
-ghost use Rattle.opened.specs.Calls.{lineSays, rowSays, WrittenBy, lineLeft, openedBy, openLeaves, openLists};
+ghost use Rattle.numbers.specs.Ranges.{isRange};
+ghost use Rattle.calls_step.specs.Step.{renumbered};
+ghost use Rattle.opened.specs.Calls.{left, containsSays, coversSays, coveredBy, coverLeaves, coverList, takeLeaves, lineSays, rowSays, WrittenBy, lineLeft, openedBy, openLeaves, openLists};
 
 // Open answers yes; cover whether contiguous moved; contains and covers a truth; take the number taken; write the length written; statement the length of
 // the line. A no is the question's number.
@@ -49,7 +49,7 @@ pub fn answered(contact: Contact, mark: Mark, answer: Answer) -> Left
 
 // Question 37.
 fn in_order(from: u32, to: u32) -> bool
-    ensures { λ r. ⌜ r ≡ inOrder from to ⌝ }
+    ensures { λ r. ⌜ r ≡ isRange from to ⌝ }
 {
     if from < 1 {
         return false;

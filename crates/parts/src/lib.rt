@@ -24,10 +24,9 @@ ghost use Rattle.layout.specs.Layout.{group, optional, sized};
 ghost use Rattle.rows.specs.Rows.{card, pending, send};
 ghost use Rattle.parts.specs.Parts.{paired, keys, chained, numbers};
 ghost use Rattle.offsets.specs.Offset.{located};
-ghost use Rattle.parts.specs.Places.{cardAt, cardSays, cardRefusal, pairedFound, pairedRefusal, keysFound, keysRefusal};
+ghost use Rattle.parts.specs.Places.{cardAt, cardSays, cardRefusal, pairedFound, pairedRefusal, keysFound, keysRefusal, chainedFound, chainedRefusal, numbersFound, numbersRefusal};
 ghost use Rattle.parts.specs.Places.{pendingKeysAt, pendingKeysSays, pendingAt, pendingSays, pendingRefusal};
 ghost use Rattle.parts.specs.Places.{sendChainAt, sendChainSays, sendChainRefusal, sendAt, sendSays, sendRefusal};
-ghost use Rattle.parts.specs.Places.{chainedFound, chainedRefusal, numbersFound, numbersRefusal};
 
 // A card in the row: from start up to end, with its fields' places in that part.
 pub struct CardPlace {

@@ -15,7 +15,7 @@ use Rattle.rows.specs.Rows as rows
 use Rattle.rows.specs.declared.ContactId.{ContactId}
 use Rattle.rows.specs.Checks.{ackedSent, rising, canonical, noneAbove}
 use Rattle.rows.proofs.Meets.{first-none}
-use Rattle.received.proofs.Tests.{either}
+use Rattle.rows.proofs.Tests.{either}
 use Rattle.contact.specs.Consistent.{chainsRefusal, numbersRefusal, inconsistency}
 use Rattle.contact.specs.Contact.{Lists}
 use Rattle.contact.specs.declared.Contact.{Contact}
@@ -35,10 +35,10 @@ use Rattle.store.specs.Aside.{isAside, asideSeen, seenAside, askedAside}
 use Rattle.store.proofs.Tests.{all-yes}
 use Rattle.restore.specs.declared.Restored.{Restored}
 use Rattle.restore.specs.Restored.{granting, questioned, isGranted}
-use Rattle.ledger.specs.declared.Mark.the-variants.{Fresh}
-use Rattle.ledger.specs.Call.{Hand}
-use Rattle.ledger.specs.Aside.{sightOf, isLength, passesInParts}
-use Rattle.ledger.proofs.Aside.{passes-in-parts}
+use Rattle.calls_step.specs.declared.Mark.the-variants.{Fresh}
+use Rattle.calls_step.specs.Hand.{Hand}
+use Rattle.calls_step.specs.Aside.{sightOf, isLength, passesInParts}
+use Rattle.calls_step.proofs.Aside.{passes-in-parts}
 use Rattle.sought.specs.declared.Sought.{Sought}
 use Rattle.sought.specs.Sought.{soughtIn, queuedAmong, queuedFound}
 use Rattle.sought.proofs.Halves.{Rises}

@@ -12,7 +12,7 @@ use Rattle.store.specs.declared.Entry.{Entry}
 use Rattle.store.specs.declared.Aside.{Aside}
 use Rattle.store.specs.declared.Aside.the-variants as left
 use Rattle.store.specs.Store.{storePasses, replacedPasses}
-use Rattle.ledger.specs.Aside.{isLength}
+use Rattle.calls_step.specs.Aside.{isLength}
 use Rattle.sought.specs.declared.Sought.{Sought}
 use Rattle.passes.specs.declared.Passed.{Passed}
 use Rattle.passes.specs.declared.Asking.{Asking}

@@ -13,11 +13,14 @@ use lib.Seq.{drop-drop, length-take-le}
 use borrow.Author.Tests.{lt-ltb, le-ltb, le-leb, lt-leb, leb-true, eq-eqb, ne-eqb}
 use Rattle.layout.specs.Questions.{«RANGES_FIT»}
 use Rattle.rows.specs.Values.{Range}
-use Rattle.received.specs.Ranges.{Received, received, range, below, Merged, merged, mergedAt, insert, allRanges, inserted, changeOf, applied}
-use Rattle.received.specs.Lent.{pairs, receivedIn, stored, limitOf, fits, planOf, listAfter, Fitting}
+use Rattle.numbers.proofs.Insert.{merged-joined, insert-joined, insert-apart}
+use Rattle.numbers.specs.Ranges.{Received, received, range, below, Merged, merged, mergedAt, insert, inserted}
+use Rattle.received.specs.Change.{changeOf, applied}
+use Rattle.received.specs.Lent.{pairs, receivedIn, stored, fits, planOf, listAfter, Fitting}
+use Rattle.numbers.specs.Lists.{limitOf}
 use Rattle.received.specs.declared.Change.{Change}
 use Rattle.received.specs.declared.Planned.the-variants as planned
-use Rattle.received.proofs.Tests.{either, if-lt}
+use Rattle.rows.proofs.Tests.{either, if-lt}
 use Rattle.received.proofs.Pairs.{length-pairs}
 
 -- ---- the ranges behind the merged one are the last of those that were there
@@ -75,28 +78,14 @@ apart v f t =
     change (i + 1) (length (m .behind)) (i + 1 + length (m .behind)) (v .contiguous) (m .range .from) (m .range .to) false
 
 module _ (v : Received) (f t : ℕ) where
-  merged-joined : f ≤ v .contiguous + 1 → mergedAt f t (allRanges v) ≡ merged 0 (max t (v .contiguous)) (v .above)
-  merged-joined h =
-      let z : min f 0 ≡ 0 = omega arith in
-      rw (le-ltb (v .contiguous + 1) f h, le-ltb (t + 1) 0 (omega arith), z)
-
-  pub insert-joined : f ≤ v .contiguous + 1
-      → insert f t (allRanges v) ≡ merged 0 (max t (v .contiguous)) (v .above) .range ∷ merged 0 (max t (v .contiguous)) (v .above) .behind
-  unfolding insert
-  insert-joined h = rw (← merged-joined h, le-ltb (v .contiguous + 1) f h)
-
-  pub insert-apart : v .contiguous + 1 < f → insert f t (allRanges v) ≡ range 0 (v .contiguous) ∷ insert f t (v .above)
-  unfolding insert
-  insert-apart h = rw (lt-ltb (v .contiguous + 1) f h)
-
   change-joined : f ≤ v .contiguous + 1 → joined v t ≡ changeOf v f t
   unfolding changeOf inserted
-  change-joined h = rw (insert-joined h, merged-joined h, le-ltb (v .contiguous + 1) f h)
+  change-joined h = rw (insert-joined v f t h, merged-joined v f t h, le-ltb (v .contiguous + 1) f h)
 
   change-apart : v .contiguous + 1 < f → apart v f t ≡ changeOf v f t
   unfolding changeOf inserted
   change-apart h =
-      rw (insert-apart h, lt-ltb (v .contiguous + 1) f h, length-insert f t (v .above), eq-eqb (v .contiguous) (v .contiguous) refl, add-one (below f (v .above)))
+      rw (insert-apart v f t h, lt-ltb (v .contiguous + 1) f h, length-insert f t (v .above), eq-eqb (v .contiguous) (v .contiguous) refl, add-one (below f (v .above)))
 
 -- ---- how many ranges there are then, and that carrying the change out gives them
 pub record Sound (v : Received) (f t : ℕ) (c : Change) : Type 0 where

@@ -1,11 +1,7 @@
-pub mod Tests
 pub mod Pairs
 pub mod Turns
 pub mod Over
 pub mod Stored
 pub mod Changes
-pub mod Canon
-pub mod Runs
-pub mod Sets
 pub mod Cases
 pub mod Proved

@@ -8,7 +8,7 @@ use native.Mathlib.Numerals.{add-one}
 use lib.ListN.{length, getD, take, drop, set, length-append, length-drop, length-replicate, List·getD-append, List·getD-eq-default, drop-of-length-le}
 use lib.Seq.{drop-cons, take-suc, set-at, append-snoc, getD-append-add, length-take-le, getD-drop, getD-take, ext-getD}
 use Rattle.layout.specs.Veil.{zeros}
-use Rattle.received.proofs.Tests.{if-lt}
+use Rattle.rows.proofs.Tests.{if-lt}
 
 -- l with its first j numbers replaced by those of g
 unfoldable pub over : ℕ → List ℕ → List ℕ → List ℕ

@@ -8,7 +8,7 @@ use native.Mathlib.Numerals.{add-one}
 use lib.ListN.{length, getD, take, drop, drop-of-length-le}
 use lib.Seq.{drop-cons, take-nil, drop-nil, take-take}
 use Rattle.rows.specs.Values.{Range}
-use Rattle.received.specs.Ranges.{range}
+use Rattle.numbers.specs.Ranges.{range}
 use Rattle.received.specs.Lent.{pairs, flat}
 
 two : (k : ℕ) → 2 * suc k ≡ suc (suc (2 * k))

@@ -11,17 +11,19 @@ use borrow.Author.Tests.{leb-true, le-leb}
 use Rattle.layout.specs.Questions.{«RANGES_FIT»}
 use Rattle.rows.specs.Values.{Range}
 use Rattle.rows.specs.Checks.{any}
-use Rattle.received.specs.Ranges.{Received, received, inside, inserted, changeOf}
-use Rattle.received.specs.Lent.{pairs, stored, limitOf, planOf, listAfter}
-use Rattle.received.specs.Sets.{runs, Records, Coverable, insertAll}
+use Rattle.numbers.specs.Ranges.{Received, received, inside, inserted}
+use Rattle.received.specs.Change.{changeOf}
+use Rattle.received.specs.Lent.{pairs, stored, planOf, listAfter}
+use Rattle.numbers.specs.Lists.{limitOf}
+use Rattle.numbers.specs.Sets.{runs, Records, Coverable, insertAll}
 use Rattle.received.specs.Cases.{outcome, gives, refuses}
 use Rattle.received.specs.Proved.{ScanLaws, leadsTo, RecordLaws, Proved}
 use Rattle.received.specs.declared.Planned.the-variants as planned
-use Rattle.received.proofs.Tests.{either}
-use Rattle.received.proofs.Canon.{to-in, from-in, from-canon}
-use Rattle.received.proofs.Runs.{runs-canon, runs-from, runs-to, runs-size, all-each, each-all}
+use Rattle.rows.proofs.Tests.{either}
+use Rattle.numbers.proofs.Canon.{to-in, from-in, from-canon}
+use Rattle.numbers.proofs.Runs.{runs-canon, runs-from, runs-to, runs-size, all-each, each-all}
 use Rattle.received.proofs.Stored.{stored-is, pairs-stored}
-use Rattle.received.proofs.Sets.{records, contiguous-width, above-width, contiguous-in, contiguous-greatest, runs-above, beyond, covers-all, record-is, size-is, inserts, only-record, insert-is, has-record, canonical-unique, size-counts}
+use Rattle.numbers.proofs.Sets.{records, contiguous-width, above-width, contiguous-in, contiguous-greatest, runs-above, beyond, covers-all, record-is, size-is, inserts, only-record, insert-is, has-record, canonical-unique, size-counts}
 use Rattle.received.proofs.Cases.{thirteen, proved-cases}
 
 scan-laws : (S : ℕ → Bool) (n k : ℕ) → ScanLaws S n k

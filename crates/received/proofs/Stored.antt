@@ -9,7 +9,8 @@ use lib.Seq.{take-take, take-add, drop-at, drop-drop, take-append-add, length-ta
 use Rattle.layout.specs.Veil.{zeros}
 use Rattle.rows.specs.Values.{Range}
 use Rattle.put.proofs.Put.{put-front}
-use Rattle.received.specs.Ranges.{range, placed}
+use Rattle.numbers.specs.Ranges.{range}
+use Rattle.received.specs.Change.{placed}
 use Rattle.received.specs.Lent.{pairs, flat, stored}
 use Rattle.received.proofs.Pairs.{length-pairs, length-flat, flat-append, flat-take, flat-drop, pairs-flat}
 use Rattle.received.proofs.Over.{closed, shifted}

@@ -8,7 +8,7 @@ use native.Mathlib.Omega.{arith}
 use lib.ListN.{length, getD, drop}
 use borrow.Author.Tests.{lt-ltb, le-ltb, le-leb, lt-leb}
 use Rattle.rows.specs.Checks.{any}
-use Rattle.received.specs.Ranges.{range, inside, below, Merged, merged}
+use Rattle.numbers.specs.Ranges.{range, inside, below, Merged, merged}
 use Rattle.received.specs.Lent.{pairs}
 use Rattle.received.proofs.Pairs.{drop-pairs, drop-pairs-all}
 

@@ -9,7 +9,7 @@ use Rattle.layout.specs.Questions.{LEB128, «RANGES_FIT»}
 use Rattle.layout.specs.Read.{Read, value, refused}
 use Rattle.layout.specs.Form.{leb128}
 use Rattle.rows.specs.Checks.{sealedQueued, sealedCarried}
-use Rattle.received.specs.Ranges.{Received, received, range, contains, covers}
+use Rattle.numbers.specs.Ranges.{Received, received, range, contains, covers}
 use Rattle.received.specs.Lent.{pairs, planOf, listAfter}
 use Rattle.received.specs.declared.Planned.{Planned}
 use Rattle.received.specs.declared.Planned.the-variants.{Change, Refused}

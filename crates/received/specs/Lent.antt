@@ -1,6 +1,6 @@
 -- Ranges in a lent flat list of from, to, from, to: which it holds, what a cover answers (question 38), and every place of the list afterwards.
 -- Assumes nothing.
-use Prim.Native.Nat.{ℕ, zero, suc, _+_, _-_, _*_, _/_, _≤_, min}
+use Prim.Native.Nat.{ℕ, zero, suc, _+_, _-_, _*_, _≤_}
 use mathlib.Core.List.{List, [], _∷_, _++_}
 use mathlib.Core.Bool.{Bool, cond}
 use lib.Dec.{leb}
@@ -9,7 +9,9 @@ use Rattle.layout.specs.Questions.{«RANGES_FIT»}
 use Rattle.layout.specs.Veil.{zeros}
 use Rattle.rows.specs.Values.{Range}
 use Rattle.put.specs.Put.{put}
-use Rattle.received.specs.Ranges.{Received, received, range, inserted, changeOf}
+use Rattle.numbers.specs.Lists.{limitOf}
+use Rattle.numbers.specs.Ranges.{Received, received, range, inserted}
+use Rattle.received.specs.Change.{changeOf}
 use Rattle.received.specs.declared.Change.{Change}
 use Rattle.received.specs.declared.Planned.{Planned}
 use Rattle.received.specs.declared.Planned.the-variants as planned
@@ -32,10 +34,7 @@ flat (r ∷ rs) = r .from ∷ r .to ∷ flat rs
 unfoldable pub stored : List Range → ℕ → List ℕ → List ℕ
 stored rs k l = put l 0 (flat rs ++ zeros (2 * (k - length rs)))
 
--- 38: the most ranges that may be left in a list of n numbers, its pairs or 65,535 if fewer
-abbrev pub limitOf : ℕ → ℕ
-limitOf n = min (n / 2) 65535
-
+-- 38
 abbrev pub fits : Received → ℕ → ℕ → ℕ → Bool
 fits v n f t = leb (length (inserted v f t .above)) (limitOf n)
 

@@ -1,5 +1,4 @@
-pub mod Ranges
+pub mod Change
 pub mod Lent
-pub mod Sets
 pub mod Cases
 pub mod Proved

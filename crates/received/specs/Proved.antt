@@ -11,9 +11,10 @@ use Rattle.layout.specs.Questions.{«RANGES_FIT»}
 use Rattle.layout.specs.Veil.{zeros}
 use Rattle.rows.specs.Values.{Range}
 use Rattle.rows.specs.Checks.{any, canonical, noneAbove}
-use Rattle.received.specs.Ranges.{Received, inside, contains, covers, inserted}
-use Rattle.received.specs.Lent.{pairs, flat, limitOf, planOf, listAfter}
-use Rattle.received.specs.Sets.{add, allOf, howMany, runs, recordOf, size, Records, Coverable, insertAll}
+use Rattle.numbers.specs.Ranges.{Received, inside, contains, covers, inserted}
+use Rattle.received.specs.Lent.{pairs, flat, planOf, listAfter}
+use Rattle.numbers.specs.Lists.{limitOf}
+use Rattle.numbers.specs.Sets.{add, allOf, howMany, runs, recordOf, size, Records, Coverable, insertAll}
 use Rattle.received.specs.Cases.{Outcome, gives, refuses, outcome, cases, AllHold}
 
 -- ---- what scanning the k numbers from n on finds

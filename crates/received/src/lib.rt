@@ -8,8 +8,10 @@ ghost use Prim.Native.Nat.{_+_, _-_, _*_, _^_, _≤_, _<_, min, max};
 ghost use lib.ListN.{length, getD, take, drop};
 ghost use Rattle.layout.specs.Veil.{zeros};
 ghost use Rattle.rows.specs.Checks.{any};
-ghost use Rattle.received.specs.Ranges.{range, inside, contains, covers, below, merged, changeOf, placed, applied};
-ghost use Rattle.received.specs.Lent.{pairs, receivedIn, stored, limitOf, planOf, listAfter, Fitting};
+ghost use Rattle.numbers.specs.Ranges.{range, inside, contains, covers, below, merged};
+ghost use Rattle.received.specs.Change.{changeOf, placed, applied};
+ghost use Rattle.received.specs.Lent.{pairs, receivedIn, stored, planOf, listAfter, Fitting};
+ghost use Rattle.numbers.specs.Lists.{limitOf};
 
 // The most ranges that a contact row holds: its counts are u16.
 pub const MAX_RANGES: usize = 65_535;

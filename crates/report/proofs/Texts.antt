@@ -6,7 +6,7 @@ use mathlib.Core.Path.{_≡_, refl, sym, ap, ap₂, _∙_, subst}
 use native.Mathlib.Omega.{arith}
 use lib.ListN.{length, take}
 use Rattle.layout.specs.Write.{Left, stored}
-use Rattle.line.specs.Line.{fieldsText}
+use Rattle.numbers.specs.Decimal.{fieldsText}
 use Rattle.store.specs.declared.Entry.{Entry}
 use Rattle.store.specs.Store.{storeOf, Outcome, granted, refused, restore}
 use Rattle.restore.specs.declared.Restored.{Restored}

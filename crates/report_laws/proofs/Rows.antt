@@ -16,11 +16,10 @@ use Rattle.rows.specs.Rows as rows
 use Rattle.store.specs.declared.Entry.{Entry}
 use Rattle.store.specs.declared.Asked.the-variants.{Going}
 use Rattle.store.specs.Kinds.{CONTACT, contact, kindOf}
-use Rattle.store.specs.Store.{storeOf, entryAt, isOf, partOf, ContactRow, contactsAs, contactsIn, answerOf, asked}
+use Rattle.store.specs.Store.{storeOf, entryAt, isOf, partOf, ContactRow, contactsAs, contactsIn, answerOf, asked, contactIn}
 use Rattle.store.proofs.Parts.{bytes-part}
 use Rattle.store.proofs.Tests.{truth, holds, is-of, of-is}
 use Rattle.store.proofs.Accepted.{granted-accepted}
-use Rattle.ledger.specs.Step.{contactIn}
 use Rattle.text.proofs.Text.{as-contact, not-found, other-kind}
 
 -- ---- the entry of a contact that was found

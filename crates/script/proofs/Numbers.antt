@@ -11,7 +11,7 @@ use lib.ListN.{length, getD, drop, drop-of-length-le}
 use lib.Seq.{drop-cons}
 use lib.Dec.{leb, eqb}
 use borrow.Author.Tests.{eq-eqb, ne-eqb}
-use Rattle.line.specs.Line.{isDigit, numberFrom}
+use Rattle.numbers.specs.Decimal.{isDigit, numberFrom}
 use Rattle.sheet.specs.Decimal as decimals
 use Rattle.sheet.specs.Decimal.{decimalIn}
 use Rattle.sheet.proofs.Decimal as digits

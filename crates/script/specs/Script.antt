@@ -10,7 +10,7 @@ use mathlib.Core.Bool.{Bool, true, false, cond, _&&_}
 use mathlib.Core.Option.{Option, none, some}
 use lib.ListN.{length, getD}
 use lib.Dec.{eqb, leb}
-use Rattle.line.specs.Line.{COMMA}
+use Rattle.numbers.specs.Decimal.{COMMA}
 use Rattle.store.specs.Kinds.{CONTACT, COURIER}
 use Rattle.cases.specs.Text.{SPACE, dashOf}
 use Rattle.sheet.specs.Decimal.{decimalIn}

@@ -12,7 +12,7 @@ ghost use lib.Dec.{eqb, leb};
 ghost use Rattle.layout.specs.Write.{stored};
 ghost use Rattle.rows.specs.Answers.{leaves};
 ghost use Rattle.put.specs.Put.{Wrote};
-ghost use Rattle.line.specs.Line.{isDigit, numberFrom};
+ghost use Rattle.numbers.specs.Decimal.{isDigit, numberFrom};
 ghost use Rattle.sheet.specs.Decimal.{decimalIn};
 ghost use Rattle.sheet.specs.Sheet.{parted};
 ghost use Rattle.sheet.proofs.Decimal.{goesOn};

@@ -9,10 +9,11 @@ use lib.ListN.{getD}
 use Rattle.contact.specs.declared.Contact.{Contact}
 use Rattle.contact.specs.Contact.{Lists}
 use Rattle.store.specs.declared.Entry.{Entry}
-use Rattle.ledger.specs.declared.Mark.{Mark}
-use Rattle.ledger.specs.Call.{Call, restore, Answer, isGranted, Hand, Left, leaves}
-use Rattle.ledger.specs.Step.{step}
-use Rattle.ledger.specs.Proved.{HIGHEST}
+use Rattle.calls_step.specs.declared.Mark.{Mark}
+use Rattle.ledger.specs.Call.{Call, restore, Answer, isGranted}
+use Rattle.calls_step.specs.Hand.{Hand, Left, leaves}
+use Rattle.calls_step.specs.Step.{step}
+use Rattle.calls_step.specs.Proved.{HIGHEST}
 use Rattle.dispatch.specs.declared.Call.{Call as Made}
 use Rattle.dispatch.specs.declared.Call.the-variants as made
 use Rattle.dispatch.specs.Dispatch.{callOf, handOf}

@@ -8,11 +8,12 @@ use mathlib.Core.Path.{_≡_}
 use lib.ListN.{getD}
 use Rattle.contact.specs.declared.Contact.{Contact}
 use Rattle.contact.specs.Contact.{Lists, zeroContact}
-use Rattle.ledger.specs.declared.Mark.{Mark}
-use Rattle.ledger.specs.declared.Mark.the-variants.{Fresh}
-use Rattle.ledger.specs.Call.{Call, restore, opens, cover, contains, covers, take, statement, write, Answer, isGranted, Hand, Left}
-use Rattle.ledger.specs.Step.{step}
-use Rattle.ledger.specs.Proved.{HIGHEST}
+use Rattle.calls_step.specs.declared.Mark.{Mark}
+use Rattle.calls_step.specs.declared.Mark.the-variants.{Fresh}
+use Rattle.ledger.specs.Call.{Call, restore, opens, cover, contains, covers, take, statement, write, Answer, isGranted}
+use Rattle.calls_step.specs.Hand.{Hand, Left}
+use Rattle.calls_step.specs.Step.{step}
+use Rattle.calls_step.specs.Proved.{HIGHEST}
 use Rattle.dispatch.specs.Dispatch.{handOf}
 use Rattle.call_code.specs.declared.Numbers.{Numbers}
 use Rattle.call_code.specs.Encoding.{YES, runAt, entriesAt, sixOf}

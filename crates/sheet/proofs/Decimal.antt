@@ -10,8 +10,8 @@ use lib.ListN.{length}
 use lib.Dec.{leb, eqb}
 use borrow.Author.Tests.{leb-true, leb-false, le-leb, lt-leb, eqb-true, eqb-false, ne-eqb}
 use Rattle.rows.specs.Checks.{all}
-use Rattle.line.specs.Line.{digit, decimal, numberFrom, isDigit}
-use Rattle.line.proofs.Decimal.{some-digits, decimal-one, decimal-more, decimal-value, decimal-laws}
+use Rattle.numbers.specs.Decimal.{digit, decimal, numberFrom, isDigit}
+use Rattle.numbers.proofs.Decimal.{some-digits, decimal-one, decimal-more, decimal-value, decimal-laws}
 use Rattle.sheet.specs.Decimal as decimals
 use Rattle.sheet.specs.Decimal.{isDecimal, decimalIn}
 use Rattle.sheet.specs.Proved.{DecimalsRead}

@@ -10,7 +10,7 @@ use lib.ListN.{length, set, length-set}
 use lib.Dec.{leb, ltb, eqb, eqb·suc-zero}
 use borrow.Author.Tests.{lt-ltb}
 use Rattle.layout.specs.Questions.{LINE, DECIMAL, BLOB}
-use Rattle.line.specs.Line.{LF, COMMA, numberFrom, isDigit}
+use Rattle.numbers.specs.Decimal.{LF, COMMA, numberFrom, isDigit}
 use Rattle.put.specs.Put as storing
 use Rattle.put.specs.Put.{put}
 use Rattle.sheet.specs.declared.State.{State}

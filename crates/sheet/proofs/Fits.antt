@@ -12,7 +12,7 @@ use lib.Dec.{leb, ltb, eqb}
 use borrow.Author.Tests.{leb-true, ltb-true}
 use Rattle.layout.specs.Questions.{LINE, «SHEET_SIZE»}
 use Rattle.layout.specs.RowLaws.{Bytes}
-use Rattle.line.specs.Line.{LF, COMMA, numberFrom}
+use Rattle.numbers.specs.Decimal.{LF, COMMA, numberFrom}
 use Rattle.store.specs.declared.Entry.{Entry}
 use Rattle.store.specs.Kinds.{DEVICE, CONTACT, QUEUED, COURIER}
 use Rattle.sheet.specs.Decimal as decimals

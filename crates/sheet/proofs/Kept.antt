@@ -9,7 +9,7 @@ use lib.ListN.{length, drop, set, length-set}
 use lib.Seq.{drop-set-lt}
 use lib.Dec.{leb, ltb, eqb}
 use borrow.Author.Tests.{ltb-true}
-use Rattle.line.specs.Line.{LF, COMMA}
+use Rattle.numbers.specs.Decimal.{LF, COMMA}
 use Rattle.put.specs.Put as storing
 use Rattle.put.specs.Put.{put}
 use Rattle.put.proofs.Put.{length-put}

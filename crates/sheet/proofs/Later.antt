@@ -9,7 +9,7 @@ use native.Mathlib.Nat.{add-zero, zero-add}
 use lib.ListN.{length, length-append}
 use lib.Dec.{leb, ltb, eqb}
 use Rattle.layout.specs.Questions.{«SHEET_SIZE»}
-use Rattle.line.specs.Line.{LF}
+use Rattle.numbers.specs.Decimal.{LF}
 use Rattle.store.specs.declared.Entry.{Entry}
 use Rattle.sheet.specs.Sheet as sheet
 use Rattle.sheet.specs.Sheet.{inFront, parted, LineSays, said, refusedBy, lineOf, Room, SheetSays, read, refused, entryOf, blobIn, onto, ask44, saidFrom, sheetIn}

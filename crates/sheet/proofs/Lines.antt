@@ -11,7 +11,7 @@ use lib.ListN.{length, getD}
 use lib.Dec.{leb, ltb, eqb, eqb·suc-zero, eqb·suc-suc, eqb·zero-suc}
 use borrow.Author.Tests.{lt-leb}
 use Rattle.layout.specs.Questions.{LINE, DECIMAL, «SHEET_SIZE»}
-use Rattle.line.specs.Line.{LF, COMMA}
+use Rattle.numbers.specs.Decimal.{LF, COMMA}
 use Rattle.put.specs.Put.{put}
 use Rattle.store.specs.Kinds.{DEVICE, CONTACT, QUEUED, COURIER}
 use Rattle.sheet.specs.declared.State.{State}

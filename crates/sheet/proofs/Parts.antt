@@ -6,7 +6,7 @@ use mathlib.Core.Bool.{Bool, true, false, cond}
 use mathlib.Core.Path.{_≡_, refl, _∙_}
 use lib.Dec.{eqb}
 use borrow.Author.Tests.{eqb-true}
-use Rattle.line.specs.Line.{LF, COMMA}
+use Rattle.numbers.specs.Decimal.{LF, COMMA}
 use Rattle.sheet.specs.Sheet as sheet
 use Rattle.sheet.specs.Sheet.{inFront, parted}
 

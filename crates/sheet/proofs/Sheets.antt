@@ -11,7 +11,7 @@ use lib.ListN.{length, length-append}
 use lib.Dec.{leb, ltb}
 use borrow.Author.Tests.{ltb-true}
 use Rattle.layout.specs.Questions.{«SHEET_SIZE»}
-use Rattle.line.specs.Line.{LF}
+use Rattle.numbers.specs.Decimal.{LF}
 use Rattle.put.specs.Put as storing
 use Rattle.put.specs.Put.{put}
 use Rattle.put.proofs.Put.{length-put, put-append}

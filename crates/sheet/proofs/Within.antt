@@ -9,7 +9,7 @@ use native.Mathlib.Omega.{arith}
 use lib.Dec.{leb, eqb}
 use borrow.Author.Tests.{eqb-true}
 use Rattle.layout.specs.Questions.{LINE, DECIMAL}
-use Rattle.line.specs.Line.{LF, COMMA, isDigit}
+use Rattle.numbers.specs.Decimal.{LF, COMMA, isDigit}
 use Rattle.sheet.specs.declared.State.{State}
 use Rattle.sheet.specs.declared.Answer.the-variants.{Refused}
 use Rattle.sheet.specs.Blob.{isHex, hexValue}

@@ -5,7 +5,7 @@ use mathlib.Core.List.{List, [], _∷_}
 use mathlib.Core.Bool.{Bool, cond, _&&_, _||_}
 use mathlib.Core.Option.{Option, none, some}
 use lib.Dec.{leb}
-use Rattle.line.specs.Line.{isDigit}
+use Rattle.numbers.specs.Decimal.{isDigit}
 
 -- `0` to `9`, `a` to `f`
 abbrev pub isHex : ℕ → Bool

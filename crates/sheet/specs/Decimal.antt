@@ -6,7 +6,7 @@ use mathlib.Core.Bool.{Bool, false, cond, _&&_, not}
 use mathlib.Core.Option.{Option, none, some}
 use lib.Dec.{leb, eqb}
 use Rattle.rows.specs.Checks.{all}
-use Rattle.line.specs.Line.{digit, numberFrom, isDigit}
+use Rattle.numbers.specs.Decimal.{digit, numberFrom, isDigit}
 
 -- `0` is a decimal, `00` is none, and neither is the empty text
 abbrev pub isDecimal : List ℕ → Bool

@@ -8,7 +8,7 @@ use mathlib.Core.Option.{Option, none, some}
 use lib.ListN.{length, set}
 use lib.Dec.{leb, ltb, eqb}
 use Rattle.layout.specs.Questions.{LINE, DECIMAL, BLOB, «SHEET_SIZE»}
-use Rattle.line.specs.Line.{LF, COMMA, isDigit}
+use Rattle.numbers.specs.Decimal.{LF, COMMA, isDigit}
 use Rattle.put.specs.Put.{put}
 use Rattle.store.specs.Kinds.{QUEUED}
 use Rattle.sheet.specs.declared.State.{State}

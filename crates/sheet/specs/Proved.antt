@@ -6,7 +6,7 @@ use mathlib.Core.Option.{some}
 use mathlib.Core.Path.{_≡_}
 use lib.ListN.{length, drop}
 use Rattle.layout.specs.RowLaws.{Bytes}
-use Rattle.line.specs.Line.{LF, decimal}
+use Rattle.numbers.specs.Decimal.{LF, decimal}
 use Rattle.store.specs.declared.Entry.{Entry}
 use Rattle.store.specs.Kinds.{COURIER}
 use Rattle.sheet.specs.declared.Answer.the-variants.{Read, Refused}

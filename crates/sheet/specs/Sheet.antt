@@ -8,7 +8,7 @@ use mathlib.Core.Option.{Option, none, some}
 use lib.ListN.{length, getD, drop}
 use lib.Dec.{leb, ltb, eqb}
 use Rattle.layout.specs.Questions.{LINE, DECIMAL, BLOB, «SHEET_SIZE»}
-use Rattle.line.specs.Line.{LF, COMMA}
+use Rattle.numbers.specs.Decimal.{LF, COMMA}
 use Rattle.store.specs.declared.Entry.{Entry}
 use Rattle.store.specs.Kinds.{DEVICE, CONTACT, QUEUED, COURIER}
 use Rattle.sheet.specs.Decimal.{decimalIn}

@@ -9,7 +9,7 @@ ghost use mathlib.Core.Bool.{true};
 ghost use mathlib.Core.List.{[], _∷_};
 ghost use Prim.Native.Nat.{_+_, _-_, _<_, _≤_};
 ghost use lib.ListN.{length};
-ghost use Rattle.line.specs.Line.{isDigit};
+ghost use Rattle.numbers.specs.Decimal.{isDigit};
 ghost use Rattle.put.specs.Put.{put};
 ghost use Rattle.sheet.specs.Blob.{isHex, hexValue};
 ghost use Rattle.sheet.specs.Sheet.{U32, shapeOf, «BLOB_BYTES»};

@@ -15,10 +15,9 @@ use Rattle.rows.specs.Checks.{any}
 use Rattle.store.specs.declared.Entry.{Entry}
 use Rattle.store.specs.declared.Wanted.{Wanted}
 use Rattle.store.specs.Kinds.{CONTACT, QUEUED}
-use Rattle.store.specs.Store.{entryAt, isOf, anyBelow, before}
+use Rattle.store.specs.Store.{entryAt, isOf, anyBelow, before, contactIn}
 use Rattle.store.specs.Find.{isWanted, firstOf}
-use Rattle.ledger.specs.Step.{contactIn}
-use Rattle.line.specs.Line.{queuedOf}
+use Rattle.store.specs.Line.{queuedOf}
 use Rattle.sought.specs.Sought as sought
 use Rattle.sought.specs.declared.Sought.{Sought}
 use Rattle.sought.specs.Sought.{soughtOf, soughtIn, contactWanted, soughtAt, queuedAmong, isQueuedFound, queuedFound, queuedNext, amongNext}

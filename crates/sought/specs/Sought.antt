@@ -10,8 +10,7 @@ use Rattle.rows.specs.Checks.{any}
 use Rattle.store.specs.declared.Entry.{Entry}
 use Rattle.store.specs.declared.Wanted.{Wanted}
 use Rattle.store.specs.Kinds.{CONTACT, QUEUED}
-use Rattle.store.specs.Store.{noEntry, isOf}
-use Rattle.ledger.specs.Step.{contactIn}
+use Rattle.store.specs.Store.{noEntry, isOf, contactIn}
 use Rattle.sought.specs.declared.Sought.{Sought}
 
 -- an entry, or that there is none

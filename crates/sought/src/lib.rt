@@ -11,7 +11,7 @@ ghost use lib.ListN.{length, take};
 ghost use lib.Dec.{ltb};
 ghost use Rattle.store.specs.Kinds.{QUEUED};
 ghost use Rattle.store.specs.Store.{entryAt, isOf};
-ghost use Rattle.line.specs.Line.{queuedOf};
+ghost use Rattle.store.specs.Line.{queuedOf};
 ghost use Rattle.sought.specs.Sought.{soughtIn, contactWanted, soughtAt, isFound, queuedFound, queuedNext, amongNext};
 
 // A contact's entry; all zeros where there is none.

@@ -1,6 +1,7 @@
 pub mod Rounds
 pub mod Kinds
 pub mod Store
+pub mod Line
 pub mod Accepted
 pub mod Veiled
 pub mod Used

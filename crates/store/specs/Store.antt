@@ -47,6 +47,11 @@ storeOf run es = record { size = length run; entries = es; rowOf = partOf run }
 abbrev pub isOf : (kind id : ℕ) → Entry → Bool
 isOf kind id e = eqb (e .kind) kind && eqb (e .id) id
 
+-- the first entry of contact k
+abbrev pub contactIn : List Entry → (contact : ℕ) → Option Entry
+contactIn [] k = none
+contactIn (e ∷ es) k = cond (isOf CONTACT k e) (some e) (contactIn es k)
+
 -- the store of question 34: this row in place of contact k's
 abbrev pub replacedIn : (run : List ℕ) → List Entry → (k : ℕ) → (row : List ℕ) → Store
 replacedIn run es k row = record { size = length run; entries = es; rowOf = λ e. cond (isOf CONTACT k e) row (partOf run e) }

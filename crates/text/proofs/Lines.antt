@@ -13,7 +13,7 @@ use Rattle.put.proofs.Put.{Writing, writing-step, writing-done}
 use Rattle.store.specs.declared.Entry.{Entry}
 use Rattle.store.specs.Kinds.{QUEUED}
 use Rattle.store.specs.Store.{isOf}
-use Rattle.line.specs.Line.{queuedOf}
+use Rattle.store.specs.Line.{queuedOf}
 use Rattle.text.specs.Text as text
 use Rattle.text.specs.Text.{howMany}
 use Rattle.text.specs.Lines as lines

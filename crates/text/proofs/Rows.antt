@@ -10,7 +10,7 @@ use borrow.Author.Tests.{eq-eqb, ne-eqb}
 use Rattle.layout.specs.Layout.{readRow, group}
 use Rattle.rows.specs.Rows.{contact, range}
 use Rattle.lists.specs.Lists.{items}
-use Rattle.received.specs.Sets.{size}
+use Rattle.numbers.specs.Sets.{size}
 use Rattle.contact.specs.declared.ContactAt.{ContactAt}
 use Rattle.contact.specs.declared.ContactCheck.{ContactCheck}
 use Rattle.contact.specs.declared.ContactCheck.the-variants as check
@@ -19,8 +19,9 @@ use Rattle.contact.proofs.Placed.{checkSays, Placed}
 use Rattle.store.specs.declared.Entry.{Entry}
 use Rattle.store.specs.Kinds.{CONTACT}
 use Rattle.store.specs.Store.{partOf, within}
-use Rattle.line.specs.Line as line
-use Rattle.line.specs.Line.{«LETTER_S», fieldsText, lineOf, queuedOf}
+use Rattle.store.specs.Line as line
+use Rattle.store.specs.Line.{«LETTER_S», lineOf, queuedOf}
+use Rattle.numbers.specs.Decimal.{fieldsText}
 use Rattle.text.specs.declared.Line.{Line}
 use Rattle.text.specs.Lines as lines
 use Rattle.text.specs.Lines.{rowText, rowCount, entryText, entryCount, Lined}

@@ -11,7 +11,8 @@ use borrow.Author.Tests.{eqb-true, eqb-false, ne-eqb}
 use Rattle.layout.specs.Layout.{Answer, accepted, refusedBy, readRow}
 use Rattle.rows.specs.Values.{Contact}
 use Rattle.rows.specs.Rows as rows
-use Rattle.line.specs.Line.{fieldsText, queuedOf}
+use Rattle.numbers.specs.Decimal.{fieldsText}
+use Rattle.store.specs.Line.{queuedOf}
 use Rattle.store.specs.declared.Asked.{Asked}
 use Rattle.store.specs.declared.Asked.the-variants.{Going, Refused}
 use Rattle.store.specs.declared.Entry.{Entry}

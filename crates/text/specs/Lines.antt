@@ -10,11 +10,12 @@ use lib.Dec.{eqb}
 use Rattle.layout.specs.Layout.{Answer, accepted, refusedBy, readRow}
 use Rattle.rows.specs.Values.{Contact}
 use Rattle.rows.specs.Rows as rows
-use Rattle.received.specs.Sets.{size}
+use Rattle.numbers.specs.Sets.{size}
 use Rattle.store.specs.declared.Entry.{Entry}
 use Rattle.store.specs.Kinds.{CONTACT}
 use Rattle.store.specs.Store.{partOf}
-use Rattle.line.specs.Line.{fieldsText, lineOf, queuedOf, «LETTER_S»}
+use Rattle.numbers.specs.Decimal.{fieldsText}
+use Rattle.store.specs.Line.{lineOf, queuedOf, «LETTER_S»}
 use Rattle.sheet.specs.Sheet.{U32}
 use Rattle.text.specs.declared.Line.{Line}
 use Rattle.text.specs.declared.Measured.{Measured}

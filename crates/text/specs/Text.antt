@@ -5,11 +5,12 @@ use mathlib.Core.List.{List, [], _∷_, _++_}
 use mathlib.Core.Bool.{cond}
 use lib.ListN.{length}
 use lib.Dec.{eqb}
-use Rattle.received.specs.Sets.{size}
+use Rattle.numbers.specs.Sets.{size}
 use Rattle.store.specs.declared.Entry.{Entry}
 use Rattle.store.specs.Kinds.{QUEUED, COURIER}
 use Rattle.store.specs.Store.{storeOf, ContactRow, Outcome, granted, refused, restore}
-use Rattle.line.specs.Line.{fieldsText, lineOf, queuedOf}
+use Rattle.numbers.specs.Decimal.{fieldsText}
+use Rattle.store.specs.Line.{lineOf, queuedOf}
 use Rattle.sheet.specs.Sheet as sheet
 use Rattle.sheet.specs.Sheet.{SheetSays, sheetOf}
 

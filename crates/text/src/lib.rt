@@ -18,10 +18,11 @@ ghost use Rattle.rows.specs.Rows as layouts;
 ghost use Rattle.rows.specs.Rows.{range};
 ghost use Rattle.lists.specs.Lists.{items, Stands};
 ghost use Rattle.put.specs.Put.{Wrote};
-ghost use Rattle.received.specs.Sets.{size};
+ghost use Rattle.numbers.specs.Sets.{size};
 ghost use Rattle.store.specs.Store.{isOf};
 ghost use Rattle.store.specs.Kinds.{QUEUED};
-ghost use Rattle.line.specs.Line.{COMMA, decimal, queuedOf};
+ghost use Rattle.numbers.specs.Decimal.{COMMA, decimal};
+ghost use Rattle.store.specs.Line.{queuedOf};
 ghost use Rattle.text.specs.Text.{howMany, lastLine};
 ghost use Rattle.text.specs.Lines.{narrow, entryFrom, entriesOf, rowText, rowCount, entryText, entryCount, linesFrom, countFrom, fieldsOf, textIn, Lined, Measures, «TEXT_BYTES»};
 

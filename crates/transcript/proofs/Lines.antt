@@ -11,7 +11,7 @@ use Rattle.layout.specs.Write.{wrote, refuses, Left, stored}
 use Rattle.layout.proofs.Write.{stored-short, stored-row}
 use Rattle.put.specs.Put.{Wrote}
 use Rattle.put.proofs.Put.{put-front, _then_}
-use Rattle.line.specs.Line.{LF, decimal}
+use Rattle.numbers.specs.Decimal.{LF, decimal}
 use Rattle.cases.specs.Text.{SPACE}
 use Rattle.script.specs.Hex.{DASH, pairsOf, hexOf}
 use Rattle.transcript.specs.Transcript.{EQUALS, lineOf, placeText}

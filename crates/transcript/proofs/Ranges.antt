@@ -9,12 +9,12 @@ use lib.ListN.{length, getD, drop, length-append}
 use lib.Dec.{leb}
 use borrow.Author.Tests.{eq-eqb, ne-eqb, le-leb, lt-leb}
 use Rattle.rows.specs.Values.{Range}
-use Rattle.received.specs.Ranges.{range}
+use Rattle.numbers.specs.Ranges.{range}
 use Rattle.received.specs.Lent.{pairs}
 use Rattle.received.proofs.Pairs.{length-pairs, drop-pairs, drop-pairs-all}
 use Rattle.put.specs.Put.{Wrote}
 use Rattle.put.proofs.Put.{Writing, writing-step, writing-done}
-use Rattle.line.specs.Line.{decimal}
+use Rattle.numbers.specs.Decimal.{decimal}
 use Rattle.cases.specs.Text.{SPACE}
 use Rattle.script.specs.Hex.{DASH, pairsOf}
 use Rattle.script.proofs.Pairs as hex

@@ -7,7 +7,7 @@ use mathlib.Core.Bool.{cond}
 use lib.ListN.{length, take}
 use lib.Dec.{eqb}
 use Rattle.rows.specs.Values.{Range}
-use Rattle.line.specs.Line.{LF, decimal}
+use Rattle.numbers.specs.Decimal.{LF, decimal}
 use Rattle.cases.specs.Text.{SPACE}
 use Rattle.script.specs.Hex.{DASH, pairsOf, hexOf}
 use Rattle.call_code.specs.Encoding.{YES, ADVANCED, TRUTH, NUMBER, WROTE, SAID, NO}

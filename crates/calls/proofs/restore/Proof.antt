@@ -37,9 +37,9 @@ use Rattle.calls.proofs.RestoreLeft as RestoreLeftT
 use Rattle.calls.proofs.RestoreLeft.Laws as RestoreLeftL
 use Rattle.store.specs.declared.Entry.{Entry}
 use Rattle.store.proofs.Entry as EntryT
-use Rattle.ledger.specs.declared.Mark.{Mark}
-use Rattle.ledger.proofs.Mark as MarkT
-use Rattle.ledger.proofs.Mark.Laws as MarkL
+use Rattle.calls_step.specs.declared.Mark.{Mark}
+use Rattle.calls_step.proofs.Mark as MarkT
+use Rattle.calls_step.proofs.Mark.Laws as MarkL
 use Rattle.restore.specs.declared.Restored.{Restored}
 use Rattle.restore.proofs.Restored as RestoredT
 use Rattle.restore.proofs.Restored.Laws as RestoredL

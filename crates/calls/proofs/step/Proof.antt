@@ -50,9 +50,9 @@ use Rattle.store.proofs.Entry as EntryT
 use Rattle.dispatch.specs.declared.Call.{Call}
 use Rattle.dispatch.proofs.Call as CallT
 use Rattle.dispatch.proofs.Call.Laws as CallL
-use Rattle.ledger.specs.declared.Mark.{Mark}
-use Rattle.ledger.proofs.Mark as MarkT
-use Rattle.ledger.proofs.Mark.Laws as MarkL
+use Rattle.calls_step.specs.declared.Mark.{Mark}
+use Rattle.calls_step.proofs.Mark as MarkT
+use Rattle.calls_step.proofs.Mark.Laws as MarkL
 use Rattle.contact.specs.declared.Contact.{Contact}
 use Rattle.contact.proofs.Contact as ContactT
 use Rattle.contact.proofs.Contact.Laws as ContactL

@@ -49,9 +49,9 @@ use Rattle.table.proofs.Filled.{as-many, all-lent}
 use Rattle.table.proofs.Table.{of-array, repeated, in-cells, whole-of, lends-whole, whole-back, first-of, lends-first, table-back}
 use Rattle.calls.proofs.RestoreLeft as RestoreLeftT
 use Rattle.calls.proofs.RestoreLeft.Laws as RestoreLeftL
-use Rattle.ledger.specs.declared.Mark.{Mark}
-use Rattle.ledger.proofs.Mark as MarkT
-use Rattle.ledger.proofs.Mark.Laws as MarkL
+use Rattle.calls_step.specs.declared.Mark.{Mark}
+use Rattle.calls_step.proofs.Mark as MarkT
+use Rattle.calls_step.proofs.Mark.Laws as MarkL
 use Rattle.store.specs.declared.Entry.{Entry}
 use Rattle.store.proofs.Entry as EntryT
 use Rattle.store.proofs.Entry.Laws as EntryL

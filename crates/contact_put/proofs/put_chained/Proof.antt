@@ -8,9 +8,8 @@ use Rattle.layout.specs.Layout.{group, optional}
 use Rattle.put.proofs.Put.{_then_}
 use Rattle.rows.specs.Rows.{pending, send}
 use Rattle.lent.specs.Lent.{chainsBytes}
-use Rattle.contact.specs.Contact.{Lists}
+use Rattle.contact.specs.Contact.{Lists, lists}
 use Rattle.contact_put.specs.Row as spec
-use Rattle.contact.specs.Contact.{lists}
 use Rattle.contact_put.specs.Row.{pendingOf, sendOf}
 use Rattle.contact_put.proofs.Lengths.{chained-long}
 use Rattle.contact_put.proofs.Stores.{stored, _on_, room}

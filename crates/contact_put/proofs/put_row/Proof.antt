@@ -7,9 +7,8 @@ use borrow.Author.Needs.{needs}
 use Rattle.layout.specs.Layout.{print}
 use Rattle.put.proofs.Put.{_then_}
 use Rattle.parts.specs.Parts.{paired, keys}
-use Rattle.contact.specs.Contact.{Lists}
+use Rattle.contact.specs.Contact.{Lists, lists}
 use Rattle.contact_put.specs.Row as spec
-use Rattle.contact.specs.Contact.{lists}
 use Rattle.contact_put.specs.Row.{pairedOf, keysOf, chainedImage}
 use Rattle.contact_put.proofs.Counts.{AllCounted, all-counted}
 use Rattle.contact_put.proofs.Lengths.{image-long, numbers-long}

@@ -4,7 +4,7 @@ use mathlib.Core.Bool.{true}
 use mathlib.Core.Path.{_≡_, sym, _∙_}
 use borrow.Author.Needs.{needs}
 use borrow.Author.Tests.{not-true, not-false}
-use Rattle.contact_put.specs.Row.{within}
+use Rattle.numbers.specs.Lists.{within}
 use Rattle.contact_row.proofs.counts_fit.Statement.{statement}
 use Rattle.contact_row.proofs.counts_fit.Tie as tie
 

@@ -5,7 +5,7 @@ use mathlib.Core.Path.{_≡_, refl, sym, ap, _∙_}
 use Rattle.layout.proofs.At.{typed}
 use Rattle.contact.specs.Contact.{Lists, lists}
 use Rattle.contact_put.specs.Row.{ListsTyped}
-use Rattle.ledger.specs.Step.{aboveAs}
+use Rattle.calls_step.specs.Step.{aboveAs}
 use Rattle.dispatch.specs.declared.Call.{Call}
 use Rattle.dispatch.specs.declared.Gate.{Gate}
 use Rattle.dispatch.specs.declared.Gate.the-variants.{Through}

@@ -5,8 +5,9 @@ use mathlib.Core.Path.{_≡_}
 use native.Mathlib.Omega.{arith}
 use lib.ListN.{length}
 use borrow.Author.Needs.{needs}
-use Rattle.line.specs.Line.{decimal}
-use Rattle.line.proofs.Decimal.{some-digits, digits-64, count-turn, count-end}
+use Rattle.numbers.specs.Decimal.{decimal}
+use Rattle.numbers.proofs.Decimal.{some-digits, digits-64}
+use Rattle.line.proofs.Decimal.{count-turn, count-end}
 use Rattle.line.proofs.decimal_len.Statement.{statement}
 use Rattle.line.proofs.decimal_len.Tie as tie
 

@@ -6,7 +6,7 @@ use mathlib.Core.Path.{_≡_, ap}
 use native.Mathlib.Omega.{arith}
 use lib.ListN.{length, drop}
 use borrow.Author.Needs.{needs}
-use Rattle.line.specs.Line.{fieldsText}
+use Rattle.numbers.specs.Decimal.{fieldsText}
 use Rattle.line.proofs.Text.{field-length, last-text}
 use Rattle.line.proofs.line_len.Statement.{statement}
 use Rattle.line.proofs.line_len.Tie as tie

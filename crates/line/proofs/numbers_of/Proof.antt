@@ -6,7 +6,7 @@ use mathlib.Core.Path.{_≡_}
 use native.Mathlib.Omega.{arith}
 use lib.ListN.{drop}
 use borrow.Author.Needs.{needs}
-use Rattle.received.specs.Sets.{size}
+use Rattle.numbers.specs.Sets.{size}
 use Rattle.received.specs.Lent.{pairs}
 use Rattle.line.proofs.Numbers.{size-turn, size-end, held-sum, full-sum}
 use Rattle.line.proofs.numbers_of.Statement.{statement}

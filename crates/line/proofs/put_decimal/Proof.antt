@@ -7,7 +7,7 @@ use lib.ListN.{length, length-set}
 use borrow.Author.Needs.{needs}
 use Rattle.put.specs.Put as storing
 use Rattle.put.specs.Put.{put}
-use Rattle.line.specs.Line.{decimal}
+use Rattle.numbers.specs.Decimal.{decimal}
 use Rattle.line.proofs.Decimal as text
 use Rattle.line.proofs.Decimal.{lastDigits, all-last, digit-turn}
 use Rattle.line.proofs.put_decimal.Statement.{statement}

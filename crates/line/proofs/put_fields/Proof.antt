@@ -7,7 +7,7 @@ use native.Mathlib.Omega.{arith}
 use lib.ListN.{length, drop}
 use borrow.Author.Needs.{needs}
 use Rattle.put.proofs.Put.{Writing, writing-start}
-use Rattle.line.specs.Line.{fieldsText}
+use Rattle.numbers.specs.Decimal.{fieldsText}
 use Rattle.line.proofs.Text.{field-turn, field-room, fields-end, end-room}
 use Rattle.line.proofs.put_fields.Statement.{statement}
 use Rattle.line.proofs.put_fields.Tie as tie

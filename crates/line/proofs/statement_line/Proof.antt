@@ -9,7 +9,7 @@ use Rattle.layout.specs.Write.{wrote}
 use Rattle.layout.proofs.Write.{stored-short, stored-row}
 use Rattle.put.specs.Put.{put}
 use Rattle.put.proofs.Put.{put-front}
-use Rattle.line.specs.Line.{lineText, lineOf}
+use Rattle.store.specs.Line.{lineText, lineOf}
 use Rattle.line.proofs.Text.{same-line}
 use Rattle.line.proofs.statement_line.Statement.{statement}
 use Rattle.line.proofs.statement_line.Tie as tie

@@ -3,7 +3,7 @@
 use borrow.Author.Needs.{needs}
 use mathlib.Core.Path.{ap, _∙_}
 use Rattle.layout.specs.Write.{Left, stored}
-use Rattle.line.specs.Line.{lineOf}
+use Rattle.store.specs.Line.{lineOf}
 use Rattle.opened.specs.Calls.{left, lineSays}
 use Rattle.opened.proofs.statement.Statement.{statement}
 use Rattle.opened.proofs.statement.Tie as tie

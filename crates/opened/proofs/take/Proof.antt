@@ -6,7 +6,7 @@ use mathlib.Core.Path.{ap}
 use native.Mathlib.Omega.{arith}
 use borrow.Author.Tests.{lt-ltb, le-ltb}
 use Rattle.contact.specs.declared.Contact.{Contact}
-use Rattle.ledger.specs.Proved.{HIGHEST}
+use Rattle.calls_step.specs.Proved.{HIGHEST}
 use Rattle.opened.specs.declared.Answer.the-variants.{Number}
 use Rattle.opened.specs.Calls.{left}
 use Rattle.opened.proofs.take.Statement.{statement}

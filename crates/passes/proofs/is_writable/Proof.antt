@@ -6,7 +6,7 @@ use Rattle.rows.specs.Answers.{writtenSays}
 use Rattle.rows.specs.declared.Written.{Written}
 use Rattle.contact.specs.Contact.{Lists, lists}
 use Rattle.contact_put.specs.Row.{ListsTyped}
-use Rattle.ledger.specs.Aside.{isLength}
+use Rattle.calls_step.specs.Aside.{isLength}
 use Rattle.passes.specs.Passes.{Writable}
 use Rattle.passes.proofs.is_writable.Statement.{statement}
 use Rattle.passes.proofs.is_writable.Tie as tie

@@ -5,7 +5,7 @@ use native.Mathlib.Omega.{arith}
 use native.Mathlib.Nat.{zero-add}
 use lib.ListN.{drop}
 use borrow.Author.Needs.{needs}
-use Rattle.received.specs.Ranges.{below}
+use Rattle.numbers.specs.Ranges.{below}
 use Rattle.received.specs.Lent.{pairs}
 use Rattle.received.proofs.Turns.{below-stop, below-on, below-end}
 use Rattle.received.proofs.below.Statement.{statement}

@@ -6,7 +6,7 @@ use native.Mathlib.Omega.{arith}
 use lib.ListN.{drop}
 use borrow.Author.Needs.{needs}
 use Rattle.rows.specs.Checks.{any}
-use Rattle.received.specs.Ranges.{inside}
+use Rattle.numbers.specs.Ranges.{inside}
 use Rattle.received.specs.Lent.{pairs}
 use Rattle.received.proofs.Turns.{any-hit, any-low, any-high, any-end}
 use Rattle.received.proofs.in_one.Statement.{statement}

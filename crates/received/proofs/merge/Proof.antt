@@ -4,7 +4,7 @@ use mathlib.Core.Path.{_≡_, refl}
 use native.Mathlib.Omega.{arith}
 use lib.ListN.{drop}
 use borrow.Author.Needs.{needs}
-use Rattle.received.specs.Ranges.{merged}
+use Rattle.numbers.specs.Ranges.{merged}
 use Rattle.received.specs.Lent.{pairs}
 use Rattle.received.proofs.Turns.{merged-stop, merged-on, merged-end}
 use Rattle.received.proofs.merge.Statement.{statement}

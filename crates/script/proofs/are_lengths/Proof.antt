@@ -3,7 +3,7 @@
 use native.Mathlib.Omega.{arith}
 use lib.ListN.{length}
 use borrow.Author.Tests.{eq-eqb, ne-eqb}
-use Rattle.line.specs.Line.{COMMA}
+use Rattle.numbers.specs.Decimal.{COMMA}
 use Rattle.sheet.specs.Sheet.{parted}
 use Rattle.script.proofs.Numbers.{all-five}
 use borrow.Author.Needs.{needs}

@@ -6,7 +6,7 @@ use mathlib.Core.Path.{_≡_, ap}
 use native.Mathlib.Omega.{arith}
 use lib.ListN.{length, drop, take}
 use borrow.Author.Needs.{needs}
-use Rattle.line.specs.Line.{fieldsText, decimal}
+use Rattle.numbers.specs.Decimal.{fieldsText, decimal}
 use Rattle.line.proofs.Text.{field-length, last-text}
 use Rattle.text.proofs.Fields.{first-many, first-at}
 use Rattle.text.proofs.fields_len.Statement.{statement}

@@ -2,7 +2,7 @@
 -- Assumes nothing.
 use mathlib.Core.Path.{refl}
 use borrow.Author.Needs.{needs}
-use Rattle.line.specs.Line.{queuedOf}
+use Rattle.store.specs.Line.{queuedOf}
 use Rattle.text.specs.Lines.{entriesOf}
 use Rattle.text.proofs.Rows.{other-entry, entry-is}
 use Rattle.text.proofs.line_at.Statement.{statement}

@@ -12,7 +12,7 @@ use Rattle.layout.specs.Layout.{group}
 use Rattle.rows.specs.Values.{Range}
 use Rattle.rows.specs.Rows.{range}
 use Rattle.lists.specs.Lists.{items}
-use Rattle.received.specs.Sets.{size}
+use Rattle.numbers.specs.Sets.{size}
 use Rattle.consistent.specs.Cells.{cells, Rooms}
 use Rattle.consistent.proofs.Cells.{standing, all-shown, Turn, turn, none-left}
 use Rattle.consistent.proofs.Fields.{rangeAt, range-shows}

@@ -7,7 +7,7 @@ use native.Mathlib.Omega.{arith}
 use lib.ListN.{length, drop, take}
 use borrow.Author.Needs.{needs}
 use Rattle.put.proofs.Put.{Writing, writing-start}
-use Rattle.line.specs.Line.{fieldsText}
+use Rattle.numbers.specs.Decimal.{fieldsText}
 use Rattle.line.proofs.Text.{field-turn, field-room, fields-end, end-room}
 use Rattle.text.proofs.Fields.{first-many, first-at}
 use Rattle.text.proofs.put_fields.Statement.{statement}

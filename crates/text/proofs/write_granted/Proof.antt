@@ -10,7 +10,7 @@ use Rattle.layout.specs.Write.{wrote}
 use Rattle.layout.proofs.Write.{stored-short, stored-row}
 use Rattle.put.proofs.Put.{_then_, put-front}
 use Rattle.store.specs.declared.Entry.{Entry}
-use Rattle.line.specs.Line.{fieldsText}
+use Rattle.numbers.specs.Decimal.{fieldsText}
 use Rattle.text.specs.Text.{lastLine, «LETTER_T»}
 use Rattle.text.specs.Lines.{entriesOf, linesFrom, countFrom, «TEXT_BYTES»}
 use Rattle.text.proofs.Lines.{retext}

@@ -9,7 +9,7 @@ use borrow.Author.Needs.{needs}
 use Rattle.layout.specs.Write.{wrote}
 use Rattle.layout.proofs.Write.{stored-short, stored-row}
 use Rattle.put.proofs.Put.{put-front}
-use Rattle.line.specs.Line.{fieldsText}
+use Rattle.numbers.specs.Decimal.{fieldsText}
 use Rattle.text.specs.Lines.{«TEXT_BYTES»}
 use Rattle.text.proofs.write_refused.Statement.{statement}
 use Rattle.text.proofs.write_refused.Tie as tie

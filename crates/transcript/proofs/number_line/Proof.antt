@@ -6,7 +6,7 @@ use mathlib.Core.Path.{_≡_, refl, sym}
 use native.Mathlib.Omega.{arith}
 use lib.ListN.{length, length-append}
 use Rattle.put.proofs.Put.{_then_, whole-run}
-use Rattle.line.specs.Line.{decimal}
+use Rattle.numbers.specs.Decimal.{decimal}
 use Rattle.transcript.proofs.Lines.{no-room, line-written}
 use borrow.Author.Needs.{needs}
 use Rattle.transcript.proofs.number_line.Statement.{statement}

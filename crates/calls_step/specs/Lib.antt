@@ -1,0 +1,12 @@
+pub mod Hand
+pub mod Step
+pub mod Aside
+pub mod Legal
+pub mod Agree
+pub mod Stands
+pub mod Stuck
+pub mod Wish
+pub mod Two
+pub mod Replay
+pub mod Blank
+pub mod Proved

@@ -1,0 +1,5 @@
+pub mod Canon
+pub mod Runs
+pub mod Insert
+pub mod Sets
+pub mod Decimal

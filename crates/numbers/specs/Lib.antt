@@ -1,0 +1,4 @@
+pub mod Ranges
+pub mod Sets
+pub mod Lists
+pub mod Decimal
