@@ -1,11 +1,11 @@
 // The calls of document 01 on a store and an open contact. Each asks 34 of all that it is handed, and then what follows it; a no changes nothing.
 // A caller keeps run, entries, mark, opened fields and lent lists, and hands them to the next call as the last granted one left them.
+use calls_step::Mark;
 use contact::Contact;
 use dispatch::Call;
 use dispatch::Gate;
 use dispatch::Noted;
 use layout::question;
-use ledger::Mark;
 use opened::Left;
 use passes::Asking;
 use passes::Passed;

@@ -1,9 +1,9 @@
 // The calls of document 01 for a program, which has its entries as places: each fills a table, lends its first entries and makes the call.
 // A count above the table's length counts as that length.
 use calls::RestoreLeft;
+use calls_step::Mark;
 use contact::Contact;
 use dispatch::Call;
-use ledger::Mark;
 use opened::Left;
 use table::ENTRIES;
 ghost use mathlib.Core.Path.{_≡_};

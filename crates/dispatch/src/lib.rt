@@ -1,7 +1,7 @@
 // One step: any call but restore, apart from the store. What a call has to know of the store is handed in; where a question before the call was a no, that is
 // the answer, and nothing changes.
+use calls_step::Mark;
 use contact::Contact;
-use ledger::Mark;
 use opened::Answer;
 use opened::Left;
 use rows::ContactId;

@@ -1,9 +1,9 @@
 // The calls but restore, apart from the store, each in one function: what a call asks, answers and leaves once the questions before it are a yes.
 // A refusal changes nothing: the opened fields and the mark come back as they were handed in.
+use calls_step::Mark;
 use contact::Contact;
 use contact::ContactRead;
 use layout::question;
-use ledger::Mark;
 use received::Planned;
 use rows::ContactId;
 use rows::Verdict;
