@@ -72,12 +72,6 @@ pub const ANSWER: usize = 6;
 
 // ---- answers
 
-fn wide(x: u32) -> u64
-    ensures { λ r. ⌜ r ≡ x ⌝ }
-{
-    x as u64
-}
-
 fn bit(b: bool) -> u64
     ensures { λ r. ⌜ r ≡ cond b 1 0 ⌝ }
 {
@@ -105,7 +99,7 @@ pub fn numbers_of(answer: Answer) -> Numbers
         Answer::Yes => tagged(YES, 0, 0),
         Answer::Advanced(moved) => tagged(ADVANCED, bit(moved), 0),
         Answer::Truth(b) => tagged(TRUTH, bit(b), 0),
-        Answer::Number(n) => tagged(NUMBER, wide(n), 0),
+        Answer::Number(n) => tagged(NUMBER, width::wide(n), 0),
         Answer::Wrote(n) => tagged(WROTE, n as u64, 0),
         Answer::Said(n) => tagged(SAID, n as u64, 0),
         Answer::No(q) => tagged(NO, q as u64, 0),

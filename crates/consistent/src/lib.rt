@@ -14,19 +14,13 @@ ghost use Rattle.received.specs.Lent.{pairs};
 ghost use Rattle.consistent.specs.Asked.{Placed, chainsAsked};
 ghost use Rattle.consistent.specs.Cells.{chainWidth, supersededAt, gens, supersededs, oneCurrent, ChainsStand, placeNumber, placeNumbers, PlacesStand, ascending};
 
-fn wide(x: u8) -> u64
-    ensures { λ r. ⌜ (r ≡ x) × (r < 256) ⌝ }
-{
-    x as u64
-}
-
 // The number in four bytes, the most significant first.
 fn be32(bytes: &[u8], at: usize) -> u64
     requires { ⌜ at + 4 ≤ length (now bytes) ⌝ }
     ensures { λ r. ⌜ (r ≡ bigEndian 4 (drop at (now (bytes .entry)))) × (r < 2 ^ 32) ⌝ }
 {
-    let high = wide(bytes[at]) * 256 + wide(bytes[at + 1]);
-    let low = wide(bytes[at + 2]) * 256 + wide(bytes[at + 3]);
+    let high = width::wide_byte(bytes[at]) * 256 + width::wide_byte(bytes[at + 1]);
+    let low = width::wide_byte(bytes[at + 2]) * 256 + width::wide_byte(bytes[at + 3]);
     high * 65536 + low
 }
 
@@ -124,7 +118,7 @@ fn place_at(bytes: &[u8], at: usize) -> u64
     requires { ⌜ at + 46 ≤ length (now bytes) ⌝ }
     ensures { λ r. ⌜ (r ≡ placeNumber (drop at (now (bytes .entry)))) × (r < 2 ^ 40) ⌝ }
 {
-    wide(bytes[at]) * 4_294_967_296 + be32(bytes, at + 2)
+    width::wide_byte(bytes[at]) * 4_294_967_296 + be32(bytes, at + 2)
 }
 
 // Whether each place is above the one before it.
@@ -152,7 +146,7 @@ fn is_place(bytes: &[u8], at: usize, place: u64) -> bool
     requires { ⌜ at + 46 ≤ length (now bytes) ⌝ }
     ensures { λ r. ⌜ r ≡ eqb place (placeNumber (drop at (now (bytes .entry)))) ⌝ }
 {
-    if wide(bytes[at + 5]) == place % 256 {
+    if width::wide_byte(bytes[at + 5]) == place % 256 {
         return place == place_at(bytes, at);
     }
     false

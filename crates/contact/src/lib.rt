@@ -16,7 +16,7 @@ use rows::PairingRole;
 use rows::Verdict;
 use rows::Verification;
 ghost use mathlib.Core.Path.{_≡_};
-ghost use Prim.Native.Nat.{_/_, _^_, _<_};
+ghost use Prim.Native.Nat.{_/_, _<_};
 ghost use Rattle.layout.specs.Layout.{readRow};
 ghost use Rattle.rows.specs.Rows as layouts;
 ghost use Rattle.numbers.specs.Lists.{counts, roomFor};
@@ -105,12 +105,6 @@ impl ContactCheck {
     }
 }
 
-fn wide(x: u32) -> u64
-    ensures { λ r. ⌜ (r ≡ x) × (r < 2 ^ 32) ⌝ }
-{
-    x as u64
-}
-
 // Questions 17 to 20, of chains and skipped keys that were read.
 fn chains_consistent(row: &[u8], at: ChainedAt) -> Verdict
     requires { ⌜ ChainedLists (now row) at ⌝ }
@@ -147,7 +141,7 @@ fn numbers_consistent(row: &[u8], sent: u32, at: NumbersAt) -> Verdict
         return Verdict::Refused(question::UNACKED);
     }
     let above = at.above;
-    let from = wide(at.contiguous) + 2;
+    let from = width::wide(at.contiguous) + 2;
     if !consistent::canonical_in_row(row, above.first, above.count, from, u32::MAX) {
         return Verdict::Refused(question::ABOVE);
     }

@@ -21,12 +21,6 @@ ghost use Rattle.contact_row.specs.Sizes.{sendSize, rowSize};
 // The most items that a count of a row says.
 const MAX_COUNT: usize = 65_535;
 
-fn wide(x: u32) -> u64
-    ensures { λ r. ⌜ (r ≡ x) × (r < 2 ^ 32) ⌝ }
-{
-    x as u64
-}
-
 // Question 36 of one list, which holds so many items.
 fn within(count: usize, items: usize) -> bool
     ensures { λ r. ⌜ r ≡ within count items ⌝ }
@@ -97,7 +91,7 @@ fn numbers_consistent(contact: Contact, above: &[u32], unacked: &[u32], expired:
     if !consistent::rising_lent(unacked, contact.unacked, sent) {
         return Verdict::Refused(question::UNACKED);
     }
-    let from = wide(contact.contiguous) + 2;
+    let from = width::wide(contact.contiguous) + 2;
     if !consistent::canonical_lent(above, contact.above, from, u32::MAX) {
         return Verdict::Refused(question::ABOVE);
     }

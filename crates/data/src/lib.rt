@@ -17,12 +17,6 @@ pub enum Leb128Field {
     Refused(u8),
 }
 
-fn wide(x: u8) -> u64
-    ensures { λ r. ⌜ r ≡ x ⌝ }
-{
-    x as u64
-}
-
 // The number at a position. `left` more bytes may follow the one at `here`: the fifth is at most 0x0f, and no zero comes last behind others.
 pub fn leb128_at(row: &[u8], at: usize) -> Leb128Field
     ensures { λ r. ⌜ leb128Says r ≡ readAt leb128 (now (row .entry)) at ⌝ }
@@ -44,7 +38,7 @@ pub fn leb128_at(row: &[u8], at: usize) -> Leb128Field
             }
         }
         here += 1;
-        value += wide(byte % 128) * scale;
+        value += width::wide_byte(byte % 128) * scale;
         if byte < 0x80 {
             return Leb128Field::Value(value as u32, here);
         }

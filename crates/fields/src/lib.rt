@@ -142,12 +142,6 @@ pub fn run_at(row: &[u8], at: usize, n: usize) -> RunField
     RunField::Short
 }
 
-fn wide(x: u8) -> u64
-    ensures { λ r. ⌜ r ≡ x ⌝ }
-{
-    x as u64
-}
-
 // The number in the w bytes from at, the most significant first.
 fn big_endian(row: &[u8], at: usize, w: usize) -> u64
     requires { ⌜ (w ≤ 8) × (at + w ≤ length (now row)) ⌝ }
@@ -156,7 +150,7 @@ fn big_endian(row: &[u8], at: usize, w: usize) -> u64
     let mut n: u64 = 0;
     let mut i: usize = 0;
     while i < w {
-        n = n * 256 + wide(row[at + i]);
+        n = n * 256 + width::wide_byte(row[at + i]);
         i += 1;
     }
     n

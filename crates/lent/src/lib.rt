@@ -176,12 +176,6 @@ pub fn put_skipped(out: &mut [u8], at: usize, lent: &[u8], count: usize) -> usiz
     put::put_run(out, at, lent, 0, SKIPPED_PLACE * count)
 }
 
-fn wide(x: u32) -> u64
-    ensures { λ r. ⌜ r ≡ x ⌝ }
-{
-    x as u64
-}
-
 // The first `count` numbers of a lent list; the position behind them.
 pub fn put_numbers(out: &mut [u8], at: usize, list: &[u32], count: usize) -> usize
     requires { ⌜ (count ≤ length (now list)) × (at + 4 * count ≤ length (now out)) ⌝ }
@@ -190,7 +184,7 @@ pub fn put_numbers(out: &mut [u8], at: usize, list: &[u32], count: usize) -> usi
     let mut p = at;
     let mut i = 0;
     while i < count {
-        p = put::put_be(out, p, 4, wide(list[i]));
+        p = put::put_be(out, p, 4, width::wide(list[i]));
         i += 1;
     }
     p

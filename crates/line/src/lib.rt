@@ -26,12 +26,6 @@ const LETTER_S: u8 = 0x53;
 // The numbers of a line.
 const FIELDS: usize = 7;
 
-fn wide(x: u32) -> u64
-    ensures { λ r. ⌜ (r ≡ x) × (r < 2 ^ 32) ⌝ }
-{
-    x as u64
-}
-
 // How many digits a number has.
 pub fn decimal_len(n: u64) -> usize
     ensures { λ r. ⌜ (r ≡ length (decimal n)) × (r ≤ 20) ⌝ }
@@ -119,9 +113,9 @@ pub fn statement_line(
 ) -> Written
     ensures { λ r. ⌜ leaves r (now (out .exit)) ≡ stored (lineOf (contact .0) sent acked contiguous beyond queued expired) (now (out .entry)) ⌝ }
 {
-    let n = wide(sent);
-    let a = wide(acked);
-    let c = wide(contiguous);
+    let n = width::wide(sent);
+    let a = width::wide(acked);
+    let c = width::wide(contiguous);
     let fields = [contact.0, n, a, c, beyond, queued, expired];
     let len = line_len(fields);
     if out.len() < len {
@@ -138,7 +132,7 @@ fn width(from: u32, to: u32) -> u64
     if to < from {
         return 0;
     }
-    wide(to - from) + 1
+    width::wide(to - from) + 1
 }
 
 // How many numbers the first `held` ranges of the list hold.

@@ -4,7 +4,7 @@
 use layout::question;
 ghost use mathlib.Core.Path.{_≡_};
 ghost use mathlib.Core.List.{_∷_, _++_};
-ghost use Prim.Native.Nat.{_+_, _-_, _*_, _^_, _≤_, _<_, min, max};
+ghost use Prim.Native.Nat.{_+_, _-_, _*_, _≤_, _<_, min, max};
 ghost use lib.ListN.{length, getD, take, drop};
 ghost use Rattle.layout.specs.Veil.{zeros};
 ghost use Rattle.rows.specs.Checks.{any};
@@ -39,12 +39,6 @@ struct Merged {
     next: usize,
     from: u32,
     to: u32,
-}
-
-fn wide(x: u32) -> u64
-    ensures { λ r. ⌜ (r ≡ x) × (r < 2 ^ 32) ⌝ }
-{
-    x as u64
 }
 
 fn lower(x: u32, y: u32) -> u32
@@ -114,7 +108,7 @@ fn below(above: &[u32], held: usize, from: u32) -> usize
     let mut i = 0;
     while i < held {
         let b = above[2 * i + 1];
-        if wide(from) <= wide(b) + 1 {
+        if width::wide(from) <= width::wide(b) + 1 {
             return i;
         }
         i += 1;
@@ -134,7 +128,7 @@ fn merge(above: &[u32], held: usize, i: usize, from: u32, to: u32) -> Merged
     while next < held {
         let x = above[2 * next];
         let y = above[2 * next + 1];
-        if wide(b) + 1 < wide(x) {
+        if width::wide(b) + 1 < width::wide(x) {
             return Merged {
                 next,
                 from: a,
@@ -157,7 +151,7 @@ fn change_of(contiguous: u32, above: &[u32], held: usize, from: u32, to: u32) ->
     requires { ⌜ 2 * held ≤ length (now above) ⌝ }
     ensures { λ r. ⌜ r ≡ changeOf (receivedIn contiguous held (now (above .entry))) from to ⌝ }
 {
-    if wide(from) <= wide(contiguous) + 1 {
+    if width::wide(from) <= width::wide(contiguous) + 1 {
         let m = merge(above, held, 0, 0, higher(to, contiguous));
         let after = held - m.next;
         return Change {

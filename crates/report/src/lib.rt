@@ -22,12 +22,6 @@ const LETTER_R: u8 = 0x52;
 
 const LETTER_X: u8 = 0x58;
 
-fn wide(b: u8) -> u64
-    ensures { λ r. ⌜ r ≡ b ⌝ }
-{
-    b as u64
-}
-
 fn least(a: usize, b: usize) -> usize
     ensures { λ r. ⌜ (r ≡ min a b) × (r ≤ b) ⌝ }
 {
@@ -47,7 +41,7 @@ fn report_store(run: &[u8], places: &[u64], n: usize, out: &mut [u8]) -> Written
     match answer {
         Restored::Granted(_, next_slot) => text::write_granted(run, places, n, next_slot, out),
         Restored::Refused(number, place) => {
-            text::write_refused(LETTER_R, wide(number), place as u64, out)
+            text::write_refused(LETTER_R, width::wide_byte(number), place as u64, out)
         }
     }
 }
@@ -71,7 +65,7 @@ pub fn report(state: State, run: &[u8], places: &[u64], out: &mut [u8]) -> Writt
     match answer {
         Answer::Read(lines, used) => report_read(run, places, lines, used, out),
         Answer::Refused(number, line) => {
-            text::write_refused(LETTER_X, wide(number), line as u64, out)
+            text::write_refused(LETTER_X, width::wide_byte(number), line as u64, out)
         }
     }
 }

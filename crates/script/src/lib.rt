@@ -95,19 +95,13 @@ const TABLE: [u8; CODES * ROW] = *b"\
     state............000\
 ";
 
-fn wide(b: u8) -> usize
-    ensures { λ r. ⌜ (r ≡ b) × (r ≤ 255) ⌝ }
-{
-    b as usize
-}
-
 fn narrow_of(table: &[u8], code: u8) -> usize
     requires { ⌜ now table ≡ TABLE ⌝ }
     ensures { λ r. ⌜ (r ≡ narrowOf code) × (r ≤ 255) ⌝ }
 {
-    let i = wide(code);
+    let i = width::index(code);
     if i < CODES {
-        return wide(table[i * ROW + NARROW] - b'0');
+        return width::index(table[i * ROW + NARROW] - b'0');
     }
     0
 }
@@ -116,9 +110,9 @@ fn wide_of(table: &[u8], code: u8) -> usize
     requires { ⌜ now table ≡ TABLE ⌝ }
     ensures { λ r. ⌜ (r ≡ wideOf code) × (r ≤ 255) ⌝ }
 {
-    let i = wide(code);
+    let i = width::index(code);
     if i < CODES {
-        return wide(table[i * ROW + WIDE] - b'0');
+        return width::index(table[i * ROW + WIDE] - b'0');
     }
     0
 }
@@ -127,9 +121,9 @@ fn others_of(table: &[u8], code: u8) -> usize
     requires { ⌜ now table ≡ TABLE ⌝ }
     ensures { λ r. ⌜ (r ≡ othersOf code) × (r ≤ 255) ⌝ }
 {
-    let i = wide(code);
+    let i = width::index(code);
     if i < CODES {
-        return wide(table[i * ROW + OTHER] - b'0');
+        return width::index(table[i * ROW + OTHER] - b'0');
     }
     0
 }
@@ -248,7 +242,7 @@ fn with_digit(n: u64, b: u8, highest: u64) -> Said
     ensures { λ r. ⌜ decimalSays r ≡ cond (isDigit b && leb (n * 10 + (b - 0x30)) highest) (some (n * 10 + (b - 0x30))) none ⌝ }
 {
     if is_digit(b) {
-        let d = wide(b - 0x30) as u64;
+        let d = width::index(b - 0x30) as u64;
         if highest < d {
             return Said::Nothing;
         }

@@ -177,18 +177,6 @@ fn highest(kind: u32, left: u8) -> u64
     u64::MAX
 }
 
-fn wide(b: u8) -> u64
-    ensures { λ r. ⌜ (r ≡ b) × (r ≤ 255) ⌝ }
-{
-    b as u64
-}
-
-fn wide_32(n: u32) -> u64
-    ensures { λ r. ⌜ (r ≡ n) × (r ≤ U32) ⌝ }
-{
-    n as u64
-}
-
 fn is_digit(b: u8) -> bool
     ensures { λ r. ⌜ r ≡ isDigit b ⌝ }
 {
@@ -202,7 +190,7 @@ fn take_digit(s: State, b: u8) -> State
     ensures { λ r. ⌜ r ≡ digitStep b s ⌝ }
 {
     if is_digit(b) {
-        let d = wide(b - b'0');
+        let d = width::wide_byte(b - b'0');
         let most = highest(s.kind, s.left);
         let n = s.number;
         if (most - d) / 10 < n {
@@ -362,7 +350,7 @@ fn put_six(places: &mut [u64], at: usize, s: State)
     requires { ⌜ at + 6 ≤ length (now places) ⌝ }
     ensures { λ r. ⌜ now (places .exit) ≡ put (now (places .entry)) at (six s) ⌝ }
 {
-    places[at] = wide_32(s.kind);
+    places[at] = width::wide(s.kind);
     places[at + 1] = id_in(s);
     places[at + 2] = s.start as u64;
     places[at + 3] = difference(s.used, s.start) as u64;

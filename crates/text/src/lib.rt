@@ -144,25 +144,13 @@ fn queued_in(places: &[u64], n: usize, id: ContactId) -> u64
 
 // ---- a line's numbers
 
-fn wide_byte(x: u8) -> u64
-    ensures { λ r. ⌜ (r ≡ x) × (r < 256) ⌝ }
-{
-    x as u64
-}
-
-fn wide(x: u32) -> u64
-    ensures { λ r. ⌜ (r ≡ x) × (r < 2 ^ 32) ⌝ }
-{
-    x as u64
-}
-
 // The number in four bytes, the most significant first.
 fn be32(bytes: &[u8], at: usize) -> u64
     requires { ⌜ at + 4 ≤ length (now bytes) ⌝ }
     ensures { λ r. ⌜ (r ≡ bigEndian 4 (drop at (now (bytes .entry)))) × (r < 2 ^ 32) ⌝ }
 {
-    let high = wide_byte(bytes[at]) * 256 + wide_byte(bytes[at + 1]);
-    let low = wide_byte(bytes[at + 2]) * 256 + wide_byte(bytes[at + 3]);
+    let high = width::wide_byte(bytes[at]) * 256 + width::wide_byte(bytes[at + 1]);
+    let low = width::wide_byte(bytes[at + 2]) * 256 + width::wide_byte(bytes[at + 3]);
     high * 65536 + low
 }
 
@@ -213,10 +201,10 @@ fn row_line(row: &[u8], version: u32, id: ContactId, queued: u64) -> Line
     let ContactCheck::Fields(at) = check else {
         return no_line();
     };
-    let sent = wide(at.keys.sent_msgno);
+    let sent = width::wide(at.keys.sent_msgno);
     let numbers = at.numbers;
-    let acked = wide(numbers.peer_acked);
-    let contiguous = wide(numbers.contiguous);
+    let acked = width::wide(numbers.peer_acked);
+    let contiguous = width::wide(numbers.contiguous);
     let above = numbers.above;
     let beyond = numbers_in_row(row, above.first, above.count);
     let gone = numbers.expired;

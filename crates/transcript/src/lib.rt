@@ -11,7 +11,7 @@ use rows::ContactId;
 use rows::Written;
 ghost use mathlib.Core.Path.{_≡_};
 ghost use mathlib.Core.List.{[], _∷_, _++_};
-ghost use Prim.Native.Nat.{_+_, _-_, _*_, _^_, _≤_, _<_};
+ghost use Prim.Native.Nat.{_+_, _-_, _*_, _≤_, _<_};
 ghost use lib.ListN.{length};
 ghost use lib.Dec.{leb};
 ghost use Rattle.layout.specs.Write.{stored};
@@ -160,12 +160,6 @@ pub fn answer_line(tag: u64, a: u64, b: u64, bytes: &[u8], out: &mut [u8]) -> Wr
 
 // ---- the state of an open contact
 
-fn wide(x: u32) -> u64
-    ensures { λ r. ⌜ (r ≡ x) × (r < 2 ^ 32) ⌝ }
-{
-    x as u64
-}
-
 // The length of a range and the mark before it.
 fn range_len(from: u64, to: u64) -> usize
     ensures { λ r. ⌜ (r ≡ length (SPACE ∷ rangeText (range from to))) × (r ≤ 42) ⌝ }
@@ -181,8 +175,8 @@ fn listed_fit(above: &[u32], count: usize, room: usize) -> bool
     let mut left = room;
     let mut i = 0;
     while i < count {
-        let from = wide(above[2 * i]);
-        let to = wide(above[2 * i + 1]);
+        let from = width::wide(above[2 * i]);
+        let to = width::wide(above[2 * i + 1]);
         let n = range_len(from, to);
         if left < n {
             return false;
@@ -221,8 +215,8 @@ fn put_listed(out: &mut [u8], at: usize, above: &[u32], count: usize) -> usize
     let mut here = at;
     let mut i = 0;
     while i < count {
-        let from = wide(above[2 * i]);
-        let to = wide(above[2 * i + 1]);
+        let from = width::wide(above[2 * i]);
+        let to = width::wide(above[2 * i + 1]);
         here = put_range(out, here, mark, from, to);
         mark = SEMICOLON;
         i += 1;

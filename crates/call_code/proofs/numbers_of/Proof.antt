@@ -68,7 +68,7 @@ returns-3 : tie.Need-returns-3
 returns-3 c = λ out. rw (c .before .before .before .answer2 .given .1, c .tagged3 .ensures, c .before .bit2 .ensures)
 
 returns-4 : tie.Need-returns-4
-returns-4 c = λ out. rw (c .before .before .before .answer3 .given .1, c .tagged4 .ensures, c .before .wide .ensures)
+returns-4 c = λ out. rw (c .before .before .before .answer3 .given .1, c .tagged4 .ensures, c .before .wide .ensures .0)
 
 returns-5 : tie.Need-returns-5
 returns-5 c = λ out. rw (c .before .before .answer4 .given .1, c .tagged5 .ensures)

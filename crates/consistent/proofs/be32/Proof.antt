@@ -12,47 +12,47 @@ use borrow.Author.Needs.{needs}
 use Rattle.consistent.proofs.be32.Statement.{statement}
 use Rattle.consistent.proofs.be32.Tie as tie
 
-shared-slice-read-wide : tie.Need-shared-slice-read-wide
-shared-slice-read-wide c = search needs
+shared-slice-read-wide-byte : tie.Need-shared-slice-read-wide-byte
+shared-slice-read-wide-byte c = search needs
 
-wide-requires : tie.Need-wide-requires
-wide-requires c κs = search needs
+wide-byte-requires : tie.Need-wide-byte-requires
+wide-byte-requires c κs = search needs
 
 mul-high : tie.Need-mul-high
 mul-high c = search needs
 
-add-wide : tie.Need-add-wide
-add-wide c = search needs
+add-wide-byte : tie.Need-add-wide-byte
+add-wide-byte c = search needs
 
-shared-slice-read-wide-2 : tie.Need-shared-slice-read-wide-2
-shared-slice-read-wide-2 c = search needs
+shared-slice-read-wide-byte-2 : tie.Need-shared-slice-read-wide-byte-2
+shared-slice-read-wide-byte-2 c = search needs
 
-wide-requires-2 : tie.Need-wide-requires-2
-wide-requires-2 c κs = search needs
+wide-byte-requires-2 : tie.Need-wide-byte-requires-2
+wide-byte-requires-2 c κs = search needs
 
 add-high : tie.Need-add-high
 add-high c = search needs
 
-add-wide-2 : tie.Need-add-wide-2
-add-wide-2 c = search needs
+add-wide-byte-2 : tie.Need-add-wide-byte-2
+add-wide-byte-2 c = search needs
 
-shared-slice-read-wide-3 : tie.Need-shared-slice-read-wide-3
-shared-slice-read-wide-3 c = search needs
+shared-slice-read-wide-byte-3 : tie.Need-shared-slice-read-wide-byte-3
+shared-slice-read-wide-byte-3 c = search needs
 
-wide-requires-3 : tie.Need-wide-requires-3
-wide-requires-3 c κs = search needs
+wide-byte-requires-3 : tie.Need-wide-byte-requires-3
+wide-byte-requires-3 c κs = search needs
 
 mul-low : tie.Need-mul-low
 mul-low c = search needs
 
-add-wide-3 : tie.Need-add-wide-3
-add-wide-3 c = search needs
+add-wide-byte-3 : tie.Need-add-wide-byte-3
+add-wide-byte-3 c = search needs
 
-shared-slice-read-wide-4 : tie.Need-shared-slice-read-wide-4
-shared-slice-read-wide-4 c = search needs
+shared-slice-read-wide-byte-4 : tie.Need-shared-slice-read-wide-byte-4
+shared-slice-read-wide-byte-4 c = search needs
 
-wide-requires-4 : tie.Need-wide-requires-4
-wide-requires-4 c κs = search needs
+wide-byte-requires-4 : tie.Need-wide-byte-requires-4
+wide-byte-requires-4 c κs = search needs
 
 add-low : tie.Need-add-low
 add-low c = search needs
@@ -71,26 +71,26 @@ four l at a b c d ea eb ec ed = simp (getD-drop, add-zero) (omega arith)
 returns : tie.Need-returns
 returns c =
     let s = c .before .before .before .before .before .before .before .before .before in
-    (four (s .args .bytes .now) (s .args .at) _ _ _ _ (c .before .before .before .before .before .before .wide .ensures .0) (c .before .before .before .before .wide2 .ensures .0) (c .before .before .wide3 .ensures .0) (c .wide4 .ensures .0), search needs)
+    (four (s .args .bytes .now) (s .args .at) _ _ _ _ (c .before .before .before .before .before .before .wide-byte .ensures .0) (c .before .before .before .before .wide-byte2 .ensures .0) (c .before .before .wide-byte3 .ensures .0) (c .wide-byte4 .ensures .0), search needs)
 
 pub be32-spec : {M : Type 1} → statement M
 be32-spec =
     tie.close
     (tie.spec
-    shared-slice-read-wide
-    wide-requires
+    shared-slice-read-wide-byte
+    wide-byte-requires
     mul-high
-    add-wide
-    shared-slice-read-wide-2
-    wide-requires-2
+    add-wide-byte
+    shared-slice-read-wide-byte-2
+    wide-byte-requires-2
     add-high
-    add-wide-2
-    shared-slice-read-wide-3
-    wide-requires-3
+    add-wide-byte-2
+    shared-slice-read-wide-byte-3
+    wide-byte-requires-3
     mul-low
-    add-wide-3
-    shared-slice-read-wide-4
-    wide-requires-4
+    add-wide-byte-3
+    shared-slice-read-wide-byte-4
+    wide-byte-requires-4
     add-low
     mul-result
     add-result

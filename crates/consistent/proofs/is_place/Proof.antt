@@ -18,14 +18,14 @@ last : (l : List ℕ) (at d : ℕ) → d ≡ getD l (at + 5) 0 → d < 256 → d
 unfolding form.bigEndian
 last l at d e small = simp getD-drop (omega arith)
 
-add-wide : tie.Need-add-wide
-add-wide c = search needs
+add-wide-byte : tie.Need-add-wide-byte
+add-wide-byte c = search needs
 
-shared-slice-read-wide : tie.Need-shared-slice-read-wide
-shared-slice-read-wide c = search needs
+shared-slice-read-wide-byte : tie.Need-shared-slice-read-wide-byte
+shared-slice-read-wide-byte c = search needs
 
-wide-requires : tie.Need-wide-requires
-wide-requires c κs = search needs
+wide-byte-requires : tie.Need-wide-byte-requires
+wide-byte-requires c κs = search needs
 
 place-at-requires : tie.Need-place-at-requires
 place-at-requires c κs = search needs
@@ -41,9 +41,9 @@ returns-2 c =
     let at = s .args .at in
     sym
     (ne-eqb (s .args .place) (placeNumber (drop at l)) (λ same.
-    c .if1 .left (last l at (w .wide .result) (w .wide .ensures .0) (w .wide .ensures .1) ∙ ap (λ (n : ℕ). n % 256) (sym same))))
+    c .if1 .left (last l at (w .wide-byte .result) (w .wide-byte .ensures .0) (w .wide-byte .ensures .1) ∙ ap (λ (n : ℕ). n % 256) (sym same))))
 
 pub is-place-spec : {M : Type 1} → statement M
 is-place-spec =
     tie.close
-    (tie.spec add-wide shared-slice-read-wide wide-requires place-at-requires returns returns-2)
+    (tie.spec add-wide-byte shared-slice-read-wide-byte wide-byte-requires place-at-requires returns returns-2)

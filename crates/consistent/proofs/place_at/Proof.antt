@@ -5,11 +5,11 @@ use borrow.Author.Needs.{needs}
 use Rattle.consistent.proofs.place_at.Statement.{statement}
 use Rattle.consistent.proofs.place_at.Tie as tie
 
-shared-slice-read-wide : tie.Need-shared-slice-read-wide
-shared-slice-read-wide c = search needs
+shared-slice-read-wide-byte : tie.Need-shared-slice-read-wide-byte
+shared-slice-read-wide-byte c = search needs
 
-wide-requires : tie.Need-wide-requires
-wide-requires c κs = search needs
+wide-byte-requires : tie.Need-wide-byte-requires
+wide-byte-requires c κs = search needs
 
 mul-result : tie.Need-mul-result
 mul-result c = search needs
@@ -24,14 +24,14 @@ add-result : tie.Need-add-result
 add-result c = search needs
 
 returns : tie.Need-returns
-returns c = (rw (getD-drop, add-zero, drop-drop, ← c .before .wide .ensures .0, ← c .be32 .ensures .0), search needs)
+returns c = (rw (getD-drop, add-zero, drop-drop, ← c .before .wide-byte .ensures .0, ← c .be32 .ensures .0), search needs)
 
 pub place-at-spec : {M : Type 1} → statement M
 place-at-spec =
     tie.close
     (tie.spec
-    shared-slice-read-wide
-    wide-requires
+    shared-slice-read-wide-byte
+    wide-byte-requires
     mul-result
     add-be32
     be32-requires

@@ -35,24 +35,24 @@ returns-2 c =
 add-here : tie.Need-add-here Inv-loop μ-loop
 add-here c = search needs
 
-wide-requires : tie.Need-wide-requires Inv-loop μ-loop
-wide-requires c κs = search needs
+wide-byte-requires : tie.Need-wide-byte-requires Inv-loop μ-loop
+wide-byte-requires c κs = search needs
 
 mul-value : tie.Need-mul-value Inv-loop μ-loop
 mul-value c =
     let inv = c .before .before .before .before .before .loop .inv in
-    omega (arith, small inv, added inv {x = c .wide .result} (omega arith))
+    omega (arith, small inv, added inv {x = c .wide-byte .result} (omega arith))
 
 add-value : tie.Need-add-value Inv-loop μ-loop
 add-value c =
     let inv = c .before .before .before .before .before .loop .inv in
-    omega (arith, small inv, added inv {x = c .wide .result} (omega arith))
+    omega (arith, small inv, added inv {x = c .wide-byte .result} (omega arith))
 
 cast-t16 : tie.Need-cast-t16 Inv-loop μ-loop
 cast-t16 c =
     let inv = c .before .before .before .before .before .before .loop .inv in
     let fifth = c .before .before .before .if1 .came in
-    omega (arith, narrow inv {x = c .before .wide .result} (omega arith) (λ e. ⊎-elim (λ w. omega arith) (λ w. absurd (w .left e)) fifth))
+    omega (arith, narrow inv {x = c .before .wide-byte .result} (omega arith) (λ e. ⊎-elim (λ w. omega arith) (λ w. absurd (w .left e)) fifth))
 
 returns-3 : tie.Need-returns-3 Inv-loop μ-loop
 returns-3 c =
@@ -60,7 +60,7 @@ returns-3 c =
     let fifth = c .before .before .before .if1 .came in
     let last = c .before .before .if3 .came in
     sym
-    (number-ends (turn .before .loop .inv) (turn .loop-test .taken) (c .before .wide .ensures)
+    (number-ends (turn .before .loop .inv) (turn .loop-test .taken) (c .before .wide-byte .ensures .0)
     (λ e. ⊎-elim (λ w. w .1 .left) (λ w. absurd (w .left e)) fifth)
     (λ l e. ⊎-elim (λ w. omega arith) (λ w. w .left e) last)
     (c .if5 .taken))
@@ -78,7 +78,7 @@ loop-again : tie.Need-loop-again Inv-loop μ-loop
 loop-again c =
     let turn = c .before .before .before .before .before in
     let some : 0 < turn .before .loop .left = ⊎-elim (λ w. omega arith) (λ w. omega arith) (c .before .before .before .if1 .came) in
-    goes-on (turn .before .loop .inv) (turn .loop-test .taken) (c .before .wide .ensures) some (c .if5 .left)
+    goes-on (turn .before .loop .inv) (turn .loop-test .taken) (c .before .wide-byte .ensures .0) some (c .if5 .left)
 
 returns-4 : tie.Need-returns-4 Inv-loop μ-loop
 returns-4 c = sym (row-ends (c .before .loop .inv) (c .loop-test .left))
@@ -86,4 +86,4 @@ returns-4 c = sym (row-ends (c .before .loop .inv) (c .loop-test .left))
 pub leb128-at-spec : {M : Type 1} → statement M
 leb128-at-spec =
     tie.close
-    (tie.spec Inv-loop μ-loop loop-holds shared-slice-read-byte returns returns-2 add-here wide-requires mul-value add-value cast-t16 returns-3 mul-scale sub-left loop-less loop-again returns-4)
+    (tie.spec Inv-loop μ-loop loop-holds shared-slice-read-byte returns returns-2 add-here wide-byte-requires mul-value add-value cast-t16 returns-3 mul-scale sub-left loop-less loop-again returns-4)

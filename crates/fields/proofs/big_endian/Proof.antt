@@ -39,14 +39,14 @@ mul-n c =
     let a = c .before .before .before .args in
     omega (arith, small (a .row .now) (a .at) (c .before .loop .i) (typed (a .row .now) (c .before .before .shared-slice-known .given)) (omega arith))
 
-add-wide : tie.Need-add-wide Inv-loop μ-loop
-add-wide c = search needs
+add-wide-byte : tie.Need-add-wide-byte Inv-loop μ-loop
+add-wide-byte c = search needs
 
-shared-slice-read-wide : tie.Need-shared-slice-read-wide Inv-loop μ-loop
-shared-slice-read-wide c = search needs
+shared-slice-read-wide-byte : tie.Need-shared-slice-read-wide-byte Inv-loop μ-loop
+shared-slice-read-wide-byte c = search needs
 
-wide-requires : tie.Need-wide-requires Inv-loop μ-loop
-wide-requires c κs = search needs
+wide-byte-requires : tie.Need-wide-byte-requires Inv-loop μ-loop
+wide-byte-requires c κs = search needs
 
 add-n : tie.Need-add-n Inv-loop μ-loop
 add-n c =
@@ -73,4 +73,4 @@ returns c =
 pub big-endian-spec : {M : Type 1} → statement M
 big-endian-spec =
     tie.close
-    (tie.spec Inv-loop μ-loop loop-holds mul-n add-wide shared-slice-read-wide wide-requires add-n add-i loop-less loop-again returns)
+    (tie.spec Inv-loop μ-loop loop-holds mul-n add-wide-byte shared-slice-read-wide-byte wide-byte-requires add-n add-i loop-less loop-again returns)

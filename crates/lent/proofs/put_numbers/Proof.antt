@@ -43,7 +43,7 @@ loop-again c =
     let s = l .before .before .before in
     let w = u .before in
     let t = numbers-turn (s .args .list .now) (s .args .count) (l .loop .i) (s .pre .0) (u .before .before .before .before .loop-test .taken) in
-    (search needs, search needs, writing-step _ (rw t at (l .loop .inv .2)) (rw (w .wide .ensures) at (u .put-be .ensures .1)))
+    (search needs, search needs, writing-step _ (rw t at (l .loop .inv .2)) (rw (w .wide .ensures .0) at (u .put-be .ensures .1)))
 
 same-length : tie.Need-same-length Inv-loop μ-loop
 same-length c = search needs

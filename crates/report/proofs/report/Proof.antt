@@ -17,8 +17,8 @@ report-read-requires c κs = search needs
 enum-known-answer-2 : tie.Need-enum-known-answer-2
 enum-known-answer-2 c = search needs
 
-wide-requires : tie.Need-wide-requires
-wide-requires c κs = search needs
+wide-byte-requires : tie.Need-wide-byte-requires
+wide-byte-requires c κs = search needs
 
 write-refused-requires : tie.Need-write-refused-requires
 write-refused-requires c κs = search needs
@@ -44,7 +44,7 @@ returns-2 c =
     let k = b .before .before in
     let f = k .before .before in
     let a = f .before .before .before .before .args in
-    as-text (a .out .now) (refused-report (a .run .now) (a .places .now) (f .finish .ensures) (k .answer2 .given .1) (b .wide .ensures)) (w .write-refused .ensures)
+    as-text (a .out .now) (refused-report (a .run .now) (a .places .now) (f .finish .ensures) (k .answer2 .given .1) (b .wide-byte .ensures .0)) (w .write-refused .ensures)
 
 pub report-spec : {M : Type 1} → statement M
 report-spec =
@@ -54,7 +54,7 @@ report-spec =
     enum-known-answer
     report-read-requires
     enum-known-answer-2
-    wide-requires
+    wide-byte-requires
     write-refused-requires
     same-length
     returns

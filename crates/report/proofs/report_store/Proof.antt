@@ -17,8 +17,8 @@ write-granted-requires c κs = search needs
 enum-known-answer-2 : tie.Need-enum-known-answer-2
 enum-known-answer-2 c = search needs
 
-wide-requires : tie.Need-wide-requires
-wide-requires c κs = search needs
+wide-byte-requires : tie.Need-wide-byte-requires
+wide-byte-requires c κs = search needs
 
 write-refused-requires : tie.Need-write-refused-requires
 write-refused-requires c κs = search needs
@@ -46,7 +46,7 @@ returns-2 c =
     let r = k .before .before in
     let s = r .before .before .before .before in
     let a = s .args in
-    as-text (a .out .now) (table-refused (a .run .now) (a .places .now) (a .n) (s .pre .1) (r .restore .ensures) (k .answer2 .given .1) (b .wide .ensures)) (w .write-refused .ensures)
+    as-text (a .out .now) (table-refused (a .run .now) (a .places .now) (a .n) (s .pre .1) (r .restore .ensures) (k .answer2 .given .1) (b .wide-byte .ensures .0)) (w .write-refused .ensures)
 
 pub report-store-spec : {M : Type 1} → statement M
 report-store-spec =
@@ -56,7 +56,7 @@ report-store-spec =
     enum-known-answer
     write-granted-requires
     enum-known-answer-2
-    wide-requires
+    wide-byte-requires
     write-refused-requires
     same-length
     returns

@@ -8,32 +8,32 @@ use borrow.Author.Needs.{needs}
 use Rattle.script.proofs.narrow_of.Statement.{statement}
 use Rattle.script.proofs.narrow_of.Tie as tie
 
-wide-requires : tie.Need-wide-requires
-wide-requires c κs = search needs
+index-requires : tie.Need-index-requires
+index-requires c κs = search needs
 
-mul-wide : tie.Need-mul-wide
-mul-wide c = search needs
+mul-index : tie.Need-mul-index
+mul-index c = search needs
 
-add-wide : tie.Need-add-wide
-add-wide c = search needs
+add-index : tie.Need-add-index
+add-index c = search needs
 
-shared-slice-read-wide : tie.Need-shared-slice-read-wide
-shared-slice-read-wide c = omega (arith, row-in (c .before .before .before .before .pre) (c .before .before .wide .result) (c .before .if1 .taken))
+shared-slice-read-index : tie.Need-shared-slice-read-index
+shared-slice-read-index c = omega (arith, row-in (c .before .before .before .before .pre) (c .before .before .index .result) (c .before .if1 .taken))
 
-sub-wide : tie.Need-sub-wide
-sub-wide c = narrow-digit (c .before .before .before .before .pre) (c .before .before .wide .result) (c .before .if1 .taken) .0
+sub-index : tie.Need-sub-index
+sub-index c = narrow-digit (c .before .before .before .before .pre) (c .before .before .index .result) (c .before .if1 .taken) .0
 
-wide-requires-2 : tie.Need-wide-requires-2
-wide-requires-2 c κs = search needs
+index-requires-2 : tie.Need-index-requires-2
+index-requires-2 c κs = search needs
 
 returns : tie.Need-returns
 returns c =
     let i = c .before .before .before in
-    (c .wide2 .ensures .0 ∙ narrow-digit (i .before .before .pre) (i .wide .result) (c .before .before .if1 .taken) .1 ∙ ap narrowOf (i .wide .ensures .0), search needs)
+    (c .index2 .ensures .0 ∙ narrow-digit (i .before .before .pre) (i .index .result) (c .before .before .if1 .taken) .1 ∙ ap narrowOf (i .index .ensures .0), search needs)
 
 returns-2 : tie.Need-returns-2
 returns-2 c = (sym (ap (λ (d : Command). d .narrow) (no-command (c .before .before .before .args .code) (search needs))), search needs)
 
 pub narrow-of-spec : {M : Type 1} → statement M
 narrow-of-spec =
-    tie.close (tie.spec wide-requires mul-wide add-wide shared-slice-read-wide sub-wide wide-requires-2 returns returns-2)
+    tie.close (tie.spec index-requires mul-index add-index shared-slice-read-index sub-index index-requires-2 returns returns-2)

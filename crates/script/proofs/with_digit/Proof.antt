@@ -16,11 +16,11 @@ is c = digit-is _ (sym (c .before .is-digit .ensures) ∙ c .if1 .taken)
 is-digit-requires : tie.Need-is-digit-requires
 is-digit-requires c κs = search needs
 
-sub-wide : tie.Need-sub-wide
-sub-wide c = omega (arith, is c .0)
+sub-index : tie.Need-sub-index
+sub-index c = omega (arith, is c .0)
 
-wide-requires : tie.Need-wide-requires
-wide-requires c κs = search needs
+index-requires : tie.Need-index-requires
+index-requires c κs = search needs
 
 returns : tie.Need-returns
 returns c =
@@ -47,7 +47,7 @@ returns-3 c =
     let i = c .before .before .before in
     let a = i .before .before .args in
     let fits : a .n * 10 + (a .b - 0x30) ≤ a .highest = omega (arith, is i .0, is i .1) in
-    rw (sym (i .before .is-digit .ensures) ∙ i .if1 .taken, le-leb _ _ fits, c .before .before .wide .ensures .0)
+    rw (sym (i .before .is-digit .ensures) ∙ i .if1 .taken, le-leb _ _ fits, c .before .before .index .ensures .0)
 
 returns-4 : tie.Need-returns-4
 returns-4 c = rw (sym (c .before .is-digit .ensures) ∙ c .if1 .left)
@@ -57,8 +57,8 @@ with-digit-spec =
     tie.close
     (tie.spec
     is-digit-requires
-    sub-wide
-    wide-requires
+    sub-index
+    index-requires
     returns
     returns-2
     mul-t9

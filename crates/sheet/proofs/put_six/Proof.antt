@@ -22,8 +22,8 @@ stores l at a b c d e f =
     let e5 : at + 5 ≡ suc (suc (suc (suc (suc at)))) = omega arith in
     rw (e1, e2, e3, e4, e5)
 
-wide-32-requires : tie.Need-wide-32-requires
-wide-32-requires c κs = search needs
+wide-requires : tie.Need-wide-requires
+wide-requires c κs = search needs
 
 mul-places : tie.Need-mul-places
 mul-places c = search needs
@@ -92,13 +92,13 @@ returns : tie.Need-returns
 returns c =
     let d = c .before in
     let i = d .before in
-    rw (i .before .wide-32 .ensures .0, i .id-in .ensures, d .difference .ensures, c .msgno-in .ensures) (stores _ _ _ _ _ _ _ _)
+    rw (i .before .wide .ensures .0, i .id-in .ensures, d .difference .ensures, c .msgno-in .ensures) (stores _ _ _ _ _ _ _ _)
 
 pub put-six-spec : {M : Type 1} → statement M
 put-six-spec =
     tie.close
     (tie.spec
-    wide-32-requires
+    wide-requires
     mul-places
     slice-write-places
     id-in-requires

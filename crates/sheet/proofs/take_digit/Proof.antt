@@ -17,17 +17,17 @@ is c = digit-is _ (sym (c .before .is-digit .ensures) ∙ c .if1 .taken)
 is-digit-requires : tie.Need-is-digit-requires
 is-digit-requires c κs = search needs
 
-sub-wide : tie.Need-sub-wide
-sub-wide c = omega (arith, is c .0)
+sub-wide-byte : tie.Need-sub-wide-byte
+sub-wide-byte c = omega (arith, is c .0)
 
-wide-requires : tie.Need-wide-requires
-wide-requires c κs = search needs
+wide-byte-requires : tie.Need-wide-byte-requires
+wide-byte-requires c κs = search needs
 
 highest-requires : tie.Need-highest-requires
 highest-requires c κs = search needs
 
 sub-if2 : tie.Need-sub-if2
-sub-if2 c = omega (arith, c .before .wide .ensures .0, c .highest .ensures .1, is (c .before .before) .1)
+sub-if2 c = omega (arith, c .before .wide-byte .ensures .0, c .highest .ensures .1, is (c .before .before) .1)
 
 waiting-requires : tie.Need-waiting-requires
 waiting-requires c κs = search needs
@@ -40,7 +40,7 @@ returns c =
     let w = h .before in
     let i = w .before in
     let a = i .before .before .args in
-    let over : h .highest .result < a .s .number * 10 + (a .b - 0x30) = omega (arith, t .if2 .taken, w .wide .ensures .0, is i .0, h .highest .ensures .1) in
+    let over : h .highest .result < a .s .number * 10 + (a .b - 0x30) = omega (arith, t .if2 .taken, w .wide-byte .ensures .0, is i .0, h .highest .ensures .1) in
     rw (c .waiting .ensures, sym (i .before .is-digit .ensures) ∙ i .if1 .taken, ← h .highest .ensures .0, lt-leb _ _ over)
 
 mul-next : tie.Need-mul-next
@@ -56,8 +56,8 @@ returns-2 c =
     let w = h .before in
     let i = w .before in
     let a = i .before .before .args in
-    let fits : a .s .number * 10 + (a .b - 0x30) ≤ h .highest .result = omega (arith, c .if2 .left, w .wide .ensures .0, is i .0, is i .1, h .highest .ensures .1) in
-    rw (sym (i .before .is-digit .ensures) ∙ i .if1 .taken, ← h .highest .ensures .0, le-leb _ _ fits, w .wide .ensures .0)
+    let fits : a .s .number * 10 + (a .b - 0x30) ≤ h .highest .result = omega (arith, c .if2 .left, w .wide-byte .ensures .0, is i .0, is i .1, h .highest .ensures .1) in
+    rw (sym (i .before .is-digit .ensures) ∙ i .if1 .taken, ← h .highest .ensures .0, le-leb _ _ fits, w .wide-byte .ensures .0)
 
 waiting-requires-2 : tie.Need-waiting-requires-2
 waiting-requires-2 c κs = search needs
@@ -71,8 +71,8 @@ take-digit-spec =
     tie.close
     (tie.spec
     is-digit-requires
-    sub-wide
-    wide-requires
+    sub-wide-byte
+    wide-byte-requires
     highest-requires
     sub-if2
     waiting-requires
