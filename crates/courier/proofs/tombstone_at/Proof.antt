@@ -1,4 +1,5 @@
 -- `courier::tombstone_at` meets its contract: one step of the layout for each field.
+-- Written by tools/fields/fieldgen.py, and not edited: tools/fields/README.md says how. Assumes nothing.
 use Prim.Native.Nat.{ℕ, _+_}
 use mathlib.Core.List.{List}
 use mathlib.Core.Path.{_≡_}
@@ -6,11 +7,11 @@ use native.Mathlib.Omega.{arith}
 use lib.ListN.{take, drop}
 use borrow.Author.Needs.{needs}
 use Rattle.layout.specs.Veil.{plain, veiled}
-use Rattle.layout.specs.Form.{bytes, u32}
+use Rattle.layout.specs.Form.{u32}
 use Rattle.layout.specs.Layout.{group}
 use Rattle.layout.specs.RowLaws.{Bytes}
 use Rattle.layout.proofs.Front.{number-lawful}
-use Rattle.layout.proofs.At.{Took, took, refused-at, learn, typed}
+use Rattle.layout.proofs.At.{learn, Took, typed, took, refused-at}
 use Rattle.layout.proofs.Steps.{Reached, start, field-yes, field-no, done-yes}
 use Rattle.rows.specs.Values.{Tombstone}
 use Rattle.rows.specs.Rows.{tombstone}
@@ -23,39 +24,18 @@ use Rattle.courier.specs.Courier.{tombstoneAt}
 use Rattle.courier.proofs.tombstone_at.Statement.{statement}
 use Rattle.courier.proofs.tombstone_at.Tie as tie
 
--- ---- how far reading has come at each place
+-- ---- what is known at each place
 abbrev row : tie.After-shared-slice-known → List ℕ
 row s = s .before .args .row .now
 
 abbrev from : tie.After-shared-slice-known → ℕ
 from s = s .before .args .at
 
-abbrev Read : tie.After-shared-slice-known → Type 1
-Read s = Reached tombstone (row s) (from s)
-
 by : (s : tie.After-shared-slice-known) → Bytes (row s)
 by s = typed (row s) (s .shared-slice-known .given)
 
-abbrev r0 : (s : tie.After-shared-slice-known) → Read s
-r0 s = start
-
 abbrev s1 : tie.After-known-told → tie.After-shared-slice-known
 s1 c = c .before .before .before .before
-
-abbrev tag : tie.After-known-told → ℕ
-tag c = c .before .tag .given .0 .0
-
-abbrev tag-end : tie.After-known-told → ℕ
-tag-end c = c .before .tag .given .0 .1 .0
-
-tag-took : (c : tie.After-known-told) → Took (bytes plain 16) (row (s1 c)) (from (s1 c)) (take 16 (drop (tag c) (row (s1 c)))) (tag-end c)
-tag-took c = run-took _ _ plain 16 (c .before .before .before .run-at .ensures .0) (by (s1 c)) (c .before .tag .given .1)
-
-tag-run : (c : tie.After-known-told) → Run (from (s1 c)) (take 16 (drop (tag c) (row (s1 c)))) (tag c) (tag-end c)
-tag-run c = run-starts _ _ 16 (by (s1 c)) (omega arith) (c .before .before .before .run-at .ensures) (c .before .tag .given .1)
-
-abbrev r1 : (c : tie.After-known-told) → Read (s1 c)
-r1 c = field-yes (r0 (s1 c) .so) (tag-took c)
 
 abbrev k1 : tie.After-known-told2 → tie.After-known-told
 k1 c = c .before .before .before .before
@@ -63,27 +43,49 @@ k1 c = c .before .before .before .before
 abbrev s2 : tie.After-known-told2 → tie.After-shared-slice-known
 s2 c = s1 (k1 c)
 
-abbrev key : tie.After-known-told2 → ℕ
-key c = c .before .s .given .0 .0
+abbrev k2 : tie.After-known-told3 → tie.After-known-told2
+k2 c = c .before .before .before .before
 
-abbrev key-end : tie.After-known-told2 → ℕ
-key-end c = c .before .s .given .0 .1 .0
+abbrev s3 : tie.After-known-told3 → tie.After-shared-slice-known
+s3 c = s2 (k2 c)
 
-key-took : (c : tie.After-known-told2) → Took (bytes veiled 16) (row (s2 c)) (tag-end (k1 c)) (take 16 (drop (key c) (row (s2 c)))) (key-end c)
-key-took c = run-took _ _ veiled 16 (c .before .before .before .run-at2 .ensures .0) (by (s2 c)) (c .before .s .given .1)
+abbrev to-tag : tie.After-known-told3 → tie.After-known-told
+to-tag c = k1 (k2 c)
 
-key-run : (c : tie.After-known-told2) → Run (tag-end (k1 c)) (take 16 (drop (key c) (row (s2 c)))) (key c) (key-end c)
-key-run c = run-starts _ _ 16 (by (s2 c)) (omega arith) (c .before .before .before .run-at2 .ensures) (c .before .s .given .1)
+abbrev to-s : tie.After-known-told3 → tie.After-known-told2
+to-s c = k2 c
 
-abbrev r2 : (c : tie.After-known-told2) → Read (s2 c)
-r2 c = field-yes (r1 (k1 c) .so) (key-took c)
+abbrev Reading : tie.After-shared-slice-known → Type 1
+Reading s = Reached tombstone (row s) (from s)
 
-its-places : (from : ℕ) (t : Tombstone) {tag key : ℕ} → tag ≡ from + offset tombstone 0 t → key ≡ from + offset tombstone 1 t
-    → record { tag = tag; s = key; «expiry_min» = t .«expiry_min» } ≡ tombstoneAt from t
-its-places from t tag key = λ i. record { tag = tag i; s = key i; «expiry_min» = t .«expiry_min» }
+abbrev r0 : (s : tie.After-shared-slice-known) → Reading s
+r0 s = start
+
+tag-run : (c : tie.After-known-told) → Run (from (s1 c)) (take 16 (drop (c .before .tag .given .0 .0) (row (s1 c)))) (c .before .tag .given .0 .0) (c .before .tag .given .0 .1 .0)
+tag-run c = run-starts _ _ 16 (by (s1 c)) (omega arith) (c .before .before .before .run-at .ensures) (c .before .tag .given .1)
+
+abbrev r1 : (c : tie.After-known-told) → Reading (s1 c)
+r1 c = field-yes (r0 (s1 c) .so) (run-took _ _ plain 16 (c .before .before .before .run-at .ensures .0) (by (s1 c)) (c .before .tag .given .1))
+
+s-run : (c : tie.After-known-told2) → Run (r1 (k1 c) .here) (take 16 (drop (c .before .s .given .0 .0) (row (s2 c)))) (c .before .s .given .0 .0) (c .before .s .given .0 .1 .0)
+s-run c = run-starts _ _ 16 (by (s2 c)) (omega arith) (c .before .before .before .run-at2 .ensures) (c .before .s .given .1)
+
+abbrev r2 : (c : tie.After-known-told2) → Reading (s2 c)
+r2 c = field-yes (r1 (k1 c) .so) (run-took _ _ veiled 16 (c .before .before .before .run-at2 .ensures .0) (by (s2 c)) (c .before .s .given .1))
+
+expiry-min-took : (c : tie.After-known-told3) → Took u32 (row (s3 c)) (r2 (k2 c) .here) (c .before .expiry-min .given .0 .0) (c .before .expiry-min .given .0 .1 .0)
+expiry-min-took c = took _ _ u32 (number-lawful 4) (by (s3 c)) (learn u32Says (c .before .before .before .u32-at .ensures) (c .before .expiry-min .given .1))
+
+abbrev r3 : (c : tie.After-known-told3) → Reading (s3 c)
+r3 c = field-yes (r2 (k2 c) .so) (expiry-min-took c)
+
+its-places : (from : ℕ) (v : Tombstone)
+    → {tag-at : ℕ} → tag-at ≡ from + offset tombstone 0 v
+    → {s-at : ℕ} → s-at ≡ from + offset tombstone 1 v
+    → record { tag = tag-at; s = s-at; «expiry_min» = v .«expiry_min» } ≡ tombstoneAt from v
+its-places from v tag-at s-at = λ i. record { tag = tag-at i; s = s-at i; «expiry_min» = v .«expiry_min» }
 
 -- ---- what is asked
-
 run-at-requires : tie.Need-run-at-requires
 run-at-requires c κs = search needs
 
@@ -128,16 +130,15 @@ returns-3 c =
 
 returns-4 : tie.Need-returns-4
 returns-4 c =
-    let k2 = c .before .before .before .before in
-    let k1 = k1 k2 in
-    let t = took _ _ u32 (number-lawful 4) (by (s2 k2)) (learn u32Says (c .before .before .before .u32-at .ensures) (c .before .expiry-min .given .1)) in
     let its : Tombstone = record {
-      tag = take 16 (drop (tag k1) (row (s2 k2)));
-      s = take 16 (drop (key k2) (row (s2 k2)));
+      tag = take 16 (drop (to-tag c .before .tag .given .0 .0) (row (s3 c)));
+      s = take 16 (drop (to-s c .before .s .given .0 .0) (row (s3 c)));
       «expiry_min» = c .before .expiry-min .given .0 .0;
     } in
-    locates _ _ (group tombstone) (tombstoneAt _) {b = its} (done-yes (field-yes (r2 k2 .so) t .so)) (t .inside)
-    (its-places (from (s2 k2)) its (omega (arith, tag-run k1 .starts)) (omega (arith, tag-run k1 .ends, key-run k2 .starts)))
+    locates _ _ (group tombstone) (tombstoneAt _) {b = its} (done-yes (r3 c .so)) (expiry-min-took c .inside)
+    (its-places (from (s3 c)) its
+    (omega (arith, tag-run (to-tag c) .starts))
+    (omega (arith, tag-run (to-tag c) .ends, s-run (to-s c) .starts)))
 
 pub tombstone-at-spec : {M : Type 1} → statement M
 tombstone-at-spec =
