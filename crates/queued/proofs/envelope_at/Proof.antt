@@ -1,4 +1,5 @@
 -- `queued::envelope_at` meets its contract: one step of the layout for each field.
+-- Written by tools/fields/fieldgen.py, and not edited: tools/fields/README.md says how. Assumes nothing.
 use Prim.Native.Nat.{ℕ, _+_}
 use mathlib.Core.List.{List}
 use mathlib.Core.Path.{_≡_, ap, _∙_}
@@ -6,11 +7,11 @@ use native.Mathlib.Omega.{arith}
 use lib.ListN.{take, drop}
 use borrow.Author.Needs.{needs}
 use Rattle.layout.specs.Veil.{plain, veiled}
-use Rattle.layout.specs.Form.{bytes, u8, u32, flag}
+use Rattle.layout.specs.Form.{u8, u32, flag}
 use Rattle.layout.specs.Layout.{group}
 use Rattle.layout.specs.RowLaws.{Bytes}
 use Rattle.layout.proofs.Front.{number-lawful, flag-lawful}
-use Rattle.layout.proofs.At.{Took, took, refused-at, learn, typed}
+use Rattle.layout.proofs.At.{learn, Took, typed, took, refused-at}
 use Rattle.layout.proofs.Steps.{Reached, start, field-yes, field-no, done-yes}
 use Rattle.rows.specs.Values.{OwnEnvelope}
 use Rattle.rows.specs.Rows.{ownEnvelope}
@@ -23,39 +24,18 @@ use Rattle.queued.specs.Queued.{envelopeAt}
 use Rattle.queued.proofs.envelope_at.Statement.{statement}
 use Rattle.queued.proofs.envelope_at.Tie as tie
 
--- ---- how far reading has come at each place
+-- ---- what is known at each place
 abbrev row : tie.After-shared-slice-known → List ℕ
 row s = s .before .args .row .now
 
 abbrev from : tie.After-shared-slice-known → ℕ
 from s = s .before .args .at
 
-abbrev Read : tie.After-shared-slice-known → Type 1
-Read s = Reached ownEnvelope (row s) (from s)
-
 by : (s : tie.After-shared-slice-known) → Bytes (row s)
 by s = typed (row s) (s .shared-slice-known .given)
 
-abbrev r0 : (s : tie.After-shared-slice-known) → Read s
-r0 s = start
-
 abbrev s1 : tie.After-known-told → tie.After-shared-slice-known
 s1 c = c .before .before .before .before
-
-abbrev tag : tie.After-known-told → ℕ
-tag c = c .before .tag .given .0 .0
-
-abbrev tag-end : tie.After-known-told → ℕ
-tag-end c = c .before .tag .given .0 .1 .0
-
-tag-took : (c : tie.After-known-told) → Took (bytes plain 16) (row (s1 c)) (from (s1 c)) (take 16 (drop (tag c) (row (s1 c)))) (tag-end c)
-tag-took c = run-took _ _ plain 16 (c .before .before .before .run-at .ensures .0) (by (s1 c)) (c .before .tag .given .1)
-
-tag-run : (c : tie.After-known-told) → Run (from (s1 c)) (take 16 (drop (tag c) (row (s1 c)))) (tag c) (tag-end c)
-tag-run c = run-starts _ _ 16 (by (s1 c)) (omega arith) (c .before .before .before .run-at .ensures) (c .before .tag .given .1)
-
-abbrev r1 : (c : tie.After-known-told) → Read (s1 c)
-r1 c = field-yes (r0 (s1 c) .so) (tag-took c)
 
 abbrev k1 : tie.After-known-told2 → tie.After-known-told
 k1 c = c .before .before .before .before
@@ -63,43 +43,73 @@ k1 c = c .before .before .before .before
 abbrev s2 : tie.After-known-told2 → tie.After-shared-slice-known
 s2 c = s1 (k1 c)
 
-abbrev key : tie.After-known-told2 → ℕ
-key c = c .before .s .given .0 .0
-
-abbrev key-end : tie.After-known-told2 → ℕ
-key-end c = c .before .s .given .0 .1 .0
-
-key-took : (c : tie.After-known-told2) → Took (bytes veiled 16) (row (s2 c)) (tag-end (k1 c)) (take 16 (drop (key c) (row (s2 c)))) (key-end c)
-key-took c = run-took _ _ veiled 16 (c .before .before .before .run-at2 .ensures .0) (by (s2 c)) (c .before .s .given .1)
-
-key-run : (c : tie.After-known-told2) → Run (tag-end (k1 c)) (take 16 (drop (key c) (row (s2 c)))) (key c) (key-end c)
-key-run c = run-starts _ _ 16 (by (s2 c)) (omega arith) (c .before .before .before .run-at2 .ensures) (c .before .s .given .1)
-
-abbrev r2 : (c : tie.After-known-told2) → Read (s2 c)
-r2 c = field-yes (r1 (k1 c) .so) (key-took c)
+abbrev k2 : tie.After-known-told3 → tie.After-known-told2
+k2 c = c .before .before .before .before
 
 abbrev s3 : tie.After-known-told3 → tie.After-shared-slice-known
-s3 c = s2 (c .before .before .before .before)
+s3 c = s2 (k2 c)
 
-abbrev r3 : (c : tie.After-known-told3) → Read (s3 c)
-r3 c =
-    field-yes (r2 (c .before .before .before .before) .so)
-    (took _ _ u32 (number-lawful 4) (by (s3 c)) (learn u32Says (c .before .before .before .u32-at .ensures) (c .before .expiry-min .given .1)))
+abbrev k3 : tie.After-known-told4 → tie.After-known-told3
+k3 c = c .before .before .before .before
 
 abbrev s4 : tie.After-known-told4 → tie.After-shared-slice-known
-s4 c = s3 (c .before .before .before .before)
+s4 c = s3 (k3 c)
 
-abbrev r4 : (c : tie.After-known-told4) → Read (s4 c)
-r4 c =
-    field-yes (r3 (c .before .before .before .before) .so)
-    (took _ _ u8 (number-lawful 1) (by (s4 c)) (learn u8Says (c .before .before .before .byte-at .ensures) (c .before .copies .given .1)))
+abbrev k4 : tie.After-known-told5 → tie.After-known-told4
+k4 c = c .before .before .before .before
 
-its-places : (from : ℕ) (e : OwnEnvelope) {tag key : ℕ} → tag ≡ from + offset ownEnvelope 0 e → key ≡ from + offset ownEnvelope 1 e
-    → record { tag = tag; s = key; «expiry_min» = e .«expiry_min»; copies = e .copies; renewed = e .renewed } ≡ envelopeAt from e
-its-places from e t k = λ i. record { tag = t i; s = k i; «expiry_min» = e .«expiry_min»; copies = e .copies; renewed = e .renewed }
+abbrev s5 : tie.After-known-told5 → tie.After-shared-slice-known
+s5 c = s4 (k4 c)
+
+abbrev to-tag : tie.After-known-told5 → tie.After-known-told
+to-tag c = k1 (k2 (k3 (k4 c)))
+
+abbrev to-s : tie.After-known-told5 → tie.After-known-told2
+to-s c = k2 (k3 (k4 c))
+
+abbrev to-expiry-min : tie.After-known-told5 → tie.After-known-told3
+to-expiry-min c = k3 (k4 c)
+
+abbrev to-copies : tie.After-known-told5 → tie.After-known-told4
+to-copies c = k4 c
+
+abbrev Reading : tie.After-shared-slice-known → Type 1
+Reading s = Reached ownEnvelope (row s) (from s)
+
+abbrev r0 : (s : tie.After-shared-slice-known) → Reading s
+r0 s = start
+
+tag-run : (c : tie.After-known-told) → Run (from (s1 c)) (take 16 (drop (c .before .tag .given .0 .0) (row (s1 c)))) (c .before .tag .given .0 .0) (c .before .tag .given .0 .1 .0)
+tag-run c = run-starts _ _ 16 (by (s1 c)) (omega arith) (c .before .before .before .run-at .ensures) (c .before .tag .given .1)
+
+abbrev r1 : (c : tie.After-known-told) → Reading (s1 c)
+r1 c = field-yes (r0 (s1 c) .so) (run-took _ _ plain 16 (c .before .before .before .run-at .ensures .0) (by (s1 c)) (c .before .tag .given .1))
+
+s-run : (c : tie.After-known-told2) → Run (r1 (k1 c) .here) (take 16 (drop (c .before .s .given .0 .0) (row (s2 c)))) (c .before .s .given .0 .0) (c .before .s .given .0 .1 .0)
+s-run c = run-starts _ _ 16 (by (s2 c)) (omega arith) (c .before .before .before .run-at2 .ensures) (c .before .s .given .1)
+
+abbrev r2 : (c : tie.After-known-told2) → Reading (s2 c)
+r2 c = field-yes (r1 (k1 c) .so) (run-took _ _ veiled 16 (c .before .before .before .run-at2 .ensures .0) (by (s2 c)) (c .before .s .given .1))
+
+abbrev r3 : (c : tie.After-known-told3) → Reading (s3 c)
+r3 c = field-yes (r2 (k2 c) .so) (took _ _ u32 (number-lawful 4) (by (s3 c)) (learn u32Says (c .before .before .before .u32-at .ensures) (c .before .expiry-min .given .1)))
+
+abbrev r4 : (c : tie.After-known-told4) → Reading (s4 c)
+r4 c = field-yes (r3 (k3 c) .so) (took _ _ u8 (number-lawful 1) (by (s4 c)) (learn u8Says (c .before .before .before .byte-at .ensures) (c .before .copies .given .1)))
+
+renewed-took : (c : tie.After-known-told5) → Took flag (row (s5 c)) (r4 (k4 c) .here) (c .before .flag .given .0 .0) (c .before .flag .given .0 .1 .0)
+renewed-took c = took _ _ flag flag-lawful (by (s5 c)) (learn flagSays (c .before .before .before .flag-at .ensures) (c .before .flag .given .1))
+
+abbrev r5 : (c : tie.After-known-told5) → Reading (s5 c)
+r5 c = field-yes (r4 (k4 c) .so) (renewed-took c)
+
+its-places : (from : ℕ) (v : OwnEnvelope)
+    → {tag-at : ℕ} → tag-at ≡ from + offset ownEnvelope 0 v
+    → {s-at : ℕ} → s-at ≡ from + offset ownEnvelope 1 v
+    → record { tag = tag-at; s = s-at; «expiry_min» = v .«expiry_min»; copies = v .copies; renewed = v .renewed } ≡ envelopeAt from v
+its-places from v tag-at s-at = λ i. record { tag = tag-at i; s = s-at i; «expiry_min» = v .«expiry_min»; copies = v .copies; renewed = v .renewed }
 
 -- ---- what is asked
-
 run-at-requires : tie.Need-run-at-requires
 run-at-requires c κs = search needs
 
@@ -170,25 +180,22 @@ refusal-requires c κs = search needs
 
 returns-5 : tie.Need-returns-5
 returns-5 c =
-    let told = c .before .enum-told5 .given .1 in
-    let not = field-no (r4 (c .before .before .before .before) .so) (refused-at _ _ flag (learn flagSays (c .before .before .before .flag-at .ensures) told)) in
-    rw (c .refusal .ensures ∙ ap flagRefusal told) (locates-not _ _ (group ownEnvelope) (envelopeAt _) not)
+    let stop = field-no (r4 (c .before .before .before .before) .so) (refused-at _ _ flag (learn flagSays (c .before .before .before .flag-at .ensures) (c .before .enum-told5 .given .1))) in
+    rw (c .refusal .ensures ∙ ap flagRefusal (c .before .enum-told5 .given .1)) (locates-not _ _ (group ownEnvelope) (envelopeAt _) stop)
 
 returns-6 : tie.Need-returns-6
 returns-6 c =
-    let k = c .before .before .before .before in
-    let k2 = k .before .before .before .before .before .before .before .before in
-    let t = took _ _ flag flag-lawful (by (s4 k)) (learn flagSays (c .before .before .before .flag-at .ensures) (c .before .flag .given .1)) in
-    let k1 = k1 k2 in
-    let e : OwnEnvelope = record {
-      tag = take 16 (drop (tag k1) (row (s4 k)));
-      s = take 16 (drop (key k2) (row (s4 k)));
-      «expiry_min» = k .before .before .before .before .before .expiry-min .given .0 .0;
-      copies = k .before .copies .given .0 .0;
+    let its : OwnEnvelope = record {
+      tag = take 16 (drop (to-tag c .before .tag .given .0 .0) (row (s5 c)));
+      s = take 16 (drop (to-s c .before .s .given .0 .0) (row (s5 c)));
+      «expiry_min» = to-expiry-min c .before .expiry-min .given .0 .0;
+      copies = to-copies c .before .copies .given .0 .0;
       renewed = c .before .flag .given .0 .0;
     } in
-    locates _ _ (group ownEnvelope) (envelopeAt _) {b = e} (done-yes (field-yes (r4 k .so) t .so)) (t .inside)
-    (its-places (from (s4 k)) e (omega (arith, tag-run k1 .starts)) (omega (arith, tag-run k1 .ends, key-run k2 .starts)))
+    locates _ _ (group ownEnvelope) (envelopeAt _) {b = its} (done-yes (r5 c .so)) (renewed-took c .inside)
+    (its-places (from (s5 c)) its
+    (omega (arith, tag-run (to-tag c) .starts))
+    (omega (arith, tag-run (to-tag c) .ends, s-run (to-s c) .starts)))
 
 pub envelope-at-spec : {M : Type 1} → statement M
 envelope-at-spec =
