@@ -1,76 +1,88 @@
--- `lists::chain_end` meets its contract: one step of the layout for each field, and superseded_s behind its flag.
+-- `lists::chain_end` meets its contract: one step of the layout for each field.
+-- Written by tools/fields/fieldgen.py, and not edited: tools/fields/README.md says how. Assumes nothing.
 use Prim.Native.Nat.{ℕ}
 use mathlib.Core.List.{List}
-use mathlib.Core.Bool.{true, false}
-use mathlib.Core.Path.{sym, ap, _∙_}
+use mathlib.Core.Bool.{Bool, true, false}
+use mathlib.Core.Path.{sym, ap, subst, _∙_}
 use borrow.Author.Needs.{needs}
 use Rattle.layout.specs.Veil.{veiled}
 use Rattle.layout.specs.Form.{u8, u64, flag}
 use Rattle.layout.specs.Layout.{group}
 use Rattle.layout.specs.RowLaws.{Bytes}
 use Rattle.layout.proofs.Front.{number-lawful, flag-lawful}
-use Rattle.layout.proofs.At.{Took, took, refused-at, takes-at, refuses-at, learn, typed}
+use Rattle.layout.proofs.At.{learn, Took, typed, took, refused-at, takes-at, refuses-at}
 use Rattle.layout.proofs.Steps.{Reached, start, field-yes, field-no, done-yes, optional-some, optional-none, optional-no-flag, optional-no}
-use Rattle.rows.specs.Rows.{chain, dir}
+use Rattle.rows.specs.Rows.{dir, chain}
 use Rattle.rows.proofs.Lawful.{dir-lawful}
-use Rattle.fields.specs.Says.{u8Says, u64Says, dirSays, dirRefusal, flagSays, flagRefusal}
+use Rattle.fields.specs.Says.{u8Says, u64Says, flagSays, dirSays, flagRefusal, dirRefusal}
 use Rattle.fields.proofs.Runs.{run-took, run-short}
 use Rattle.reader.specs.Reader.{ended}
 use Rattle.lists.proofs.chain_end.Statement.{statement}
 use Rattle.lists.proofs.chain_end.Tie as tie
 
--- ---- how far reading has come at each place
+-- ---- what is known at each place
 abbrev row : tie.After-shared-slice-known → List ℕ
 row s = s .before .args .row .now
 
-abbrev Read : tie.After-shared-slice-known → Type 1
-Read s = Reached chain (row s) (s .before .args .at)
+abbrev from : tie.After-shared-slice-known → ℕ
+from s = s .before .args .at
 
 by : (s : tie.After-shared-slice-known) → Bytes (row s)
 by s = typed (row s) (s .shared-slice-known .given)
 
-abbrev r0 : (s : tie.After-shared-slice-known) → Read s
-r0 s = start
-
 abbrev s1 : tie.After-known-told → tie.After-shared-slice-known
 s1 c = c .before .before .before .before
 
-abbrev r1 : (c : tie.After-known-told) → Read (s1 c)
-r1 c = field-yes (r0 (s1 c) .so) (took _ _ u8 (number-lawful 1) (by (s1 c)) (learn u8Says (c .before .before .before .byte-at .ensures) (c .before .-gen .given .1)))
+abbrev k1 : tie.After-known-told2 → tie.After-known-told
+k1 c = c .before .before .before .before
 
 abbrev s2 : tie.After-known-told2 → tie.After-shared-slice-known
-s2 c = s1 (c .before .before .before .before)
+s2 c = s1 (k1 c)
 
-abbrev r2 : (c : tie.After-known-told2) → Read (s2 c)
-r2 c = field-yes (r1 (c .before .before .before .before) .so) (took _ _ dir dir-lawful (by (s2 c)) (learn dirSays (c .before .before .before .dir-at .ensures) (c .before .dir .given .1)))
+abbrev k2 : tie.After-known-told3 → tie.After-known-told2
+k2 c = c .before .before .before .before
 
 abbrev s3 : tie.After-known-told3 → tie.After-shared-slice-known
-s3 c = s2 (c .before .before .before .before)
+s3 c = s2 (k2 c)
 
-abbrev r3 : (c : tie.After-known-told3) → Read (s3 c)
-r3 c = field-yes (r2 (c .before .before .before .before) .so) (took _ _ u64 (number-lawful 8) (by (s3 c)) (learn u64Says (c .before .before .before .u64-at .ensures) (c .before .-next .given .1)))
+abbrev k3 : tie.After-known-told4 → tie.After-known-told3
+k3 c = c .before .before .before .before
 
 abbrev s4 : tie.After-known-told4 → tie.After-shared-slice-known
-s4 c = s3 (c .before .before .before .before)
+s4 c = s3 (k3 c)
 
-abbrev r4 : (c : tie.After-known-told4) → Read (s4 c)
-r4 c = field-yes (r3 (c .before .before .before .before) .so) (run-took _ _ veiled 32 (c .before .before .before .run-at .ensures .0) (by (s4 c)) (c .before .-key .given .1))
+abbrev Reading : tie.After-shared-slice-known → Type 1
+Reading s = Reached chain (row s) (from s)
+
+abbrev r0 : (s : tie.After-shared-slice-known) → Reading s
+r0 s = start
+
+abbrev r1 : (c : tie.After-known-told) → Reading (s1 c)
+r1 c = field-yes (r0 (s1 c) .so) (took _ _ u8 (number-lawful 1) (by (s1 c)) (learn u8Says (c .before .before .before .byte-at .ensures) (c .before .-gen .given .1)))
+
+abbrev r2 : (c : tie.After-known-told2) → Reading (s2 c)
+r2 c = field-yes (r1 (k1 c) .so) (took _ _ dir dir-lawful (by (s2 c)) (learn dirSays (c .before .before .before .dir-at .ensures) (c .before .dir .given .1)))
+
+abbrev r3 : (c : tie.After-known-told3) → Reading (s3 c)
+r3 c = field-yes (r2 (k2 c) .so) (took _ _ u64 (number-lawful 8) (by (s3 c)) (learn u64Says (c .before .before .before .u64-at .ensures) (c .before .-next .given .1)))
+
+abbrev r4 : (c : tie.After-known-told4) → Reading (s4 c)
+r4 c = field-yes (r3 (k3 c) .so) (run-took _ _ veiled 32 (c .before .before .before .run-at .ensures .0) (by (s4 c)) (c .before .-key .given .1))
+
+abbrev k4 : tie.After-known-told5 → tie.After-known-told4
+k4 c = c .before .before .before .before
 
 abbrev s5 : tie.After-known-told5 → tie.After-shared-slice-known
-s5 c = s4 (c .before .before .before .before)
+s5 c = s4 (k4 c)
 
-abbrev flag-place : tie.After-known-told5 → ℕ
-flag-place c = r4 (c .before .before .before .before) .here
-
-flag-took : (c : tie.After-known-told5) → Took flag (row (s5 c)) (flag-place c) (c .before .flag .given .0 .0) (c .before .flag .given .0 .1 .0)
+flag-took : (c : tie.After-known-told5) → Took flag (row (s5 c)) (r4 (k4 c) .here) (c .before .flag .given .0 .0) (c .before .flag .given .0 .1 .0)
 flag-took c = took _ _ flag flag-lawful (by (s5 c)) (learn flagSays (c .before .before .before .flag-at .ensures) (c .before .flag .given .1))
 
--- superseded_s is there, or is not
-set : (c : tie.Then1) → Took flag (row (s5 (c .before))) (flag-place (c .before)) true (c .before .before .flag .given .0 .1 .0)
-set c = rw (c .if1 .taken) at (flag-took (c .before))
+set : (c : tie.Then1) → Took flag (row (s5 (c .before))) (r4 (k4 (c .before)) .here) true (c .before .before .flag .given .0 .1 .0)
+set c = subst (λ (t : Bool). Took flag (row (s5 (c .before))) (r4 (k4 (c .before)) .here) t (c .before .before .flag .given .0 .1 .0)) (c .if1 .taken) (flag-took (c .before))
 
-clear : (c : tie.Else1) → Took flag (row (s5 (c .before))) (flag-place (c .before)) false (c .before .before .flag .given .0 .1 .0)
-clear c = rw (c .if1 .left) at (flag-took (c .before))
+clear : (c : tie.Else1) → Took flag (row (s5 (c .before))) (r4 (k4 (c .before)) .here) false (c .before .before .flag .given .0 .1 .0)
+clear c = subst (λ (t : Bool). Took flag (row (s5 (c .before))) (r4 (k4 (c .before)) .here) t (c .before .before .flag .given .0 .1 .0)) (c .if1 .left) (flag-took (c .before))
 
 -- ---- what is asked
 byte-at-requires : tie.Need-byte-at-requires
@@ -83,7 +95,9 @@ enum-told : tie.Need-enum-told
 enum-told c = search needs
 
 returns : tie.Need-returns
-returns c = sym (ap ended (refuses-at _ _ (group chain) (field-no (r0 (c .before .before .before) .so) (refused-at _ _ u8 (learn u8Says (c .before .before .byte-at .ensures) (c .enum-told .given .1))))))
+returns c =
+    let stop = field-no (r0 (c .before .before .before) .so) (refused-at _ _ u8 (learn u8Says (c .before .before .byte-at .ensures) (c .enum-told .given .1))) in
+    sym (ap ended (refuses-at _ _ (group chain) stop))
 
 dir-at-requires : tie.Need-dir-at-requires
 dir-at-requires c κs = search needs
@@ -99,9 +113,8 @@ refusal-requires c κs = search needs
 
 returns-2 : tie.Need-returns-2
 returns-2 c =
-    let told = c .before .enum-told2 .given .1 in
-    rw (c .refusal .ensures ∙ ap dirRefusal told)
-    (sym (ap ended (refuses-at _ _ (group chain) (field-no (r1 (c .before .before .before .before) .so) (refused-at _ _ dir (learn dirSays (c .before .before .before .dir-at .ensures) told))))))
+    let stop = field-no (r1 (c .before .before .before .before) .so) (refused-at _ _ dir (learn dirSays (c .before .before .before .dir-at .ensures) (c .before .enum-told2 .given .1))) in
+    rw (c .refusal .ensures ∙ ap dirRefusal (c .before .enum-told2 .given .1)) (sym (ap ended (refuses-at _ _ (group chain) stop)))
 
 u64-at-requires : tie.Need-u64-at-requires
 u64-at-requires c κs = search needs
@@ -113,7 +126,9 @@ enum-told-3 : tie.Need-enum-told-3
 enum-told-3 c = search needs
 
 returns-3 : tie.Need-returns-3
-returns-3 c = sym (ap ended (refuses-at _ _ (group chain) (field-no (r2 (c .before .before .before) .so) (refused-at _ _ u64 (learn u64Says (c .before .before .u64-at .ensures) (c .enum-told3 .given .1))))))
+returns-3 c =
+    let stop = field-no (r2 (c .before .before .before) .so) (refused-at _ _ u64 (learn u64Says (c .before .before .u64-at .ensures) (c .enum-told3 .given .1))) in
+    sym (ap ended (refuses-at _ _ (group chain) stop))
 
 run-at-requires : tie.Need-run-at-requires
 run-at-requires c κs = search needs
@@ -125,7 +140,9 @@ enum-told-4 : tie.Need-enum-told-4
 enum-told-4 c = search needs
 
 returns-4 : tie.Need-returns-4
-returns-4 c = sym (ap ended (refuses-at _ _ (group chain) (field-no (r3 (c .before .before .before) .so) (run-short _ _ veiled 32 (c .before .before .run-at .ensures .0) (c .enum-told4 .given .1)))))
+returns-4 c =
+    let stop = field-no (r3 (c .before .before .before) .so) (run-short _ _ veiled 32 (c .before .before .run-at .ensures .0) (c .enum-told4 .given .1)) in
+    sym (ap ended (refuses-at _ _ (group chain) stop))
 
 flag-at-requires : tie.Need-flag-at-requires
 flag-at-requires c κs = search needs
@@ -141,10 +158,8 @@ refusal-requires-2 c κs = search needs
 
 returns-5 : tie.Need-returns-5
 returns-5 c =
-    let told = c .before .enum-told5 .given .1 in
-    let k = c .before .before .before .before in
-    rw (c .refusal2 .ensures ∙ ap flagRefusal told)
-    (sym (ap ended (refuses-at _ _ (group chain) (field-no (r4 k .so) (optional-no-flag u64 (row (s4 k)) (r4 k .here) (refused-at _ _ flag (learn flagSays (c .before .before .before .flag-at .ensures) told)))))))
+    let stop = field-no (r4 (c .before .before .before .before) .so) (optional-no-flag u64 (row (s4 (c .before .before .before .before))) (r4 (c .before .before .before .before) .here) (refused-at _ _ flag (learn flagSays (c .before .before .before .flag-at .ensures) (c .before .enum-told5 .given .1)))) in
+    rw (c .refusal2 .ensures ∙ ap flagRefusal (c .before .enum-told5 .given .1)) (sym (ap ended (refuses-at _ _ (group chain) stop)))
 
 u64-at-requires-2 : tie.Need-u64-at-requires-2
 u64-at-requires-2 c κs = search needs
@@ -157,23 +172,20 @@ enum-told-6 c = search needs
 
 returns-6 : tie.Need-returns-6
 returns-6 c =
-    let k = c .before .before .before .before in
-    sym (ap ended (refuses-at _ _ (group chain) (field-no (r4 (k .before .before .before .before) .so)
-    (optional-no u64 _ _ (set (c .before .before .before)) (refused-at _ _ u64 (learn u64Says (c .before .before .u64-at2 .ensures) (c .enum-told6 .given .1)))))))
+    let t = c .before .before .before in
+    let stop = field-no (r4 (k4 (t .before)) .so) (optional-no u64 (row (s5 (t .before))) (r4 (k4 (t .before)) .here) (set t) (refused-at _ _ u64 (learn u64Says (c .before .before .u64-at2 .ensures) (c .enum-told6 .given .1)))) in
+    sym (ap ended (refuses-at _ _ (group chain) stop))
 
 returns-7 : tie.Need-returns-7
 returns-7 c =
-    let e = c .before .before .before .before in
-    let k = e .before in
-    let t = took _ _ u64 (number-lawful 8) (by (s5 k)) (learn u64Says (c .before .before .before .u64-at2 .ensures) (c .before .-superseded-s .given .1)) in
-    let o = optional-some u64 _ _ (set e) t in
-    sym (ap ended (takes-at _ _ (group chain) (done-yes (field-yes (r4 (k .before .before .before .before) .so) o .so)) (o .inside)))
+    let t = c .before .before .before .before in
+    let o = optional-some u64 (row (s5 (t .before))) (r4 (k4 (t .before)) .here) (set t) (took _ _ u64 (number-lawful 8) (by (s5 (t .before))) (learn u64Says (c .before .before .before .u64-at2 .ensures) (c .before .-superseded-s .given .1))) in
+    sym (ap ended (takes-at _ _ (group chain) (done-yes (field-yes (r4 (k4 (t .before)) .so) o .so)) (o .inside)))
 
 returns-8 : tie.Need-returns-8
 returns-8 c =
-    let k = c .before in
-    let o = optional-none u64 _ _ (clear c) in
-    sym (ap ended (takes-at _ _ (group chain) (done-yes (field-yes (r4 (k .before .before .before .before) .so) o .so)) (o .inside)))
+    let o = optional-none u64 (row (s5 (c .before))) (r4 (k4 (c .before)) .here) (clear c) in
+    sym (ap ended (takes-at _ _ (group chain) (done-yes (field-yes (r4 (k4 (c .before)) .so) o .so)) (o .inside)))
 
 pub chain-end-spec : {M : Type 1} → statement M
 chain-end-spec =
