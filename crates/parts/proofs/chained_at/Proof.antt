@@ -1,4 +1,5 @@
 -- `parts::chained_at` meets its contract: one step of the layout for each field.
+-- Written by tools/fields/fieldgen.py, and not edited: tools/fields/README.md says how. Assumes nothing.
 use Prim.Native.Nat.{ℕ, _+_, _≤_}
 use mathlib.Core.List.{List}
 use mathlib.Core.Path.{_≡_, sym, ap, _∙_}
@@ -6,57 +7,40 @@ use native.Mathlib.Omega.{arith}
 use lib.ListN.{length, drop}
 use borrow.Author.Needs.{needs}
 use Rattle.layout.specs.Read.{value, refused}
+use Rattle.layout.specs.Layout.{parse, group, optional, list}
 use Rattle.layout.specs.Field.{readAt}
-use Rattle.layout.specs.Layout.{group, parse, optional, list}
 use Rattle.layout.specs.RowLaws.{Bytes}
 use Rattle.layout.proofs.Derived.{optional-lawful}
-use Rattle.layout.proofs.At.{Took, took, took-next, refused-at, takes-at, refuses-at, learn, typed}
+use Rattle.layout.proofs.At.{learn, Took, typed, took, took-next, refused-at, takes-at, refuses-at}
 use Rattle.layout.proofs.Steps.{Reached, start, field-yes, field-no, done-yes}
 use Rattle.rows.specs.Rows.{pending, send, chain, skipped}
 use Rattle.rows.proofs.Lawful.{pending-lawful, send-lawful, chain-lawful, skipped-lawful}
 use Rattle.offsets.specs.Offset.{offset}
 use Rattle.offsets.proofs.Offset.{optional-not-past, Located, located-at, located-not}
-use Rattle.lists.specs.Lists.{listSays, listRefusal}
+use Rattle.lists.specs.Lists.{listRefusal, listSays}
 use Rattle.lists.specs.declared.ListAt.{ListAt}
 use Rattle.parts.specs.Parts.{Chained, chained}
-use Rattle.parts.specs.Places.{pendingAt, pendingSays, pendingRefusal, sendAt, sendSays, sendRefusal, listAt, listIn, chainedFound}
+use Rattle.parts.specs.Places.{listAt, listIn, pendingAt, pendingSays, pendingRefusal, sendAt, sendSays, sendRefusal, chainedAt, chainedFound}
+use Rattle.parts.proofs.Lists.{list-took, list-next, list-starts}
 use Rattle.parts.specs.declared.PendingAt.{PendingAt}
 use Rattle.parts.specs.declared.SendAt.{SendAt}
+use Rattle.parts.specs.declared.ChainedAt.{ChainedAt}
 use Rattle.parts.specs.declared.ChainedField.the-variants.{Value, Refused}
-use Rattle.parts.proofs.Lists.{list-took, list-next, list-starts}
 use Rattle.parts.proofs.chained_at.Statement.{statement}
 use Rattle.parts.proofs.chained_at.Tie as tie
 
--- ---- how far reading has come at each place
+-- ---- what is known at each place
 abbrev row : tie.After-shared-slice-known → List ℕ
 row s = s .before .args .row .now
 
 abbrev from : tie.After-shared-slice-known → ℕ
 from s = s .before .args .at
 
-abbrev Read : tie.After-shared-slice-known → Type 1
-Read s = Reached chained (row s) (from s)
-
 by : (s : tie.After-shared-slice-known) → Bytes (row s)
 by s = typed (row s) (s .shared-slice-known .given)
 
-abbrev r0 : (s : tie.After-shared-slice-known) → Read s
-r0 s = start
-
 abbrev s1 : tie.After-known-told → tie.After-shared-slice-known
 s1 c = c .before .before .before .before
-
-pending-read : (c : tie.After-known-told)
-    → Located (pendingAt (from (s1 c))) (readAt (optional (group pending)) (row (s1 c)) (from (s1 c))) (c .before .pending-field .given .0 .0) (c .before .pending-field .given .0 .1 .0)
-pending-read c = located-at (pendingAt _) _ (learn pendingSays (c .before .before .before .pending-at .ensures) (c .before .pending-field .given .1))
-
-abbrev r1 : (c : tie.After-known-told) → Read (s1 c)
-r1 c = field-yes (r0 (s1 c) .so) (took _ _ (optional (group pending)) (optional-lawful (group pending) pending-lawful) (by (s1 c)) (pending-read c .read))
-
-pending-next : (c : tie.After-known-told) → r1 c .here ≡ from (s1 c) + length ((optional (group pending)) .print (pending-read c .value))
-pending-next c =
-    let read = pending-read c .read in
-    took-next _ _ (optional (group pending)) (optional-lawful (group pending) pending-lawful) (by (s1 c)) read (optional-not-past _ _ (group pending) read)
 
 abbrev k1 : tie.After-known-told2 → tie.After-known-told
 k1 c = c .before .before .before .before
@@ -64,48 +48,92 @@ k1 c = c .before .before .before .before
 abbrev s2 : tie.After-known-told2 → tie.After-shared-slice-known
 s2 c = s1 (k1 c)
 
-send-read : (c : tie.After-known-told2)
-    → Located (sendAt (r1 (k1 c) .here)) (readAt (optional (group send)) (row (s2 c)) (r1 (k1 c) .here)) (c .before .send-field .given .0 .0) (c .before .send-field .given .0 .1 .0)
-send-read c = located-at (sendAt _) _ (learn sendSays (c .before .before .before .send-at .ensures) (c .before .send-field .given .1))
-
-send-took : (c : tie.After-known-told2) → Took (optional (group send)) (row (s2 c)) (r1 (k1 c) .here) (send-read c .value) (c .before .send-field .given .0 .1 .0)
-send-took c = took _ _ (optional (group send)) (optional-lawful (group send) send-lawful) (by (s2 c)) (send-read c .read)
-
-abbrev r2 : (c : tie.After-known-told2) → Read (s2 c)
-r2 c = field-yes (r1 (k1 c) .so) (send-took c)
-
-send-next : (c : tie.After-known-told2) → r2 c .here ≡ r1 (k1 c) .here + length ((optional (group send)) .print (send-read c .value))
-send-next c =
-    let read = send-read c .read in
-    took-next _ _ (optional (group send)) (optional-lawful (group send) send-lawful) (by (s2 c)) read (optional-not-past _ _ (group send) read)
-
 abbrev k2 : tie.After-known-told3 → tie.After-known-told2
 k2 c = c .before .before .before .before
 
 abbrev s3 : tie.After-known-told3 → tie.After-shared-slice-known
 s3 c = s2 (k2 c)
 
-abbrev chains : tie.After-known-told3 → ListAt
-chains c = c .before .chains-field .given .0 .0
+abbrev k3 : tie.After-known-told4 → tie.After-known-told3
+k3 c = c .before .before .before .before
 
-chains-took : (c : tie.After-known-told3) → Took (list (group chain)) (row (s3 c)) (r2 (k2 c) .here) (listIn (group chain) (row (s3 c)) (chains c)) (chains c .next)
+abbrev s4 : tie.After-known-told4 → tie.After-shared-slice-known
+s4 c = s3 (k3 c)
+
+abbrev to-pending : tie.After-known-told4 → tie.After-known-told
+to-pending c = k1 (k2 (k3 c))
+
+abbrev to-send : tie.After-known-told4 → tie.After-known-told2
+to-send c = k2 (k3 c)
+
+abbrev to-chains : tie.After-known-told4 → tie.After-known-told3
+to-chains c = k3 c
+
+abbrev Reading : tie.After-shared-slice-known → Type 1
+Reading s = Reached chained (row s) (from s)
+
+abbrev r0 : (s : tie.After-shared-slice-known) → Reading s
+r0 s = start
+
+pending-read : (c : tie.After-known-told) → Located (pendingAt (from (s1 c))) (readAt (optional (group pending)) (row (s1 c)) (from (s1 c))) (c .before .pending-field .given .0 .0) (c .before .pending-field .given .0 .1 .0)
+pending-read c = located-at (pendingAt _) _ (learn pendingSays (c .before .before .before .pending-at .ensures) (c .before .pending-field .given .1))
+
+pending-took : (c : tie.After-known-told) → Took (optional (group pending)) (row (s1 c)) (from (s1 c)) (pending-read c .value) (c .before .pending-field .given .0 .1 .0)
+pending-took c = took _ _ (optional (group pending)) (optional-lawful (group pending) pending-lawful) (by (s1 c)) (pending-read c .read)
+
+pending-next : (c : tie.After-known-told) → c .before .pending-field .given .0 .1 .0 ≡ from (s1 c) + length ((optional (group pending)) .print (pending-read c .value))
+pending-next c = took-next _ _ (optional (group pending)) (optional-lawful (group pending) pending-lawful) (by (s1 c)) (pending-read c .read) (optional-not-past _ _ (group pending) (pending-read c .read))
+
+abbrev r1 : (c : tie.After-known-told) → Reading (s1 c)
+r1 c = field-yes (r0 (s1 c) .so) (pending-took c)
+
+send-read : (c : tie.After-known-told2) → Located (sendAt (r1 (k1 c) .here)) (readAt (optional (group send)) (row (s2 c)) (r1 (k1 c) .here)) (c .before .send-field .given .0 .0) (c .before .send-field .given .0 .1 .0)
+send-read c = located-at (sendAt _) _ (learn sendSays (c .before .before .before .send-at .ensures) (c .before .send-field .given .1))
+
+send-took : (c : tie.After-known-told2) → Took (optional (group send)) (row (s2 c)) (r1 (k1 c) .here) (send-read c .value) (c .before .send-field .given .0 .1 .0)
+send-took c = took _ _ (optional (group send)) (optional-lawful (group send) send-lawful) (by (s2 c)) (send-read c .read)
+
+send-next : (c : tie.After-known-told2) → c .before .send-field .given .0 .1 .0 ≡ r1 (k1 c) .here + length ((optional (group send)) .print (send-read c .value))
+send-next c = took-next _ _ (optional (group send)) (optional-lawful (group send) send-lawful) (by (s2 c)) (send-read c .read) (pending-took (k1 c) .inside)
+
+abbrev r2 : (c : tie.After-known-told2) → Reading (s2 c)
+r2 c = field-yes (r1 (k1 c) .so) (send-took c)
+
+chains-took : (c : tie.After-known-told3) → Took (list (group chain)) (row (s3 c)) (r2 (k2 c) .here) (listIn (group chain) (row (s3 c)) (c .before .chains-field .given .0 .0)) (c .before .chains-field .given .0 .0 .next)
 chains-took c = list-took (group chain) chain-lawful (row (s3 c)) (by (s3 c)) _ (c .before .before .before .chains-at .ensures) (c .before .chains-field .given .1)
 
-abbrev r3 : (c : tie.After-known-told3) → Read (s3 c)
+chains-next : (c : tie.After-known-told3) → c .before .chains-field .given .0 .0 .next ≡ r2 (k2 c) .here + length ((list (group chain)) .print (listIn (group chain) (row (s3 c)) (c .before .chains-field .given .0 .0)))
+chains-next c = list-next (group chain) chain-lawful (row (s3 c)) (by (s3 c)) _ (c .before .before .before .chains-at .ensures) (c .before .chains-field .given .1) (send-took (k2 c) .inside)
+
+chains-starts : (c : tie.After-known-told3) → c .before .chains-field .given .0 .0 ≡ listAt (group chain) (r2 (k2 c) .here) (listIn (group chain) (row (s3 c)) (c .before .chains-field .given .0 .0))
+chains-starts c = list-starts (group chain) chain-lawful (row (s3 c)) (by (s3 c)) _ (c .before .before .before .chains-at .ensures) (c .before .chains-field .given .1) (send-took (k2 c) .inside)
+
+abbrev r3 : (c : tie.After-known-told3) → Reading (s3 c)
 r3 c = field-yes (r2 (k2 c) .so) (chains-took c)
 
--- ---- what is answered
+skipped-took : (c : tie.After-known-told4) → Took (list (group skipped)) (row (s4 c)) (r3 (k3 c) .here) (listIn (group skipped) (row (s4 c)) (c .before .skipped-field .given .0 .0)) (c .before .skipped-field .given .0 .0 .next)
+skipped-took c = list-took (group skipped) skipped-lawful (row (s4 c)) (by (s4 c)) _ (c .before .before .before .skipped-at .ensures) (c .before .skipped-field .given .1)
+
+skipped-starts : (c : tie.After-known-told4) → c .before .skipped-field .given .0 .0 ≡ listAt (group skipped) (r3 (k3 c) .here) (listIn (group skipped) (row (s4 c)) (c .before .skipped-field .given .0 .0))
+skipped-starts c = list-starts (group skipped) skipped-lawful (row (s4 c)) (by (s4 c)) _ (c .before .before .before .skipped-at .ensures) (c .before .skipped-field .given .1) (chains-took (k3 c) .inside)
+
+abbrev r4 : (c : tie.After-known-told4) → Reading (s4 c)
+r4 c = field-yes (r3 (k3 c) .so) (skipped-took c)
+
 stopped : (s : tie.After-shared-slice-known) {q : ℕ} → parse chained (drop (from s) (row s)) ≡ refused q → Refused q ≡ chainedFound (from s) (readAt (group chained) (row s) (from s))
 stopped s stop = sym (ap (chainedFound (from s)) (refuses-at (row s) (from s) (group chained) stop))
 
-found : (s : tie.After-shared-slice-known) (c : Chained) {next : ℕ} → parse chained (drop (from s) (row s)) ≡ value c (drop next (row s)) → next ≤ length (row s)
-    → {waits : PendingAt} {sends : SendAt} {cs ks : ListAt}
-    → waits ≡ pendingAt (from s + offset chained 0 c) (c .pending) → sends ≡ sendAt (from s + offset chained 1 c) (c .send)
-    → cs ≡ listAt (group chain) (from s + offset chained 2 c) (c .chains) → ks ≡ listAt (group skipped) (from s + offset chained 3 c) (c .skipped)
-    → Value (record { chains = cs; skipped = ks; pending = waits; send = sends }) next ≡ chainedFound (from s) (readAt (group chained) (row s) (from s))
-found s c {next} all inside waits sends cs ks =
-    (λ i. Value (record { chains = cs i; skipped = ks i; pending = waits i; send = sends i }) next)
-    ∙ sym (ap (chainedFound (from s)) (takes-at (row s) (from s) (group chained) all inside))
+granted : (s : tie.After-shared-slice-known) {v : Chained} {next : ℕ} {place : ChainedAt} → parse chained (drop (from s) (row s)) ≡ value v (drop next (row s)) → next ≤ length (row s)
+    → place ≡ chainedAt (from s) v → Value place next ≡ chainedFound (from s) (readAt (group chained) (row s) (from s))
+granted s {next = next} all inside is = ap (λ (place : ChainedAt). Value place next) is ∙ sym (ap (chainedFound (from s)) (takes-at (row s) (from s) (group chained) all inside))
+
+its-places : (from : ℕ) (v : Chained)
+    → {chains-at : ListAt} {chains-here : ℕ} → chains-at ≡ listAt (group chain) chains-here (v .chains) → chains-here ≡ from + offset chained 2 v
+    → {skipped-at : ListAt} {skipped-here : ℕ} → skipped-at ≡ listAt (group skipped) skipped-here (v .skipped) → skipped-here ≡ from + offset chained 3 v
+    → {pending-at : PendingAt} {pending-here : ℕ} → pending-at ≡ pendingAt pending-here (v .pending) → pending-here ≡ from + offset chained 0 v
+    → {send-at : SendAt} {send-here : ℕ} → send-at ≡ sendAt send-here (v .send) → send-here ≡ from + offset chained 1 v
+    → record { chains = chains-at; skipped = skipped-at; pending = pending-at; send = send-at } ≡ chainedAt from v
+its-places from v chains-at chains-here skipped-at skipped-here pending-at pending-here send-at send-here = λ i. record { chains = (chains-at ∙ ap (λ (n : ℕ). listAt (group chain) n (v .chains)) chains-here) i; skipped = (skipped-at ∙ ap (λ (n : ℕ). listAt (group skipped) n (v .skipped)) skipped-here) i; pending = (pending-at ∙ ap (λ (n : ℕ). pendingAt n (v .pending)) pending-here) i; send = (send-at ∙ ap (λ (n : ℕ). sendAt n (v .send)) send-here) i }
 
 -- ---- what is asked
 pending-at-requires : tie.Need-pending-at-requires
@@ -122,10 +150,8 @@ refusal-requires c κs = search needs
 
 returns : tie.Need-returns
 returns c =
-    let told = c .before .enum-told .given .1 in
-    let s = c .before .before .before .before in
-    let not = field-no (r0 s .so) (refused-at _ _ (optional (group pending)) (located-not (pendingAt _) _ (learn pendingSays (c .before .before .before .pending-at .ensures) told))) in
-    rw (c .refusal .ensures ∙ ap pendingRefusal told) (stopped s not)
+    let stop = field-no (r0 (c .before .before .before .before) .so) (refused-at _ _ (optional (group pending)) (located-not (pendingAt _) _ (learn pendingSays (c .before .before .before .pending-at .ensures) (c .before .enum-told .given .1)))) in
+    rw (c .refusal .ensures ∙ ap pendingRefusal (c .before .enum-told .given .1)) (stopped (c .before .before .before .before) stop)
 
 send-at-requires : tie.Need-send-at-requires
 send-at-requires c κs = search needs
@@ -141,10 +167,8 @@ refusal-requires-2 c κs = search needs
 
 returns-2 : tie.Need-returns-2
 returns-2 c =
-    let told = c .before .enum-told2 .given .1 in
-    let k = c .before .before .before .before in
-    let not = field-no (r1 k .so) (refused-at _ _ (optional (group send)) (located-not (sendAt _) _ (learn sendSays (c .before .before .before .send-at .ensures) told))) in
-    rw (c .refusal2 .ensures ∙ ap sendRefusal told) (stopped (s1 k) not)
+    let stop = field-no (r1 (c .before .before .before .before) .so) (refused-at _ _ (optional (group send)) (located-not (sendAt _) _ (learn sendSays (c .before .before .before .send-at .ensures) (c .before .enum-told2 .given .1)))) in
+    rw (c .refusal2 .ensures ∙ ap sendRefusal (c .before .enum-told2 .given .1)) (stopped (s1 (c .before .before .before .before)) stop)
 
 chains-at-requires : tie.Need-chains-at-requires
 chains-at-requires c κs = search needs
@@ -160,10 +184,8 @@ refusal-requires-3 c κs = search needs
 
 returns-3 : tie.Need-returns-3
 returns-3 c =
-    let told = c .before .enum-told3 .given .1 in
-    let k = c .before .before .before .before in
-    let not = field-no (r2 k .so) (refused-at _ _ (list (group chain)) (learn (listSays (group chain) (row (s2 k))) (c .before .before .before .chains-at .ensures .0) told)) in
-    rw (c .refusal3 .ensures ∙ ap listRefusal told) (stopped (s2 k) not)
+    let stop = field-no (r2 (c .before .before .before .before) .so) (refused-at _ _ (list (group chain)) (learn (listSays (group chain) (row (s2 (c .before .before .before .before)))) (c .before .before .before .chains-at .ensures .0) (c .before .enum-told3 .given .1))) in
+    rw (c .refusal3 .ensures ∙ ap listRefusal (c .before .enum-told3 .given .1)) (stopped (s2 (c .before .before .before .before)) stop)
 
 skipped-at-requires : tie.Need-skipped-at-requires
 skipped-at-requires c κs = search needs
@@ -179,41 +201,27 @@ refusal-requires-4 c κs = search needs
 
 returns-4 : tie.Need-returns-4
 returns-4 c =
-    let told = c .before .enum-told4 .given .1 in
-    let k = c .before .before .before .before in
-    let not = field-no (r3 k .so) (refused-at _ _ (list (group skipped)) (learn (listSays (group skipped) (row (s3 k))) (c .before .before .before .skipped-at .ensures .0) told)) in
-    rw (c .refusal4 .ensures ∙ ap listRefusal told) (stopped (s3 k) not)
+    let stop = field-no (r3 (c .before .before .before .before) .so) (refused-at _ _ (list (group skipped)) (learn (listSays (group skipped) (row (s3 (c .before .before .before .before)))) (c .before .before .before .skipped-at .ensures .0) (c .before .enum-told4 .given .1))) in
+    rw (c .refusal4 .ensures ∙ ap listRefusal (c .before .enum-told4 .given .1)) (stopped (s3 (c .before .before .before .before)) stop)
 
 returns-5 : tie.Need-returns-5
 returns-5 c =
-    let e = c .before .before .before in
-    let k = e .before in
-    let s = s3 k in
-    let k2 = k2 k in
-    let k1 = k1 k2 in
-    let waits = pending-read k1 in
-    let sends = send-read k2 in
-    let found-chains = k .before .before .before .chains-at .ensures in
-    let found-skipped = e .skipped-at .ensures in
-    let chains-known = k .before .chains-field .given .1 in
-    let skipped-known = c .before .skipped-field .given .1 in
-    let t = list-took (group skipped) skipped-lawful (row s) (by s) _ found-skipped skipped-known in
     let its : Chained = record {
-      pending = waits .value;
-      send = sends .value;
-      chains = listIn (group chain) (row s) (chains k);
-      skipped = listIn (group skipped) (row s) (c .before .skipped-field .given .0 .0);
+      pending = pending-read (to-pending c) .value;
+      send = send-read (to-send c) .value;
+      chains = listIn (group chain) (row (s4 c)) (to-chains c .before .chains-field .given .0 .0);
+      skipped = listIn (group skipped) (row (s4 c)) (c .before .skipped-field .given .0 .0);
     } in
-    let at-pending : from s ≡ from s + offset chained 0 its = omega arith in
-    let at-send : r1 k1 .here ≡ from s + offset chained 1 its = omega (arith, pending-next k1) in
-    let at-chains : r2 k2 .here ≡ from s + offset chained 2 its = omega (arith, pending-next k1, send-next k2) in
-    let chains-next = list-next (group chain) chain-lawful (row s) (by s) _ found-chains chains-known (send-took k2 .inside) in
-    let at-skipped : chains k .next ≡ from s + offset chained 3 its = omega (arith, pending-next k1, send-next k2, chains-next) in
-    found s its (done-yes (field-yes (r3 k .so) t .so)) (t .inside)
-    (waits .place ∙ ap (λ (n : ℕ). pendingAt n (waits .value)) at-pending)
-    (sends .place ∙ ap (λ (n : ℕ). sendAt n (sends .value)) at-send)
-    (list-starts (group chain) chain-lawful (row s) (by s) _ found-chains chains-known (send-took k2 .inside) ∙ ap (λ (n : ℕ). listAt (group chain) n (its .chains)) at-chains)
-    (list-starts (group skipped) skipped-lawful (row s) (by s) _ found-skipped skipped-known (chains-took k .inside) ∙ ap (λ (n : ℕ). listAt (group skipped) n (its .skipped)) at-skipped)
+    granted (s4 c) {v = its} (done-yes (r4 c .so)) (skipped-took c .inside)
+    (its-places (from (s4 c)) its
+    (chains-starts (to-chains c))
+    (omega (arith, pending-next (to-pending c), send-next (to-send c)))
+    (skipped-starts c)
+    (omega (arith, pending-next (to-pending c), send-next (to-send c), chains-next (to-chains c)))
+    (pending-read (to-pending c) .place)
+    (omega arith)
+    (send-read (to-send c) .place)
+    (omega (arith, pending-next (to-pending c))))
 
 pub chained-at-spec : {M : Type 1} → statement M
 chained-at-spec =
