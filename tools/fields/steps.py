@@ -86,6 +86,32 @@ class Taken:
 
 
 @dataclass
+class Returned:
+    """A refusal by `else`: c of the state that has the answer's case, and where the refusal is a call's, what that one ensures of the whole or of its number."""
+    c: str
+    ensures: str = ""
+    number: str = ""
+
+    def case(self, told):
+        return f"({self.c} .{told} .given .1)"
+
+    @property
+    def call(self):
+        """The state behind the call whose answer it is."""
+        return f"{self.c} .before .before"
+
+    @property
+    def before(self):
+        return f"({self.call} .before)"
+
+    def by(self, case):
+        """The number that is rewritten, or what the whole is."""
+        if self.number:
+            return (f"rw ({self.ensures} ∙ ap {self.number} {case}) ",)
+        return "", self.ensures
+
+
+@dataclass
 class Step:
     """A field or question of the layout, and the state behind it: its type, and how far it is back to the state before."""
     number: int
@@ -220,9 +246,9 @@ class Steps:
         """`let .. else` where the layout has a question, which the answer settles."""
         field, told = self.matched(step, statement)
         step.yes, no = self.of("asks")[step.node.name]
-        no = no.replace("@told", f"(c .{told} .given .1)").replace("@ensures", field.whole("c .before .before"))
-        before = "(c .before .before .before)"
-        self.need("returns", self.refusal(f"ask-no {self.so(step, before)} {no}", self.start_of(step.number - 1, before)))
+        returned = Returned("c")
+        no = no.replace("@told", returned.case(told)).replace("@ensures", field.whole(returned.call))
+        self.need("returns", self.refusal(f"ask-no {self.so(step, returned.before)} {no}", self.start_of(step.number - 1, returned.before)))
 
     def taken(self, step, statement):
         """`let .. else` where the layout has a field."""
@@ -235,11 +261,11 @@ class Steps:
         for name, what in zip(statement.names, ["place"] if field.types == ["usize"] else ["value", "place"]):
             self.bound[name] = (what, step)
         self.bound[statement.names[0] + ".next"] = ("place", step)
-        c, more = self.answering(statement)
-        before = f"({c} .before .before .before)"
+        returned = self.answering(statement)
+        case, before = returned.case(told), returned.before
         s = self.start_of(step.number - 1, before)
-        no = field.refused(f"({self.row} {s})", f"{c} .before .before", f"({c} .{told} .given .1)")
-        self.need("returns", self.refusal(f"field-no {self.so(step, before)} {no}", s, *more(f"({c} .{told} .given .1)")))
+        no = field.refused(f"({self.row} {s})", returned.call, case)
+        self.need("returns", self.refusal(f"field-no {self.so(step, before)} {no}", s, *returned.by(case)))
 
     def matched(self, step, statement):
         """The needs of a call and of its answer's cases, and the names of both."""
@@ -277,17 +303,16 @@ class Steps:
         return earlier.field.value(self.earlier(step, earlier))
 
     def answering(self, statement):
-        """What is returned by `else`: the state that has the answer's case, and what the call in it says of the number or of the whole."""
+        """What `else` returns."""
         expression = statement.block.removeprefix("return ").removesuffix(";")
         calls = source.calls(expression)
         if not calls:
-            return "c", lambda told: ()
-        name = self.call(calls[-1])
-        ensures = f"c .{name} .ensures"
+            return Returned("c")
+        ensures = f"c .{self.call(calls[-1])} .ensures"
         if expression.startswith(calls[-1].path):
-            return "c .before", lambda told: ("", ensures)
-        refusal = source.callee(self.crate, calls[-1], statement.enum if ".refusal" in expression else "").ensures
-        return "c .before", lambda told: (f"rw ({ensures} ∙ ap {refusal.split()[2]} {told}) ",)
+            return Returned("c .before", ensures)
+        callee = source.callee(self.crate, calls[-1], statement.enum if ".refusal" in expression else "")
+        return Returned("c .before", ensures, callee.ensures.split()[2])
 
     def last_field(self):
         return next(step for step in reversed(self.steps) if step.field)

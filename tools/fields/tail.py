@@ -25,13 +25,14 @@ class Tail(Answers):
                 self.need("returns", self.last())
             elif isinstance(statement, LetElse) and self.config.get("answers"):
                 taken, told = self.matched(Step(0, None), statement)
-                self.need("returns", self.given().replace("@told", f"(c .{told} .given .1)").replace("@ensures", taken.whole("c .before .before")))
+                returned = self.answering(statement)
+                self.need("returns", self.given().replace("@told", returned.case(told)).replace("@ensures", taken.whole(returned.call)))
             elif isinstance(statement, If) and form.startswith("toEnd "):
                 return self.sealed(statement)
             elif isinstance(statement, LetElse) and form.startswith("optional "):
                 return self.flagged(form.removeprefix("optional "), *self.tail)
             else:
-                raise Unfit(f"{statement} is no field or question of the layout")
+                raise Unfit(f"`{getattr(statement, 'expression', '') or statement.condition}` is no field or question of the layout")
             self.tail.pop(0)
 
     def given(self):
@@ -71,12 +72,12 @@ class Tail(Answers):
         self.read_fact(step)
         self.took_fact(step, step.field.value())
         # it is refused
-        c, more = self.answering(flag)
-        before, case = f"({c} .before .before .before)", f"({c} .{told} .given .1)"
+        returned = self.answering(flag)
+        before, case = returned.before, returned.case(told)
         s = self.start_of(step.number - 1, before)
         here = f"(r{step.number - 1} {before} .here)" if step.number > 1 else self.came_from(before)
-        no = step.field.refused("", f"{c} .before .before", case)
-        self.need("returns", self.refusal(self.stopped(f"optional-no-flag {item} ({self.row} {s}) {here} {no}", step, before), s, *more(case)))
+        no = f"optional-no-flag {item} ({self.row} {s}) {here} {step.field.refused('', returned.call, case)}"
+        self.need("returns", self.refusal(self.stopped(no, step, before), s, *returned.by(case)))
         # it is 1, or 0
         number = self.count("if")
         row, by, here, _, value, next = self.terms(step, "(c .before)")
@@ -103,11 +104,11 @@ class Tail(Answers):
         row, by, here, _, _, next = self.terms(flag, "(t .before)")
         s = f"(s{flag.number} (t .before))"
         # it is refused
-        c, more = self.answering(case)
-        told = f"({c} .{told} .given .1)"
-        no = f"optional-no {item} {row} {here} (set t) {inner.refused(row, f'{c} .before .before', told)}"
-        stop = self.refusal(self.stopped(no, flag, self.before(flag, "(t .before)")), s, *more(told))
-        self.need("returns", stop.replace("c =\n", f"c =\n    let t = {c} .before .before .before in\n"))
+        returned = self.answering(case)
+        told = returned.case(told)
+        no = f"optional-no {item} {row} {here} (set t) {inner.refused(row, returned.call, told)}"
+        stop = self.refusal(self.stopped(no, flag, self.before(flag, "(t .before)")), s, *returned.by(told))
+        self.need("returns", stop.replace("c =\n", f"c =\n    let t = {bare(returned.before)} in\n"))
         # it is read
         lets, learnt, place = ["let t = c .before .before .before .before in"], inner.learnt(row, self.CALL, inner.case()), ""
         if inner.kind == "located":
