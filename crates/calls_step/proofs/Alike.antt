@@ -14,7 +14,7 @@ use Rattle.rows.specs.Rows.{chain, skipped, range}
 use Rattle.numbers.specs.Ranges.{Received, received}
 use Rattle.store.specs.Veiled.{ContactAlike}
 use Rattle.ledger.specs.Call.{Lent}
-use Rattle.ledger.specs.Ledger.{withNumbers, coveredBy, longEnough, fitting}
+use Rattle.ledger.specs.Ledger.{withNumbers, coveredBy, enough, fitting}
 
 ranges-plain : (rs : List Range) → (list (group range)) .blank veil rs ≡ rs
 unfolding layout.blankOf
@@ -58,11 +58,11 @@ module _ (v v′ : Contact) (e : ContactAlike v v′) where
   unfolding layout.blankOf
   skipped-alike = list-as-long (group skipped) veil (v .skipped) (v′ .skipped) (ap (λ (c : Contact). c .skipped) e)
 
-  -- the same numbers are covered, and the same lists are long longEnough
+  -- the same numbers are covered, and the same lists are long enough
   pub covered-alike : coveredBy v ≡ coveredBy v′
   covered-alike = ap₂ (λ (c : ℕ) (rs : List Range). coveredBy (withNumbers 0 (received c rs) v)) contiguous-alike above-alike
 
-  pub enough-alike : (l : Lent) → longEnough v l ≡ longEnough v′ l
+  pub enough-alike : (l : Lent) → enough v l ≡ enough v′ l
   enough-alike l = rw (chains-alike, skipped-alike, above-alike, unacked-alike, expired-alike)
 
   pub fitting-alike : (l : Lent) → fitting v l ≡ fitting v′ l

@@ -21,7 +21,7 @@ use Rattle.store.proofs.Tests.{is-of}
 use Rattle.store.proofs.Parts.{part-long}
 use Rattle.store.proofs.Proved.{store-laws}
 use Rattle.ledger.specs.Call.{restore, granted, refused, refusedAt, Lent}
-use Rattle.ledger.specs.Ledger.{Ledger, opened, plain, refuse, longEnough, restores, openOf, fills, finds, openIn, covered}
+use Rattle.ledger.specs.Ledger.{Ledger, opened, plain, refuse, enough, restores, openOf, fills, finds, openIn, covered}
 use Rattle.calls_step.specs.Two.{LedgersAlike, restoreds, openeds}
 use Rattle.calls_step.proofs.Accounts.{AccountsAlike, plain-alike, cond-alike}
 use Rattle.calls_step.specs.Stands.{SoundStore}
@@ -59,7 +59,7 @@ module _ (N : ℕ) where
           → readRow (contact (e .version)) (partOf run′ e) ≡ accepted c′ → ContactAlike c c′ → AccountsAlike N (fills k lent run es l (accepted c)) (fills k lent run′ es l′ (accepted c′))
       opened-alike e at c c′ r r′ a =
           subst (λ (b : Bool). AccountsAlike N (fills k lent run es l (accepted c)) (cond b (plain granted (opened run′ es (openOf k c′))) (refuse LISTS l′))) (enough-alike c c′ a lent)
-          (cond-alike N (longEnough c lent)
+          (cond-alike N (enough c lent)
           (plain-alike N refl refl (openeds run run′ es (openOf k c) (openOf k c′) v (record {
             id = refl;
             n = sent-alike c c′ a;

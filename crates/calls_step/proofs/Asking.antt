@@ -1,4 +1,4 @@
--- Question 34 on an open contact: it is asked of the fields and lists as the ledger asks it, and is a yes exactly if the lists are long longEnough.
+-- Question 34 on an open contact: it is asked of the fields and lists as the ledger asks it, and is a yes exactly if the lists are long enough.
 -- Assumes nothing.
 use Prim.Native.Nat.{ℕ, _/_, _≤_}
 use mathlib.Core.List.{List}
@@ -26,7 +26,7 @@ use Rattle.calls_step.specs.declared.Mark.the-variants.{Opened}
 use Rattle.calls_step.specs.Hand.{Hand, Left, no, lentOf}
 use Rattle.ledger.specs.Call.{Lent}
 use Rattle.calls_step.specs.Step.{passes, coveredIn}
-use Rattle.ledger.specs.Ledger.{Open, opened, Account, refuse, fitting, longEnough, covered, current, passesNow}
+use Rattle.ledger.specs.Ledger.{Open, opened, Account, refuse, fitting, enough, covered, current, passesNow}
 use Rattle.calls_step.specs.Agree.{laidLists}
 use Rattle.calls_step.specs.Stands.{HoldsAll, Sound, StandsFor}
 use Rattle.calls_step.proofs.Laid.{laid-filled, holds-filled}
@@ -35,8 +35,8 @@ use Rattle.calls_step.proofs.Good.{Good, refuse-good}
 held : (n items : ℕ) → within n items ≡ true → leb n items ≡ true
 held n items e = and-both (leb n items) (leb n 65535) e .0
 
--- lists that fit are long longEnough
-fits-enough : (v : Contact) (l : Lent) → fitting v l ≡ true → longEnough v l ≡ true
+-- lists that fit are long enough
+fits-enough : (v : Contact) (l : Lent) → fitting v l ≡ true → enough v l ≡ true
 fits-enough v l fit =
     let h = five (within (length (v .chains)) (l .chains / 51)) (within (length (v .skipped)) (l .skipped / 46)) (within (length (v .above)) (l .above / 2))
     (within (length (v .unacked)) (l .unacked)) (within (length (v .expired)) (l .expired / 2)) fit in
@@ -65,7 +65,7 @@ module _ (N : ℕ) (run : List ℕ) (es : List Entry) (o : Open) (ls : Lists) (o
     pub stands : StandsFor N (opened run es o) hand
     stands = record { stands = λ i. record { mark = Opened (record { 0 = o .id }); run = run; entries = es; contact = contactOf (current N o); lists = same i; out = out } }
 
-    -- ---- lists that are long longEnough
+    -- ---- lists that are long enough
     module _ (fit : fitting (current N o) (lentOf hand) ≡ true) where
       long : longEnough (current N o) ls ≡ true
       long = fits-enough (current N o) (lentOf hand) fit

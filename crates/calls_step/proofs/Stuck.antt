@@ -40,7 +40,7 @@ use Rattle.ledger.specs.Call as call
 use Rattle.calls_step.specs.Step.{restoring, passes, filling, opening, covering, writing, step}
 use Rattle.numbers.specs.Ranges.{isRange}
 use Rattle.calls_step.specs.Step as steps
-use Rattle.ledger.specs.Ledger.{Open, Ledger, nothing, restored, opened, fitting, longEnough, current}
+use Rattle.ledger.specs.Ledger.{Open, Ledger, nothing, restored, opened, fitting, enough, current}
 use Rattle.calls_step.specs.Legal.{Turn, Each, Typed, Legal}
 use Rattle.calls_step.specs.Agree.{laidLists}
 use Rattle.calls_step.specs.Stuck.{placesFor, Unstuck}

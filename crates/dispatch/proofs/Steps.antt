@@ -15,6 +15,7 @@ use Rattle.layout.specs.Write as writer
 use Rattle.rows.specs.Values as value
 use Rattle.rows.specs.Rows as rows
 use Rattle.rows.specs.declared.ContactId.{ContactId}
+use Rattle.numbers.specs.Ranges.{isRange}
 use Rattle.received.specs.Change.{changeOf}
 use Rattle.received.specs.Lent.{fits, planOf, listAfter}
 use Rattle.received.specs.declared.Planned.the-variants as planned
@@ -174,7 +175,7 @@ module _ (m : Mark) (run : List ℕ) (es : List Entry) (c : Contact) (l : Lists)
       covers-is : {f t : ℕ} → call ≡ Covers f t → {r : code.Left} → r ≡ left c m (coversSays c (l .above) f t) → leftOf r h l out ≡ step HIGHEST (callOf call) h
       unfolding steps.step
       covers-is {f} {t} e is =
-          as-called e (ap (λ r. leftOf r h l out) is ∙ cond-of (λ a. leftOf (left c m a) h l out) (steps.inOrder f t) _ _ ∙ opened-yes m _ (answered e))
+          as-called e (ap (λ r. leftOf r h l out) is ∙ cond-of (λ a. leftOf (left c m a) h l out) (isRange f t) _ _ ∙ opened-yes m _ (answered e))
 
       cover-is : {f t : ℕ} → call ≡ Cover f t → {r : code.Left} {a : List ℕ} → (r ≡ coverLeaves c m (l .above) f t) × (a ≡ coverList c (l .above) f t)
           → leftOf r h (aboveAs a l) out ≡ step HIGHEST (callOf call) h
@@ -183,7 +184,7 @@ module _ (m : Mark) (run : List ℕ) (es : List Entry) (c : Contact) (l : Lists)
           let v = steps.coveredIn h in
           as-called e
           ((λ i. leftOf (is .0 i) h (aboveAs (is .1 i) l) out)
-          ∙ either (steps.inOrder f t)
+          ∙ either (isRange f t)
           (λ b. leftOf (cond b (coveredBy (planOf v (length (l .above)) f t) c m) (left c m (answer.No RANGE))) h (aboveAs (cond b (listAfter v (l .above) f t) (l .above)) l) out
           ≡ cond b (steps.covering f t h (planOf v (length (l .above)) f t)) (no RANGE h))
           (λ _. either (fits v (length (l .above)) f t)

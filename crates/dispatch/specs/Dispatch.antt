@@ -19,6 +19,7 @@ use Rattle.calls_step.specs.declared.Mark.{Mark}
 use Rattle.calls_step.specs.declared.Mark.the-variants.{Fresh, Restored, Opened}
 use Rattle.ledger.specs.Call as ledger
 use Rattle.ledger.specs.Call.{granted, advanced, truth, number, wrote, said, refused}
+use Rattle.calls_step.specs.Hand as hands
 use Rattle.calls_step.specs.Hand.{Hand, leaves}
 use Rattle.calls_step.specs.Step.{passes, aboveAs}
 use Rattle.opened.specs.declared.Answer.{Answer}
@@ -55,7 +56,7 @@ abbrev pub handOf : Mark → (run : List ℕ) → List Entry → Contact → Lis
 handOf m run es c l out = record { mark = m; run = run; entries = es; contact = c; lists = l; out = out }
 
 -- ... of what was handed in: the store stays, and lists and output stand as they are now
-abbrev pub leftOf : Left → Hand → Lists → (out : List ℕ) → ledger.Left
+abbrev pub leftOf : Left → Hand → Lists → (out : List ℕ) → hands.Left
 leftOf r h l out = leaves (says (r .answer) out) (handOf (r .mark) (h .run) (h .entries) (r .contact) l out)
 
 -- ---- what a call has to know of the store

@@ -26,7 +26,7 @@ use Rattle.store.specs.Store.{storeOf, entryAt, ContactRow, Found, asked, found
 use Rattle.calls_step.specs.declared.Mark.the-variants.{Fresh, Restored}
 use Rattle.ledger.specs.Call.{restore, opens, statement, Answer, isGranted, granted, said, Lent}
 use Rattle.calls_step.specs.Hand.{Hand, lentOf}
-use Rattle.ledger.specs.Ledger.{Open, Ledger, nothing, restored, opened, Account, plain, refuse, longEnough, fitting, openOf, openIn, passesNow, covered, current, lineNow, writeNow, ledger}
+use Rattle.ledger.specs.Ledger.{Open, Ledger, nothing, restored, opened, Account, plain, refuse, enough, fitting, openOf, openIn, passesNow, covered, current, lineNow, writeNow, ledger}
 use Rattle.ledger.specs.Ledger as ledgers
 use Rattle.calls_step.specs.Replay.{answers, ledgerAnswers, AllTyped}
 use Rattle.calls_step.specs.Proved.{HIGHEST}
@@ -49,7 +49,7 @@ wide = omega arith
 few-enough : (n items : ℕ) → n < 256 ^ 2 → within n items ≡ leb n items
 few-enough n items few = either (leb n items) (λ b. b && leb n 65535 ≡ b) (λ t. le-leb n 65535 (omega arith)) (λ t. refl)
 
-fits-lent : (v : Contact) → Valid (rows.contact 3) v → (lent : Lent) → longEnough v lent ≡ true → fitting v lent ≡ true
+fits-lent : (v : Contact) → Valid (rows.contact 3) v → (lent : Lent) → enough v lent ≡ true → fitting v lent ≡ true
 fits-lent v valid lent e =
     let k = fits-of 3 v (valid .fits) in
     rw (
@@ -66,7 +66,7 @@ module _ (run : List ℕ) (es : List Entry) (by : Bytes run) (going : asked (sto
   stored = record { bytes = by; going = going }
 
   -- ---- one contact
-  module _ (c : ContactRow) (from : FromEntry run es c) (long : longEnough (c .fields) (lentOf h) ≡ true) where
+  module _ (c : ContactRow) (from : FromEntry run es c) (long : enough (c .fields) (lentOf h) ≡ true) where
     abbrev k : ℕ
     k = c .id
 
@@ -129,7 +129,7 @@ module _ (run : List ℕ) (es : List Entry) (by : Bytes run) (going : asked (sto
   unfolding ledgers.ledger
   on-restored k = refl
 
-  two-calls : (c : ContactRow) (cs : List ContactRow) (l : Ledger) → On l → (from : FromEntry run es c) → longEnough (c .fields) (lentOf h) ≡ true
+  two-calls : (c : ContactRow) (cs : List ContactRow) (l : Ledger) → On l → (from : FromEntry run es c) → enough (c .fields) (lentOf h) ≡ true
       → length (contactLine es c) ≤ length (h .out) → ledgerAnswers HIGHEST (callsOn cs) (lentOf h) (opened run es (openOf (c .id) (c .fields))) ≡ linesOf es cs
       → ledgerAnswers HIGHEST (callsOn (c ∷ cs)) (lentOf h) l ≡ linesOf es (c ∷ cs)
   two-calls c cs l on from long room rest =
@@ -151,7 +151,7 @@ module _ (run : List ℕ) (es : List Entry) (by : Bytes run) (h : Hand) where
   ledger-says : (f : Found) → store.restore (storeOf run es) ≡ store.granted f → LentEnough es (lentOf h) (f .contacts)
       → ledgerAnswers HIGHEST (restore run es ∷ callsOn (f .contacts)) (lentOf h) nothing ≡ granted ∷ linesOf es (f .contacts)
   unfolding ledgers.ledger
-  ledger-says f e longEnough = go (asked (storeOf run es)) refl e
+  ledger-says f e enough = go (asked (storeOf run es)) refl e
     where
       go : (a : Asked) → asked (storeOf run es) ≡ a → outcome a (found (storeOf run es)) ≡ store.granted f
           → ledgerAnswers HIGHEST (restore run es ∷ callsOn (f .contacts)) (lentOf h) nothing ≡ granted ∷ linesOf es (f .contacts)
@@ -159,7 +159,7 @@ module _ (run : List ℕ) (es : List Entry) (by : Bytes run) (h : Hand) where
           let same : found (storeOf run es) ≡ f = cc in
           rw g (ap (λ (rest : List Answer). granted ∷ rest)
           (all-calls run es by g h (f .contacts) (restored run es) (on-restored run es by g h)
-          (subst (λ (x : Found). AllFrom run es (x .contacts)) same (all-from run es es)) longEnough))
+          (subst (λ (x : Found). AllFrom run es (x .contacts)) same (all-from run es es)) enough))
       go (asks.Refused n i) g r = absurd (let z : _≡_ {A = ℕ} 0 1 = cc in omega arith)
 
 pub lines-said : (run : List ℕ) (es : List Entry) (f : Found) → Bytes run → store.restore (storeOf run es) ≡ store.granted f

@@ -12,7 +12,7 @@ use Rattle.store.specs.Store.{storeOf, ContactRow, Found}
 use Rattle.calls_step.specs.declared.Mark.the-variants.{Fresh}
 use Rattle.ledger.specs.Call.{Call, restore, opens, statement, Answer, granted, said, Lent}
 use Rattle.calls_step.specs.Hand.{Hand, lentOf}
-use Rattle.ledger.specs.Ledger.{longEnough}
+use Rattle.ledger.specs.Ledger.{enough}
 use Rattle.calls_step.specs.Replay.{answers}
 use Rattle.calls_step.specs.Proved.{HIGHEST}
 use Rattle.text.specs.Text.{contactLine}
@@ -27,10 +27,10 @@ abbrev pub linesOf : List Entry → List ContactRow → List Answer
 linesOf es [] = []
 linesOf es (c ∷ cs) = granted ∷ said (length (contactLine es c)) (contactLine es c) ∷ linesOf es cs
 
--- every lent length is longEnough: the lists for each contact's items, the output for its line
+-- every lent length is enough: the lists for each contact's items, the output for its line
 abbrev pub LentEnough : List Entry → Lent → List ContactRow → Type 0
 LentEnough es lent [] = Unit {0}
-LentEnough es lent (c ∷ cs) = (longEnough (c .fields) lent ≡ true) × (length (contactLine es c) ≤ lent .out) × LentEnough es lent cs
+LentEnough es lent (c ∷ cs) = (enough (c .fields) lent ≡ true) × (length (contactLine es c) ≤ lent .out) × LentEnough es lent cs
 
 pub record LineLaws : Type 0 where
   -- of a store that restore grants, the calls say exactly the text's line of each contact

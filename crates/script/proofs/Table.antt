@@ -78,7 +78,7 @@ module _ {t : List ℕ} (e : t ≡ TABLE) (code : ℕ) (h : code < length withUn
 
   pub wide-digit : Digit (getD t (code * ROW + WIDE) 0) (wideOf code)
   unfolding table.TABLE
-  wide-digit = rw e (digit-of WIDE (λ c. c .index) tt code h)
+  wide-digit = rw e (digit-of WIDE (λ c. c .wide) tt code h)
 
   pub others-digit : Digit (getD t (code * ROW + OTHER) 0) (othersOf code)
   unfolding table.TABLE

@@ -32,7 +32,7 @@ returns c =
     (c .index2 .ensures .0 ∙ wide-digit (i .before .before .pre) (i .index .result) (c .before .before .if1 .taken) .1 ∙ ap wideOf (i .index .ensures .0), search needs)
 
 returns-2 : tie.Need-returns-2
-returns-2 c = (sym (ap (λ (d : Command). d .index) (no-command (c .before .before .before .args .code) (search needs))), search needs)
+returns-2 c = (sym (ap (λ (d : Command). d .wide) (no-command (c .before .before .before .args .code) (search needs))), search needs)
 
 pub wide-of-spec : {M : Type 1} → statement M
 wide-of-spec =
