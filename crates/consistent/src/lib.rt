@@ -4,7 +4,7 @@ ghost use mathlib.Core.Bool.{cond, _&&_};
 ghost use Prim.Native.Nat.{_+_, _*_, _^_, _≤_, _<_};
 ghost use lib.ListN.{length, take, drop};
 ghost use lib.Dec.{eqb};
-ghost use Rattle.layout.specs.Form.{bigEndian, u32};
+ghost use Rattle.layout.specs.Form.{u32};
 ghost use Rattle.layout.specs.Layout.{group};
 ghost use Rattle.rows.specs.Checks.{any, distinct, placesDistinct, rising, canonical, noneAbove};
 ghost use Rattle.rows.specs.Rows.{chain, skipped, range};
@@ -13,16 +13,6 @@ ghost use Rattle.lists.specs.Places.{placesOf};
 ghost use Rattle.received.specs.Lent.{pairs};
 ghost use Rattle.consistent.specs.Asked.{Placed, chainsAsked};
 ghost use Rattle.consistent.specs.Cells.{chainWidth, supersededAt, gens, supersededs, oneCurrent, ChainsStand, placeNumber, placeNumbers, PlacesStand, ascending};
-
-// The number in four bytes, the most significant first.
-fn be32(bytes: &[u8], at: usize) -> u64
-    requires { ⌜ at + 4 ≤ length (now bytes) ⌝ }
-    ensures { λ r. ⌜ (r ≡ bigEndian 4 (drop at (now (bytes .entry)))) × (r < 2 ^ 32) ⌝ }
-{
-    let high = width::wide_byte(bytes[at]) * 256 + width::wide_byte(bytes[at + 1]);
-    let low = width::wide_byte(bytes[at + 2]) * 256 + width::wide_byte(bytes[at + 3]);
-    high * 65536 + low
-}
 
 // What is asked of the chains: 17 and 18.
 pub struct ChainsAsked {
@@ -118,7 +108,7 @@ fn place_at(bytes: &[u8], at: usize) -> u64
     requires { ⌜ at + 46 ≤ length (now bytes) ⌝ }
     ensures { λ r. ⌜ (r ≡ placeNumber (drop at (now (bytes .entry)))) × (r < 2 ^ 40) ⌝ }
 {
-    width::wide_byte(bytes[at]) * 4_294_967_296 + be32(bytes, at + 2)
+    width::wide_byte(bytes[at]) * 4_294_967_296 + fields::be32(bytes, at + 2)
 }
 
 // Whether each place is above the one before it.
@@ -208,7 +198,7 @@ pub fn rising_in_row(row: &[u8], first: usize, count: usize, sent: u32) -> bool
     let mut p = first;
     let mut i: usize = 0;
     while i < count {
-        let n = be32(row, p);
+        let n = fields::be32(row, p);
         if n < low {
             return false;
         }
@@ -231,8 +221,8 @@ pub fn canonical_in_row(row: &[u8], first: usize, count: usize, from: u64, high:
     let mut p = first;
     let mut i: usize = 0;
     while i < count {
-        let a = be32(row, p);
-        let b = be32(row, p + 4);
+        let a = fields::be32(row, p);
+        let b = fields::be32(row, p + 4);
         if b < a {
             return false;
         }

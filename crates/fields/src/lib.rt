@@ -4,7 +4,7 @@ use rows::Dir;
 use rows::PairingRole;
 use rows::Verification;
 ghost use mathlib.Core.Path.{_≡_};
-ghost use Prim.Native.Nat.{_+_, _≤_};
+ghost use Prim.Native.Nat.{_+_, _^_, _≤_, _<_};
 ghost use lib.ListN.{length, drop};
 ghost use Rattle.layout.specs.Veil.{plain};
 ghost use Rattle.layout.specs.Form.{bigEndian, bytes, number, u8, u16, u32, u64, flag};
@@ -154,6 +154,16 @@ fn big_endian(row: &[u8], at: usize, w: usize) -> u64
         i += 1;
     }
     n
+}
+
+// The same of four bytes, written out for the loops over lists of a row.
+pub fn be32(bytes: &[u8], at: usize) -> u64
+    requires { ⌜ at + 4 ≤ length (now bytes) ⌝ }
+    ensures { λ r. ⌜ (r ≡ bigEndian 4 (drop at (now (bytes .entry)))) × (r < 2 ^ 32) ⌝ }
+{
+    let high = width::wide_byte(bytes[at]) * 256 + width::wide_byte(bytes[at + 1]);
+    let low = width::wide_byte(bytes[at + 2]) * 256 + width::wide_byte(bytes[at + 3]);
+    high * 65536 + low
 }
 
 // A number of w bytes.

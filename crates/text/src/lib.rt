@@ -10,7 +10,6 @@ ghost use mathlib.Core.List.{_∷_, [], _++_};
 ghost use mathlib.Core.Bool.{cond};
 ghost use Prim.Native.Nat.{_+_, _-_, _*_, _^_, _≤_, _<_};
 ghost use lib.ListN.{length, drop};
-ghost use Rattle.layout.specs.Form.{bigEndian};
 ghost use Rattle.layout.specs.Layout.{readRow, group};
 ghost use Rattle.layout.specs.Write.{stored};
 ghost use Rattle.rows.specs.Answers.{leaves};
@@ -144,16 +143,6 @@ fn queued_in(places: &[u64], n: usize, id: ContactId) -> u64
 
 // ---- a line's numbers
 
-// The number in four bytes, the most significant first.
-fn be32(bytes: &[u8], at: usize) -> u64
-    requires { ⌜ at + 4 ≤ length (now bytes) ⌝ }
-    ensures { λ r. ⌜ (r ≡ bigEndian 4 (drop at (now (bytes .entry)))) × (r < 2 ^ 32) ⌝ }
-{
-    let high = width::wide_byte(bytes[at]) * 256 + width::wide_byte(bytes[at + 1]);
-    let low = width::wide_byte(bytes[at + 2]) * 256 + width::wide_byte(bytes[at + 3]);
-    high * 65536 + low
-}
-
 // How many numbers a range holds.
 fn width(from: u64, to: u64) -> u64
     requires { ⌜ to < 2 ^ 32 ⌝ }
@@ -174,8 +163,8 @@ fn numbers_in_row(row: &[u8], first: usize, count: usize) -> u64
     let mut p = first;
     let mut i: usize = 0;
     while i < count {
-        let a = be32(row, p);
-        let b = be32(row, p + 4);
+        let a = fields::be32(row, p);
+        let b = fields::be32(row, p + 4);
         sum += width(a, b);
         p += 8;
         i += 1;

@@ -1,4 +1,4 @@
--- `consistent::be32` meets its contract.
+-- `fields::be32` meets its contract.
 use Prim.Native.Nat.{ℕ, _+_, _*_}
 use mathlib.Core.List.{List}
 use mathlib.Core.Path.{_≡_}
@@ -9,8 +9,8 @@ use Rattle.layout.specs.Form.{bigEndian}
 use lib.Seq.{getD-drop}
 use Rattle.layout.specs.Form as form
 use borrow.Author.Needs.{needs}
-use Rattle.consistent.proofs.be32.Statement.{statement}
-use Rattle.consistent.proofs.be32.Tie as tie
+use Rattle.fields.proofs.be32.Statement.{statement}
+use Rattle.fields.proofs.be32.Tie as tie
 
 shared-slice-read-wide-byte : tie.Need-shared-slice-read-wide-byte
 shared-slice-read-wide-byte c = search needs
