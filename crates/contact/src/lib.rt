@@ -207,7 +207,7 @@ pub fn check_contact(version: u32, row: &[u8]) -> ContactCheck
 
 impl Contact {
     // All zeros: what stands where no row was read.
-    fn zero() -> Contact
+    pub fn zero() -> Contact
         ensures { λ r. ⌜ r ≡ zeroContact ⌝ }
     {
         let peer = Card::zero();

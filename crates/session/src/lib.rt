@@ -6,13 +6,9 @@ use call_code::Numbers;
 use call_code::YES;
 use calls::RestoreLeft;
 use calls_step::Mark;
-use card::Card;
 use contact::Contact;
-use contact::SendChain;
 use dispatch::Call;
 use restore::Restored;
-use rows::PairingRole;
-use rows::Verification;
 use sheet::PLACE;
 ghost use mathlib.Core.Path.{_≡_};
 ghost use mathlib.Core.List.{List, [], _∷_};
@@ -20,7 +16,7 @@ ghost use mathlib.Core.Bool.{cond};
 ghost use mathlib.Core.Option.{some};
 ghost use Prim.Native.Nat.{ℕ, _*_};
 ghost use lib.ListN.{drop};
-ghost use Rattle.contact.specs.Contact.{Lists, listsBefore, listsAfter, zeroContact};
+ghost use Rattle.contact.specs.Contact.{Lists, listsBefore, listsAfter};
 ghost use Rattle.ledger.specs.Call.{isGranted};
 ghost use Rattle.calls_step.specs.Step.{step};
 ghost use Rattle.calls_step.specs.Proved.{HIGHEST};
@@ -50,45 +46,11 @@ pub struct CallLeft {
 
 // ---- before the first call
 
-fn no_contact() -> Contact
-    ensures { λ r. ⌜ r ≡ zeroContact ⌝ }
-{
-    let peer = Card::zero();
-    Contact {
-        resume_index: 0,
-        chains: 0,
-        skipped: 0,
-        above: 0,
-        unacked: 0,
-        expired: 0,
-        sent_msgno: 0,
-        peer_acked: 0,
-        peer_read: 0,
-        read_marked: 0,
-        contiguous: 0,
-        send: SendChain::Absent,
-        role: PairingRole::A,
-        verification: Verification::Unverified,
-        pending: false,
-        peer,
-        pair_id: [0; 16],
-        th: [0; 48],
-        nonce_b: [0; 16],
-        door_a_to_b: [0; 32],
-        door_b_to_a: [0; 32],
-        route_key: [0; 32],
-        chain_key: [0; 32],
-        pending_chain_key: [0; 32],
-        pending_msg_seed: [0; 32],
-        send_key: [0; 32],
-    }
-}
-
 // Nothing is restored.
 pub fn begin() -> Session
     ensures { λ r. ⌜ r ≡ begun ⌝ }
 {
-    let contact = no_contact();
+    let contact = Contact::zero();
     Session {
         contact,
         mark: Mark::Fresh,

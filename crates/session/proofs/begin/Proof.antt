@@ -4,11 +4,11 @@ use borrow.Author.Needs.{needs}
 use Rattle.session.proofs.begin.Statement.{statement}
 use Rattle.session.proofs.begin.Tie as tie
 
-no-contact-requires : tie.Need-no-contact-requires
-no-contact-requires c κs = search needs
+zero-requires : tie.Need-zero-requires
+zero-requires c κs = search needs
 
 returns : tie.Need-returns
-returns c = rw (c .no-contact .ensures)
+returns c = rw (c .zero .ensures)
 
 pub begin-spec : {M : Type 1} → statement M
-begin-spec = tie.close (tie.spec no-contact-requires returns)
+begin-spec = tie.close (tie.spec zero-requires returns)
