@@ -34,9 +34,6 @@ pub record Cut (n : ℕ) (l mid : List ℕ) : Type 0 where
   pub room : n ≤ length l
   pub left : drop n l ≡ mid
 
-pub uncut : (l : List ℕ) → Cut 0 l l
-uncut l = record { room = omega arith; left = refl }
-
 pub cut-more : (n m : ℕ) {l mid rest : List ℕ} → Cut n l mid → Cut m mid rest → Cut (n + m) l rest
 cut-more n m {l} a b = record {
   room = omega (arith, a .room, b .room, ap (λ (x : List ℕ). length x) (a .left), length-drop n l);

@@ -14,10 +14,6 @@ length-hide [] bs = refl
 length-hide (m ∷ ms) [] = refl
 length-hide (m ∷ ms) (b ∷ bs) = ap suc (length-hide ms bs)
 
-pub hide-nil : (m : List Bool) → hide m [] ≡ []
-hide-nil [] = refl
-hide-nil (m ∷ ms) = refl
-
 -- two rows that are alike once hidden are as long
 pub as-long : (m : List Bool) (row row′ : List ℕ) → hide m row ≡ hide m row′ → length row ≡ length row′
 as-long m row row′ e = sym (length-hide m row) ∙ ap (λ (l : List ℕ). length l) e ∙ length-hide m row′

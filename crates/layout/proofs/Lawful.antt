@@ -23,10 +23,6 @@ module _ {B : Type 0} (R : B → B → Type 0) (k : B → List ℕ → List Bool
   ReadAlike (value b rest) (refused q) = ⊥
   ReadAlike (refused p) (value b rest) = ⊥
 
-  pub alike-refl : ((b : B) → R b b) → (x : Read B) → ReadAlike x x
-  alike-refl r (value b rest) = (r b, refl)
-  alike-refl r (refused q) = refl
-
 -- ... and the same mask
 pub record Same {B : Type 0} (R : B → B → Type 0) (k : B → List ℕ → List Bool) (x x′ : Read B) (m m′ : List Bool) : Type 0 where
   pub alike : ReadAlike R k x x′

@@ -1,9 +1,9 @@
 -- How far a reader has come: what is left of the layout, and where. A reader's proof takes one of these steps for each field and question.
 -- Assumes nothing.
 use Prim.Native.Nat.{ℕ, suc, _≤_, _<_}
-use mathlib.Core.List.{List, [], _∷_, _++_}
+use mathlib.Core.List.{List, [], _∷_}
 use mathlib.Core.Bool.{Bool, true, false, cond}
-use mathlib.Core.Option.{Option, none, some}
+use mathlib.Core.Option.{none, some}
 use mathlib.Core.Path.{_≡_, refl, sym, ap, _∙_}
 use native.Mathlib.Omega.{arith}
 use lib.ListN.{length, getD, take, drop, drop-of-length-le}
@@ -11,10 +11,10 @@ use lib.Seq.{drop-cons}
 use lib.Dec.{leb}
 use Rattle.layout.specs.Questions.{FIELD}
 use Rattle.layout.specs.Veil.{Sensitivity}
-use Rattle.layout.specs.Read.{Read, value, refused, andThen, said}
+use Rattle.layout.specs.Read.{Read, value, refused, andThen}
 use Rattle.layout.specs.Form.{Form, bytes, u16, flag, noMore, onlyIf, times, inside, usedUp}
 use Rattle.layout.specs.Layout.{Layout, done, field, ask, end, parse, optional, list, sized, Answer, accepted, refusedBy, answer, readRow}
-use Rattle.layout.proofs.Lawful.{Lawful, value≢refused}
+use Rattle.layout.proofs.Lawful.{value≢refused}
 use Rattle.layout.proofs.At.{Took}
 
 -- reading l at `from` is reading `rest` at `here`
@@ -158,31 +158,3 @@ module _ {B : Type 0} (f : Form B) (q : ℕ) where
               let rest : drop n (drop mid row) ≡ drop next row = cc in
               rw (same, rest)
           go false e = absurd (value≢refused (sym e))
-
--- ---- a row that was printed: what was printed of a field stands in front
-pub record Stands {A : Type 0} (l : Layout A) (row : List ℕ) (rest : Layout A) (post : List ℕ) : Type 0 where
-  pub same : parse l row ≡ parse rest post
-
-pub record Printed {A : Type 0} (l : Layout A) (row : List ℕ) : Type 1 where
-  pub rest : Layout A
-  pub post : List ℕ
-  pub so : Stands l row rest post
-
-module _ {A : Type 0} {l : Layout A} {row : List ℕ} where
-  abbrev pub printed-yes : {B : Type 0} {f : Form B} {get : A → B} {k : B → Layout A} (b : B) (post : List ℕ) → Lawful f → f .fits b post → f .refusal b ≡ none
-      → Stands l row (field f get k) (f .print b ++ post) → Printed l row
-  printed-yes {f = f} {get = get} {k = k} b post law fits granted so = record {
-    rest = k b;
-    post = post;
-    so = record { same = so .same ∙ field-is (f .print b ++ post) f get k (value b post) (law .printed b post fits ∙ ap (λ (o : Option ℕ). said o b post) granted) };
-  }
-
-  module _ {q : ℕ} {t : Bool} {k : Layout A} {post : List ℕ} (so : Stands l row (ask q t k) post) where
-    abbrev pub asked-yes : t ≡ true → Printed l row
-    asked-yes e = record { rest = k; post = post; so = record { same = so .same ∙ ask-is post q t true k e } }
-
-    pub asked-no : t ≡ false → parse l row ≡ refused q
-    asked-no e = so .same ∙ ask-is post q t false k e
-
-  pub stands-done : {a : A} {post : List ℕ} → Stands l row (done a) post → parse l row ≡ value a post
-  stands-done {a} {post} so = so .same ∙ done-is post a

@@ -1,27 +1,19 @@
 -- What reading the bytes that a row has for lent lists gives, what the records print, and that filled lists hold what they were filled with.
 -- Assumes nothing.
-use Prim.Native.Nat.{ℕ, zero, suc, _*_, _^_, _≤_, _<_}
+use Prim.Native.Nat.{ℕ, _*_, _≤_}
 use mathlib.Core.List.{List, [], _∷_, _++_}
 use mathlib.Core.Option.{Option, none, some}
-use mathlib.Core.Path.{_≡_, refl, sym, ap, _∙_}
-use lib.ListN.{length, getD, take}
-use lib.Seq.{length-take-le}
-use Rattle.layout.specs.Read.{value, said}
-use Rattle.layout.specs.Form.{Form, u32, u64, readMany, printMany, fitsMany, refusalMany}
+use mathlib.Core.Path.{_≡_, refl, sym, _∙_}
+use lib.ListN.{length}
+use Rattle.layout.specs.Read.{value}
+use Rattle.layout.specs.Form.{Form, u64, readMany, printMany, fitsMany, refusalMany}
 use Rattle.layout.specs.Form as form
 use Rattle.layout.specs.Layout.{group}
 use Rattle.layout.specs.Layout as layout
 use Rattle.layout.specs.RowLaws.{Bytes}
-use Rattle.layout.proofs.Lawful.{Lawful}
-use Rattle.layout.proofs.Front.{number-lawful}
-use Rattle.layout.proofs.Parts.{times-lawful}
-use Rattle.rows.specs.Values.{Chain, Skipped, Range}
-use Rattle.rows.specs.Rows.{chain, skipped, range}
-use Rattle.rows.proofs.Lawful.{range-lawful}
+use Rattle.rows.specs.Values.{Chain, Skipped}
+use Rattle.rows.specs.Rows.{chain, skipped}
 use Rattle.lists.specs.Places.{readPlaces, printPlaces}
-use Rattle.received.specs.Lent.{pairs}
-use Rattle.received.specs.Lent as received
-use Rattle.received.proofs.Pairs.{length-pairs}
 use Rattle.lent.specs.Lent.{chainSize, chainsBytes, skippedBytes, rejoin}
 use Rattle.lent.proofs.Places.{Printed, read-places, places-printed, filled-reads, filled-bytes, length-places, bytes-exact}
 use Rattle.lent.proofs.Records.{chain-placed, chain-narrow, skipped-placed, skipped-narrow}
@@ -59,10 +51,6 @@ skipped-never : (k : Skipped) → (group skipped) .refusal k ≡ none
 unfolding layout.refusalOf
 skipped-never k = refl
 
-range-never : (r : Range) → (group range) .refusal r ≡ none
-unfolding layout.refusalOf
-range-never r = refl
-
 pub record Filled {B : Type 0} (w : ℕ) (f : Form B) (row : ℕ → List ℕ → List ℕ) (bs : List B) (rest : List ℕ) : Type 0 where
   -- they are read back, a row has for them what they print, and they take so many bytes
   pub reads : readPlaces w f (length bs) (printPlaces w f bs ++ rest) ≡ value bs rest
@@ -82,31 +70,3 @@ skipped-filled ks rest post h = record {
   bytes = sym (bytes-exact 46 (length ks) (printPlaces 46 (group skipped) ks ++ rest)) ∙ filled-bytes 46 (group skipped) skipped-narrow (λ l. 46) skipped-placed ks rest post h;
   long = length-places 46 (group skipped) skipped-narrow ks post h;
 }
-
--- ---- numbers and ranges, flat
--- what the type of a flat list says
-abbrev pub Numbers : List ℕ → Type 0
-Numbers l = (i : ℕ) → getD l i 0 < 256 ^ 4
-
-pub numbers-fit : (n : ℕ) (l post : List ℕ) → Numbers l → fitsMany u32 (take n l) post
-numbers-fit zero l post h = tt
-numbers-fit (suc n) [] post h = tt
-numbers-fit (suc n) (x ∷ l) post h = (h 0, numbers-fit n l post (λ i. h (suc i)))
-
-pub ranges-fit : (n : ℕ) (l post : List ℕ) → Numbers l → fitsMany (group range) (pairs n l) post
-unfolding received.pairs
-ranges-fit zero l post h = tt
-ranges-fit (suc n) [] post h = tt
-ranges-fit (suc n) (a ∷ []) post h = tt
-ranges-fit (suc n) (a ∷ b ∷ l) post h = ((h 0, (h 1, refl)), ranges-fit n l post (λ i. h (suc (suc i))))
-
--- n records that were printed are read back
-many-read : {B : Type 0} (f : Form B) → Lawful f → ((b : B) → f .refusal b ≡ none) → (n : ℕ) (bs : List B) (post : List ℕ) → length bs ≡ n → fitsMany f bs post → readMany f n (printMany f bs ++ post) ≡ value bs post
-many-read f law never n bs post long h =
-    times-lawful f law n .printed bs post (long, h) ∙ ap (λ (o : Option ℕ). said o bs post) (never-many f never bs)
-
-pub read-numbers : (n : ℕ) (l post : List ℕ) → Numbers l → n ≤ length l → readMany u32 n (printMany u32 (take n l) ++ post) ≡ value (take n l) post
-read-numbers n l post by h = many-read u32 (number-lawful 4) (λ x. refl) n (take n l) post (length-take-le n l h) (numbers-fit n l post by)
-
-pub read-ranges : (n : ℕ) (l post : List ℕ) → Numbers l → 2 * n ≤ length l → readMany (group range) n (printMany (group range) (pairs n l) ++ post) ≡ value (pairs n l) post
-read-ranges n l post by h = many-read (group range) range-lawful range-never n (pairs n l) post (length-pairs n l h) (ranges-fit n l post by)

@@ -1,6 +1,6 @@
--- The text of a line, a field at a time, and how long it may be.
+-- The text of a line, a field at a time.
 -- Assumes nothing.
-use Prim.Native.Nat.{ℕ, _+_, _^_, _≤_, _<_}
+use Prim.Native.Nat.{ℕ, _+_, _≤_, _<_}
 use mathlib.Core.List.{List, [], _∷_, _++_}
 use mathlib.Core.Path.{_≡_, ap}
 use native.Mathlib.Omega.{arith}
@@ -12,7 +12,6 @@ use Rattle.put.proofs.Put.{Writing, writing-step, writing-done}
 use Rattle.store.specs.Line as line
 use Rattle.numbers.specs.Decimal.{LF, COMMA, decimal, fieldsText}
 use Rattle.store.specs.Line.{lineText, lineOf}
-use Rattle.numbers.proofs.Decimal.{digits-64, digits-32}
 
 -- ---- the fields from the i-th on
 pub field-text : (ns : List ℕ) (i : ℕ) → i < length ns → fieldsText (drop i ns) ≡ COMMA ∷ (decimal (getD ns i 0) ++ fieldsText (drop (i + 1) ns))
@@ -43,10 +42,3 @@ pub same-line : {sent acked contiguous s a c : ℕ} (contact beyond queued expir
     → lineText (contact ∷ s ∷ a ∷ c ∷ beyond ∷ queued ∷ expired ∷ []) ≡ lineOf contact sent acked contiguous beyond queued expired
 unfolding line.lineOf
 same-line contact beyond queued expired x y z i = lineText (contact ∷ x i ∷ y i ∷ z i ∷ beyond ∷ queued ∷ expired ∷ [])
-
--- ---- 4 numbers of 64 bits, 3 of 32, a comma before each, S and LF
-pub line-length : (contact sent acked contiguous beyond queued expired : ℕ) → contact < 2 ^ 64 → sent < 2 ^ 32 → acked < 2 ^ 32 → contiguous < 2 ^ 32 → beyond < 2 ^ 64
-    → queued < 2 ^ 64 → expired < 2 ^ 64 → length (lineOf contact sent acked contiguous beyond queued expired) ≤ 119
-unfolding line.lineOf
-line-length contact sent acked contiguous beyond queued expired a b c d e f g =
-    simp length-append (omega (arith, digits-64 contact a, digits-32 sent b, digits-32 acked c, digits-32 contiguous d, digits-64 beyond e, digits-64 queued f, digits-64 expired g))

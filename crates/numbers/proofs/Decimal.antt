@@ -3,7 +3,7 @@
 use Prim.Native.Nat.{ℕ, zero, suc, _+_, _-_, _*_, _/_, _%_, _^_, _≤_, _<_}
 use mathlib.Core.List.{List, [], _∷_, _++_}
 use mathlib.Core.Bool.{Bool, true, false, _&&_}
-use mathlib.Core.Path.{_≡_, refl, sym, ap, _∙_}
+use mathlib.Core.Path.{_≡_, refl, sym, _∙_}
 use native.Mathlib.Omega.{arith}
 use native.Mathlib.Decide.{decLt}
 use native.Mathlib.Nat.{pow-suc}
@@ -68,9 +68,6 @@ few-digits k n = of-decimal (λ n ds. (k : ℕ) → n < 10 ^ suc k → length ds
 pub digits-64 : (n : ℕ) → n < 2 ^ 64 → length (decimal n) ≤ 20
 digits-64 n h = few-digits 19 n (omega arith)
 
-pub digits-32 : (n : ℕ) → n < 2 ^ 32 → length (decimal n) ≤ 10
-digits-32 n h = few-digits 9 n (omega arith)
-
 -- ---- its laws
 number-append : (a : ℕ) (ds : List ℕ) (d : ℕ) → numberFrom a (ds ++ (d ∷ [])) ≡ numberFrom a ds * 10 + (d - 0x30)
 number-append a [] d = refl
@@ -78,9 +75,6 @@ number-append a (e ∷ ds) d = number-append _ ds d
 
 pub decimal-value : (n : ℕ) → numberFrom 0 (decimal n) ≡ n
 decimal-value = of-decimal (λ n ds. numberFrom 0 ds ≡ n) (λ n h. omega arith) (λ n ds h p. number-append 0 ds (digit (n % 10)) ∙ omega arith)
-
-pub decimal-distinct : (m n : ℕ) → decimal m ≡ decimal n → m ≡ n
-decimal-distinct m n e = sym (decimal-value m) ∙ ap (numberFrom 0) e ∙ decimal-value n
 
 is-digit : (d : ℕ) → d < 10 → isDigit (digit d) ≡ true
 is-digit d h = rw (le-leb 0x30 (0x30 + d) (omega arith), le-leb (0x30 + d) 0x39 (omega arith))

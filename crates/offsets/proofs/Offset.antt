@@ -148,13 +148,6 @@ module _ {row : List ℕ} {at : ℕ} where
   pub to-end-is : (s : Sensitivity) (q : ℕ) (allowed : ℕ → Bool) {bs : List ℕ} → Stands (toEnd s q allowed) bs row at → drop at row ≡ bs
   to-end-is s q allowed {bs} here = sym (here .joins) ∙ ap (λ (l : List ℕ). bs ++ l) (here .fits) ∙ append-nil bs
 
-  -- no other place is its start
-  pub to-end-starts : (s : Sensitivity) (q : ℕ) (allowed : ℕ → Bool) {bs : List ℕ} → Stands (toEnd s q allowed) bs row at → at ≤ length row
-      → (place : ℕ) → place ≤ length row → drop place row ≡ bs → place ≡ at
-  to-end-starts s q allowed here h place h′ same =
-      let long : length (drop at row) ≡ length (drop place row) = ap (λ (l : List ℕ). length l) (to-end-is s q allowed here ∙ sym same) in
-      omega (arith, long, length-drop at row, length-drop place row)
-
   pub optional-stands : {B : Type 0} (f : Form B) {b : B} → Stands (optional f) (some b) row at → Stands f b row (at + offset (optionalLayout f) 1 (some b))
   optional-stands f {b} s = let k = field-stands row (optionalLayout f) 1 (some b) s in record { post = k .post; joins = k .joins; fits = k .fits; granted = k .granted }
 

@@ -10,12 +10,8 @@ use Rattle.store.specs.declared.Entry.{Entry}
 use Rattle.store.specs.declared.Aside.{Aside}
 use Rattle.store.specs.declared.Aside.the-variants.{Nothing, Contact}
 use Rattle.store.specs.Kinds.{CONTACT, Kind, contact, kindOf, layoutOf, Seen, seenOf}
-use Rattle.store.specs.Store.{storeOf, partOf, seen, asked}
-use Rattle.store.specs.Aside.{isAside, asideSeen, seenAside, askedAside}
-
--- with nothing aside the questions are restore's
-pub nothing-aside : (run : List ℕ) (es : List Entry) (x : Seen) → askedAside run es (isAside Nothing) x ≡ asked (storeOf run es)
-nothing-aside run es x = refl
+use Rattle.store.specs.Store.{storeOf, partOf, seen}
+use Rattle.store.specs.Aside.{isAside, asideSeen, seenAside}
 
 -- only a contact is aside
 pub not-aside : (aside : Aside) (e : Entry) (k : ℕ) → e .kind ≡ k → eqb k CONTACT ≡ false → isAside aside e ≡ false

@@ -2,19 +2,15 @@
 -- Assumes nothing.
 use Prim.Native.Nat.{ℕ, _-_, _≤_}
 use mathlib.Core.List.{List}
-use mathlib.Core.Bool.{Bool, true, false, cond}
 use mathlib.Core.Option.{Option, none, some}
 use mathlib.Core.Path.{_≡_, refl, sym, ap, subst, _∙_}
 use lib.ListN.{length, drop}
-use Rattle.layout.specs.Questions.{«SEALED_LENGTH»}
 use Rattle.layout.specs.Veil.{veil, zeros}
 use Rattle.layout.specs.Layout.{accepted, readRow, print, blankOf, refusalOf, group, optional}
 use Rattle.layout.specs.Layout as layout
 use Rattle.layout.specs.RowLaws.{Bytes, Valid}
 use Rattle.layout.specs.Write.{writes}
-use Rattle.layout.proofs.Front.{none≢some}
 use Rattle.rows.specs.Values as value
-use Rattle.rows.specs.Checks.{sealedQueued}
 use Rattle.rows.specs.Rows.{ownEnvelope, queued}
 use Rattle.rows.specs.declared.Verdict.the-variants.{Accepted}
 use Rattle.rows.proofs.Proved.{proved}
@@ -45,23 +41,8 @@ value-is v post h =
     ap (λ (o : Option value.OwnEnvelope). record { «created_s» = v .«created_s»; envelope = o; gen = v .gen; idx = v .idx; sealed = zeros (length (v .sealed)) }) (own-is (v .envelope) post h)
 
 -- ---- the sealed text's length
-own-granted : (o : Option value.OwnEnvelope) → (optional (group ownEnvelope)) .refusal o ≡ none
-unfolding layout.refusalOf
-own-granted none = refl
-own-granted (some e) = refl
-
-module _ (v : value.Queued) where
-  refusal-is : (t : Bool) → sealedQueued (length (v .sealed)) ≡ t → refusalOf (queued 3) v ≡ cond t none (some «SEALED_LENGTH»)
-  unfolding layout.refusalOf
-  refusal-is true e = rw (own-granted (v .envelope), e)
-  refusal-is false e = rw (own-granted (v .envelope), e)
-
-  sealed-few : refusalOf (queued 3) v ≡ none → length (v .sealed) ≤ 4064
-  sealed-few h = go (sealedQueued (length (v .sealed))) refl
-    where
-      go : (t : Bool) → sealedQueued (length (v .sealed)) ≡ t → length (v .sealed) ≤ 4064
-      go true e = queued-few (length (v .sealed)) e
-      go false e = absurd (none≢some (sym h ∙ refusal-is false e))
+sealed-few : (v : value.Queued) → refusalOf (queued 3) v ≡ none → length (v .sealed) ≤ 4064
+sealed-few v h = queued-few (length (v .sealed)) (proved .meets .queued 3 v .0 h .1 .sealed)
 
 -- ---- what was read
 module _ (version : ℕ) (row : List ℕ) (by : Bytes row) {read : QueuedRead} (is : read ≡ decoded row (readRow (queued version) row)) (told : read .verdict ≡ Accepted) where
