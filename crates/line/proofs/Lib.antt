@@ -1,4 +1,5 @@
 pub mod Decimal
 pub mod Text
-mod Numbers
+mod Fields
+pub mod Numbers
 mod Samples

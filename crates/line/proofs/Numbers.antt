@@ -1,23 +1,19 @@
--- How many numbers the ranges of a lent list hold, a range at a time.
+-- How many numbers ranges hold, a range at a time.
 -- Assumes nothing.
-use Prim.Native.Nat.{ℕ, _+_, _-_, _*_, _^_, _≤_, _<_, min}
-use mathlib.Core.List.{List}
-use mathlib.Core.Path.{_≡_}
+use Prim.Native.Nat.{ℕ, _+_, _-_, _^_, _≤_, _<_, min}
+use mathlib.Core.List.{List, [], _∷_}
+use mathlib.Core.Path.{_≡_, ap}
 use native.Mathlib.Omega.{arith}
-use lib.ListN.{length, getD, drop}
+use Rattle.rows.specs.Values.{Range}
 use Rattle.numbers.specs.Sets.{size}
-use Rattle.received.specs.Lent.{pairs}
-use Rattle.received.proofs.Pairs.{drop-pairs, drop-pairs-all}
 
--- the sum, and what the ranges from the i-th on hold, are what all hold
-module _ (l : List ℕ) (k i sum : ℕ) (fits : 2 * k ≤ length l) (e : sum + size (drop i (pairs k l)) ≡ size (pairs k l)) where
-  pub size-turn : {n : ℕ} → i < k → n ≡ getD l (2 * i + 1) 0 + 1 - getD l (2 * i) 0 → sum + n + size (drop (i + 1) (pairs k l)) ≡ size (pairs k l)
-  size-turn {n} h w =
-      let d : size (drop i (pairs k l)) ≡ n + size (drop (i + 1) (pairs k l)) = rw (drop-pairs l k i h fits, w) in
-      omega arith
+-- the sum, and what these ranges hold, are the total: the first of them is counted, and the end
+module _ (sum : ℕ) {total : ℕ} {rs : List Range} (e : sum + size rs ≡ total) where
+  pub counted : {n : ℕ} {r : Range} {rest : List Range} → rs ≡ r ∷ rest → n ≡ r .to + 1 - r .from → sum + n + size rest ≡ total
+  counted {r = r} {rest = rest} is w = let d : size rs ≡ r .to + 1 - r .from + size rest = ap size is in omega arith
 
-  pub size-end : k ≤ i → sum ≡ size (pairs k l)
-  size-end h = let d : size (drop i (pairs k l)) ≡ 0 = rw (drop-pairs-all l k i h fits) in omega arith
+  pub all-counted : rs ≡ [] → sum ≡ total
+  all-counted is = let d : size rs ≡ 0 = ap size is in omega arith
 
 -- a sum that 64 bits hold, and one that they do not
 pub held-sum : (n : ℕ) → n ≤ 2 ^ 64 - 1 → n ≡ min n (2 ^ 64 - 1)

@@ -38,7 +38,7 @@ module _ {l m : List ℕ} {at here : ℕ} (ns : List ℕ) (i : ℕ) (w : Writing
   end-room h room = omega (arith, ap length (last-text ns i h), w .room, w .same)
 
 -- ---- the line of numbers that are these
-pub same-line : {sent acked contiguous s a c : ℕ} (contact beyond queued expired : ℕ) → s ≡ sent → a ≡ acked → c ≡ contiguous
-    → lineText (contact ∷ s ∷ a ∷ c ∷ beyond ∷ queued ∷ expired ∷ []) ≡ lineOf contact sent acked contiguous beyond queued expired
+pub same-line : {s a c b x sent acked contiguous beyond expired : ℕ} (contact queued : ℕ) → s ≡ sent → a ≡ acked → c ≡ contiguous → b ≡ beyond → x ≡ expired
+    → lineText (contact ∷ s ∷ a ∷ c ∷ b ∷ queued ∷ x ∷ []) ≡ lineOf contact sent acked contiguous beyond queued expired
 unfolding line.lineOf
-same-line contact beyond queued expired x y z i = lineText (contact ∷ x i ∷ y i ∷ z i ∷ beyond ∷ queued ∷ expired ∷ [])
+same-line contact queued p q r t u i = lineText (contact ∷ p i ∷ q i ∷ r i ∷ t i ∷ queued ∷ u i ∷ [])

@@ -1,5 +1,4 @@
 pub mod Lines
-mod Fields
 mod Rows
 pub mod Text
 mod Samples

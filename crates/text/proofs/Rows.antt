@@ -20,18 +20,13 @@ use Rattle.store.specs.declared.Entry.{Entry}
 use Rattle.store.specs.Kinds.{CONTACT}
 use Rattle.store.specs.Store.{partOf, within}
 use Rattle.store.specs.Line as line
-use Rattle.store.specs.Line.{«LETTER_S», lineOf, queuedOf}
-use Rattle.numbers.specs.Decimal.{fieldsText}
+use Rattle.store.specs.Line.{queuedOf}
+use Rattle.line.proofs.Text.{same-line}
 use Rattle.text.specs.declared.Line.{Line}
 use Rattle.text.specs.Lines as lines
 use Rattle.text.specs.Lines.{rowText, rowCount, entryText, entryCount, Lined}
 
 -- ---- a contact's row
-same-line : {s a c b x sent acked contiguous beyond expired : ℕ} (id queued : ℕ) → s ≡ sent → a ≡ acked → c ≡ contiguous → b ≡ beyond → x ≡ expired
-    → «LETTER_S» ∷ fieldsText (id ∷ s ∷ a ∷ c ∷ b ∷ queued ∷ x ∷ []) ≡ lineOf id sent acked contiguous beyond queued expired
-unfolding line.lineOf
-same-line id queued p q r t u i = «LETTER_S» ∷ fieldsText (id ∷ p i ∷ q i ∷ r i ∷ t i ∷ queued ∷ u i ∷ [])
-
 module _ (row : List ℕ) (version id queued : ℕ) {r : ContactCheck} (says : checkSays row r ≡ readRow (contact version) row) where
   pub refused-line : {q : ℕ} {l : Line} → r ≡ check.Refused q → Lined [] 0 l → Lined (rowText id queued (readRow (contact version) row)) (rowCount (readRow (contact version) row)) l
   refused-line e w = rw (← says) (rw e w)

@@ -8,7 +8,7 @@ use store::Entry;
 ghost use mathlib.Core.Path.{_≡_};
 ghost use mathlib.Core.List.{_∷_, [], _++_};
 ghost use mathlib.Core.Bool.{cond};
-ghost use Prim.Native.Nat.{_+_, _-_, _*_, _^_, _≤_, _<_};
+ghost use Prim.Native.Nat.{_+_, _*_, _^_, _≤_, _<_};
 ghost use lib.ListN.{length, drop};
 ghost use Rattle.layout.specs.Layout.{readRow, group};
 ghost use Rattle.layout.specs.Write.{stored};
@@ -20,16 +20,9 @@ ghost use Rattle.put.specs.Put.{Wrote};
 ghost use Rattle.numbers.specs.Sets.{size};
 ghost use Rattle.store.specs.Store.{isOf};
 ghost use Rattle.store.specs.Kinds.{QUEUED};
-ghost use Rattle.numbers.specs.Decimal.{COMMA, decimal};
 ghost use Rattle.store.specs.Line.{queuedOf};
 ghost use Rattle.text.specs.Text.{howMany, lastLine};
 ghost use Rattle.text.specs.Lines.{narrow, entryFrom, entriesOf, rowText, rowCount, entryText, entryCount, linesFrom, countFrom, fieldsOf, textIn, Lined, Measures, «TEXT_BYTES»};
-
-const LF: u8 = 0x0A;
-
-const COMMA: u8 = 0x2C;
-
-const LETTER_S: u8 = 0x53;
 
 const LETTER_T: u8 = 0x54;
 
@@ -39,9 +32,7 @@ const HIGHEST_32: u64 = 0xFFFFFFFF;
 // The most bytes that a text has.
 pub const TEXT_BYTES: usize = 76949;
 
-// The numbers of an S line, and of a T line.
-const CONTACT_FIELDS: usize = 7;
-
+// The numbers of a T line.
 const LAST_FIELDS: usize = 4;
 
 // The numbers of an entry's line, if it has one.
@@ -143,17 +134,6 @@ fn queued_in(places: &[u64], n: usize, id: ContactId) -> u64
 
 // ---- a line's numbers
 
-// How many numbers a range holds.
-fn width(from: u64, to: u64) -> u64
-    requires { ⌜ to < 2 ^ 32 ⌝ }
-    ensures { λ r. ⌜ (r ≡ to + 1 - from) × (r ≤ 2 ^ 32) ⌝ }
-{
-    if to < from {
-        return 0;
-    }
-    to - from + 1
-}
-
 // How many numbers the ranges of a row's list hold.
 fn numbers_in_row(row: &[u8], first: usize, count: usize) -> u64
     requires { ⌜ Stands (group range) (now row) first count × (length (now row) ≤ 61440) ⌝ }
@@ -165,7 +145,7 @@ fn numbers_in_row(row: &[u8], first: usize, count: usize) -> u64
     while i < count {
         let a = fields::be32(row, p);
         let b = fields::be32(row, p + 4);
-        sum += width(a, b);
+        sum += line::width(a as u32, b as u32);
         p += 8;
         i += 1;
     }
@@ -216,60 +196,14 @@ fn entry_line(run: &[u8], e: Entry, queued: u64) -> Line
 
 // ---- lines measured and written
 
-// The length of `count` numbers, a comma before each, and LF.
-fn fields_len(fields: [u64; 7], count: usize) -> usize
-    requires { ⌜ count ≤ 7 ⌝ }
-    ensures { λ r. ⌜ (r ≡ length (fieldsOf fields count)) × (r ≤ 148) ⌝ }
-{
-    let mut i = 0;
-    let mut n: usize = 1;
-    while i < count {
-        n += 1 + line::decimal_len(fields[i]);
-        i += 1;
-    }
-    n
-}
-
 fn line_len(line: Line) -> usize
     ensures { λ r. ⌜ (r ≡ length (textIn line)) × (r ≤ 149) ⌝ }
 {
     if line.held {
         let fields = line.fields;
-        return 1 + fields_len(fields, CONTACT_FIELDS);
+        return 1 + line::fields_len(fields, line::FIELDS);
     }
     0
-}
-
-// A comma and a number.
-fn put_field(out: &mut [u8], at: usize, n: u64) -> usize
-    requires { ⌜ at + (1 + length (decimal n)) ≤ length (now out) ⌝ }
-    ensures { λ r. ⌜ (r ≡ at + (1 + length (decimal n))) × Wrote (now (out .entry)) at (COMMA ∷ decimal n) (now (out .exit)) r ⌝ }
-{
-    let number_at = put::put_byte(out, at, COMMA);
-    line::put_decimal(out, number_at, n)
-}
-
-// `count` numbers, a comma before each, and LF.
-fn put_fields(out: &mut [u8], at: usize, fields: [u64; 7], count: usize) -> usize
-    requires { ⌜ (count ≤ 7) × (at + length (fieldsOf fields count) ≤ length (now out)) ⌝ }
-    ensures { λ r. ⌜ (r ≡ at + length (fieldsOf fields count)) × Wrote (now (out .entry)) at (fieldsOf fields count) (now (out .exit)) r ⌝ }
-{
-    let mut i = 0;
-    let mut here = at;
-    while i < count {
-        here = put_field(out, here, fields[i]);
-        i += 1;
-    }
-    put::put_byte(out, here, LF)
-}
-
-// A letter, and numbers behind it.
-fn put_line(out: &mut [u8], at: usize, letter: u8, fields: [u64; 7], count: usize) -> usize
-    requires { ⌜ (count ≤ 7) × (at + (1 + length (fieldsOf fields count)) ≤ length (now out)) ⌝ }
-    ensures { λ r. ⌜ (r ≡ at + (1 + length (fieldsOf fields count))) × Wrote (now (out .entry)) at (letter ∷ fieldsOf fields count) (now (out .exit)) r ⌝ }
-{
-    let fields_at = put::put_byte(out, at, letter);
-    put_fields(out, fields_at, fields, count)
 }
 
 fn put_entry(out: &mut [u8], at: usize, line: Line) -> usize
@@ -278,7 +212,7 @@ fn put_entry(out: &mut [u8], at: usize, line: Line) -> usize
 {
     if line.held {
         let fields = line.fields;
-        return put_line(out, at, LETTER_S, fields, CONTACT_FIELDS);
+        return line::put_line(out, at, line::LETTER_S, fields, line::FIELDS);
     }
     at
 }
@@ -347,12 +281,12 @@ pub fn write_granted(
     let queued = how_many(places, n, store::QUEUED);
     let held = how_many(places, n, store::COURIER);
     let fields = [measured.contacts, queued, held, next_slot, 0, 0, 0];
-    let len = measured.len + 1 + fields_len(fields, LAST_FIELDS);
+    let len = measured.len + 1 + line::fields_len(fields, LAST_FIELDS);
     if out.len() < len {
         return Written::Refused(question::OUTPUT);
     }
     let at = put_lines(run, places, n, out);
-    put_line(out, at, LETTER_T, fields, LAST_FIELDS);
+    line::put_line(out, at, LETTER_T, fields, LAST_FIELDS);
     Written::Length(len)
 }
 
@@ -362,10 +296,10 @@ pub fn write_refused(letter: u8, number: u64, place: u64, out: &mut [u8]) -> Wri
     ensures { λ r. ⌜ length (letter ∷ fieldsOf (number ∷ place ∷ []) 2) ≤ «TEXT_BYTES» ⌝ }
 {
     let fields = [number, place, 0, 0, 0, 0, 0];
-    let len = 1 + fields_len(fields, 2);
+    let len = 1 + line::fields_len(fields, 2);
     if out.len() < len {
         return Written::Refused(question::OUTPUT);
     }
-    put_line(out, 0, letter, fields, 2);
+    line::put_line(out, 0, letter, fields, 2);
     Written::Length(len)
 }

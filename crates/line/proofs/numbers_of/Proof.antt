@@ -8,7 +8,8 @@ use lib.ListN.{drop}
 use borrow.Author.Needs.{needs}
 use Rattle.numbers.specs.Sets.{size}
 use Rattle.received.specs.Lent.{pairs}
-use Rattle.line.proofs.Numbers.{size-turn, size-end, held-sum, full-sum}
+use Rattle.received.proofs.Pairs.{drop-pairs, drop-pairs-all}
+use Rattle.line.proofs.Numbers.{counted, all-counted, held-sum, full-sum}
 use Rattle.line.proofs.numbers_of.Statement.{statement}
 use Rattle.line.proofs.numbers_of.Tie as tie
 
@@ -32,7 +33,7 @@ at w = w .before .before .before .before
 turn : (w : tie.After-width Inv-loop μ-loop) → at w .loop .sum + w .width .result + size (drop (at w .loop .i + 1) (pairs (held (at w)) (list (at w)))) ≡ size (pairs (held (at w)) (list (at w)))
 turn w =
     let l = at w in
-    size-turn (list l) (held l) (l .loop .i) (l .loop .sum) (l .before .before .pre) (l .loop .inv .3) (w .before .before .before .loop-test .taken) (w .width .ensures .0)
+    counted (l .loop .sum) (l .loop .inv .3) (drop-pairs (list l) (held l) (l .loop .i) (w .before .before .before .loop-test .taken) (l .before .before .pre)) (w .width .ensures .0)
 
 loop-holds : tie.Need-loop-holds Inv-loop μ-loop
 loop-holds c = (search needs, search needs, search needs, omega arith)
@@ -82,7 +83,7 @@ loop-again c = (omega arith, omega (arith, c .before .width .ensures .1), omega 
 returns-2 : tie.Need-returns-2 Inv-loop μ-loop
 returns-2 c =
     let l = c .before in
-    let e = size-end (list l) (held l) (l .loop .i) (l .loop .sum) (l .before .before .pre) (l .loop .inv .3) (c .loop-test .left) in
+    let e = all-counted (l .loop .sum) (l .loop .inv .3) (drop-pairs-all (list l) (held l) (l .loop .i) (c .loop-test .left) (l .before .before .pre)) in
     (rw (← e) (held-sum (l .loop .sum) (omega arith)), λ h. e)
 
 pub numbers-of-spec : {M : Type 1} → statement M

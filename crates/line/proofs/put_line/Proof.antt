@@ -1,4 +1,6 @@
 -- `line::put_line` meets its contract: the letter, and the numbers behind it.
+-- Assumes nothing.
+use native.Mathlib.Omega.{arith}
 use borrow.Author.Needs.{needs}
 use Rattle.put.proofs.Put.{_then_}
 use Rattle.line.proofs.put_line.Statement.{statement}
@@ -18,7 +20,7 @@ returns c =
     let f = c .before .before in
     let b = f .before .before .before .before in
     let w = b .put-byte .ensures .1 then f .put-fields .ensures .1 in
-    (w .next-is, w)
+    (omega (arith, w .next-is), w)
 
 pub put-line-spec : {M : Type 1} → statement M
 put-line-spec = tie.close (tie.spec put-byte-requires put-fields-requires same-length returns)

@@ -1,7 +1,7 @@
 -- `line::statement_line` meets its contract: the room is asked for, then the line is stored at the front.
-use Prim.Native.Nat.{ℕ, _≤_}
+use Prim.Native.Nat.{ℕ, _+_, _≤_}
 use mathlib.Core.List.{List, [], _∷_}
-use mathlib.Core.Path.{_≡_, sym, ap, ap₂, _∙_}
+use mathlib.Core.Path.{_≡_, refl, sym, ap, ap₂, _∙_}
 use native.Mathlib.Omega.{arith}
 use lib.ListN.{length}
 use borrow.Author.Needs.{needs}
@@ -15,26 +15,26 @@ use Rattle.line.proofs.statement_line.Statement.{statement}
 use Rattle.line.proofs.statement_line.Tie as tie
 
 -- the line, and its numbers as the code has them
-abbrev start : tie.After-line-len → tie.Start
+abbrev start : tie.After-fields-len → tie.Start
 start c = c .before .before .before .before .before
 
-abbrev text : tie.After-line-len → List ℕ
+abbrev text : tie.After-fields-len → List ℕ
 text c = let a = start c .args in lineOf (a .contact .0) (a .sent) (a .acked) (a .contiguous) (a .beyond) (a .queued) (a .expired)
 
-abbrev numbers : tie.After-line-len → List ℕ
+abbrev numbers : tie.After-fields-len → List ℕ
 numbers c =
     let a = start c .args in
     let w = c .before in
     a .contact .0 ∷ w .before .before .wide .result ∷ w .before .wide2 .result ∷ w .wide3 .result ∷ a .beyond ∷ a .queued ∷ a .expired ∷ []
 
-same : (c : tie.After-line-len) → lineText (numbers c) ≡ text c
+same : (c : tie.After-fields-len) → lineText (numbers c) ≡ text c
 same c =
     let a = start c .args in
     let w = c .before in
-    same-line (a .contact .0) (a .beyond) (a .queued) (a .expired) (w .before .before .wide .ensures .0) (w .before .wide2 .ensures .0) (w .wide3 .ensures .0)
+    same-line (a .contact .0) (a .queued) (w .before .before .wide .ensures .0) (w .before .wide2 .ensures .0) (w .wide3 .ensures .0) refl refl
 
-long : (c : tie.After-line-len) → c .line-len .result ≡ length (text c)
-long c = c .line-len .ensures ∙ ap length (same c)
+long : (c : tie.After-fields-len) → 1 + c .fields-len .result ≡ length (text c)
+long c = omega (arith, c .fields-len .ensures .0, ap length (same c))
 
 wide-requires : tie.Need-wide-requires
 wide-requires c κs = search needs
@@ -45,8 +45,11 @@ wide-requires-2 c κs = search needs
 wide-requires-3 : tie.Need-wide-requires-3
 wide-requires-3 c κs = search needs
 
-line-len-requires : tie.Need-line-len-requires
-line-len-requires c κs = search needs
+fields-len-requires : tie.Need-fields-len-requires
+fields-len-requires c κs = search needs
+
+add-len : tie.Need-add-len
+add-len c = search needs
 
 returns : tie.Need-returns
 returns c = let n = c .before in sym (stored-short (text n) (start n .args .out .now) (omega (arith, long n)))
@@ -73,7 +76,8 @@ statement-line-spec =
     wide-requires
     wide-requires-2
     wide-requires-3
-    line-len-requires
+    fields-len-requires
+    add-len
     returns
     put-line-requires
     same-length

@@ -1,7 +1,7 @@
 -- `text::numbers_in_row` meets its contract. The invariant: the sum, and what the ranges from the i-th on hold, are what all hold.
 -- Assumes nothing.
 use Prim.Native.Nat.{ℕ, _+_, _-_, _*_, _^_, _≤_}
-use mathlib.Core.List.{List}
+use mathlib.Core.List.{List, _∷_}
 use mathlib.Core.Path.{_≡_, ap}
 use native.Mathlib.Omega.{arith}
 use native.Mathlib.Nat.{sub-zero, zero-add}
@@ -16,6 +16,7 @@ use Rattle.numbers.specs.Sets.{size}
 use Rattle.consistent.specs.Cells.{cells, Rooms}
 use Rattle.consistent.proofs.Cells.{standing, all-shown, Turn, turn, none-left}
 use Rattle.consistent.proofs.Fields.{rangeAt, range-shows}
+use Rattle.line.proofs.Numbers.{counted, all-counted}
 use Rattle.text.proofs.numbers_in_row.Statement.{statement}
 use Rattle.text.proofs.numbers_in_row.Tie as tie
 
@@ -41,11 +42,11 @@ turned : (c : tie.In-loop Inv-loop μ-loop) → let l = c .before in Turn (λ l.
 turned c = let l = c .before in turn (λ l. 8) rangeAt (row l) (count l) (l .loop .i) (l .loop .p) (c .loop-test .taken) (l .loop .inv .4)
 
 here : (c : tie.After-be322 Inv-loop μ-loop) → let l = c .before .before .before in
-    size (ranges (count l - l .loop .i) (drop (l .loop .p) (row l)))
-    ≡ c .be322 .result + 1 - c .before .be32 .result + size (ranges (count l - (l .loop .i + 1)) (drop (l .loop .p + 8) (row l)))
+    ranges (count l - l .loop .i) (drop (l .loop .p) (row l))
+    ≡ record { from = c .before .be32 .result; to = c .be322 .result } ∷ ranges (count l - (l .loop .i + 1)) (drop (l .loop .p + 8) (row l))
 here c =
     let l = c .before .before .before in
-    rw (c .before .be32 .ensures .0, c .be322 .ensures .0, ← drop-drop 4 (l .loop .p) (row l)) (ap size (turned (c .before .before) .here))
+    rw (c .before .be32 .ensures .0, c .be322 .ensures .0, ← drop-drop 4 (l .loop .p) (row l)) (turned (c .before .before) .here)
 
 loop-holds : tie.Need-loop-holds Inv-loop μ-loop
 loop-holds c =
@@ -62,6 +63,12 @@ add-be32 c = omega (arith, turned (c .before) .fits)
 
 be32-requires-2 : tie.Need-be32-requires-2 Inv-loop μ-loop
 be32-requires-2 c κs = omega (arith, turned (c .before) .fits)
+
+cast-width : tie.Need-cast-width Inv-loop μ-loop
+cast-width c = search needs
+
+cast-width-2 : tie.Need-cast-width-2 Inv-loop μ-loop
+cast-width-2 c = search needs
 
 width-requires : tie.Need-width-requires Inv-loop μ-loop
 width-requires c κs = search needs
@@ -81,15 +88,15 @@ loop-less c = search needs
 loop-again : tie.Need-loop-again Inv-loop μ-loop
 loop-again c =
     let u = c .before in
+    let l = u .before .before .before in
     let t = turned (u .before .before) in
     let w = c .width .ensures in
-    (omega arith, omega arith, omega (arith, t .fits), omega (arith, w .1), t .rooms, omega (arith, w .0, here u))
+    (omega arith, omega arith, omega (arith, t .fits), omega (arith, w .1), t .rooms, counted (l .loop .sum) (l .loop .inv .5) (here u) (w .0))
 
 returns : tie.Need-returns Inv-loop μ-loop
 returns c =
     let l = c .before in
-    let e : size (ranges (count l - l .loop .i) (drop (l .loop .p) (row l))) ≡ 0 = ap size (none-left (λ l. 8) rangeAt (row l) (count l) (l .loop .i) (l .loop .p) (c .loop-test .left)) in
-    omega arith
+    all-counted (l .loop .sum) (l .loop .inv .5) (none-left (λ l. 8) rangeAt (row l) (count l) (l .loop .i) (l .loop .p) (c .loop-test .left))
 
 pub numbers-in-row-spec : {M : Type 1} → statement M
 numbers-in-row-spec =
@@ -101,6 +108,8 @@ numbers-in-row-spec =
     be32-requires
     add-be32
     be32-requires-2
+    cast-width
+    cast-width-2
     width-requires
     add-sum
     add-p
