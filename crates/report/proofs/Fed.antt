@@ -2,20 +2,20 @@
 -- Assumes nothing.
 use Prim.Native.Nat.{ℕ, _*_, _/_, _≤_, min}
 use mathlib.Core.List.{List}
-use mathlib.Core.Path.{_≡_, refl, ap, ap₂, _∙_}
+use mathlib.Core.Path.{_≡_, refl, sym, ap, ap₂, subst, _∙_}
 use native.Mathlib.Nat.{min-eq-left}
 use lib.ListN.{length, take, drop}
 use lib.Seq.{take-at}
 use Rattle.store.specs.declared.Entry.{Entry}
 use Rattle.sheet.specs.declared.Answer.{Answer}
-use Rattle.sheet.specs.Sheet.{SheetSays, read, refused, sheetIn, «BLOB_BYTES», LINES}
+use Rattle.sheet.specs.Sheet.{SheetSays, read, refused, sheetIn, entriesIn, «BLOB_BYTES», LINES}
 use Rattle.sheet.specs.Machine.{Held, held, fed, atLine, roomFor, bytesIn, linesIn, roomOf, stateIn, runIn, placesIn, answerOf}
-use Rattle.sheet.specs.Proved.{Leaves, Kept, inChunks, whole}
+use Rattle.sheet.specs.Proved.{AllFit, Leaves, Kept, inChunks, whole}
 use Rattle.sheet.proofs.Proved.{said-laws, machine-laws}
+use Rattle.table.specs.Table.{entriesFrom}
+use Rattle.table.proofs.Filled.{as-read}
 use Rattle.text.specs.Text as text
 use Rattle.text.specs.Text.{saidText, textOf, sheetText}
-use Rattle.text.specs.Lines.{entriesOf}
-use Rattle.text.proofs.Places.{entries-read}
 use Rattle.report.specs.Report as report
 use Rattle.report.specs.Report.{reportOf}
 
@@ -34,9 +34,10 @@ module _ (sheet run places : List ℕ) where
       let bytes : min (length blob) (bytesIn (runIn h)) ≡ length blob = ap (λ (n : ℕ). min (length blob) (roomFor «BLOB_BYTES» n)) (k .run-long) ∙ min-eq-left (fits .few-bytes) in
       let lines : min (length es) (linesIn (placesIn h)) ≡ length es = ap (λ (n : ℕ). min (length es) (roomFor LINES (n / 6))) (k .places-long) ∙ min-eq-left (fits .few-lines) in
       let front : take (length blob) (runIn h) ≡ blob = ap (take (length blob)) (w .run-is) ∙ take-at blob (drop (length blob) run) (length blob) refl in
-      let same : entriesOf (placesIn h) (length es) ≡ es = entries-read (length blob) (placesIn h) 0 (length es) es (fits .entries-fit) (w .entries-are) in
+      let fit : AllFit (length blob) (entriesIn (length es) (placesIn h)) = subst (AllFit (length blob)) (sym (w .entries-are)) (fits .entries-fit) in
+      let same : entriesFrom (length es) (placesIn h) ≡ es = as-read (length es) (length blob) (placesIn h) fit ∙ w .entries-are in
       ap (λ (a : Answer). reportOf a (runIn h) (placesIn h)) (w .answered)
-      ∙ ap₂ (λ (b n : ℕ). textOf (take b (runIn h)) (entriesOf (placesIn h) n)) bytes lines
+      ∙ ap₂ (λ (b n : ℕ). textOf (take b (runIn h)) (entriesFrom n (placesIn h))) bytes lines
       ∙ ap₂ (λ (r : List ℕ) (es : List Entry). textOf r es) front same
   says (refused q line) h e k w = ap (λ (a : Answer). reportOf a (runIn h) (placesIn h)) w
 

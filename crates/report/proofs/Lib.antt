@@ -1,4 +1,3 @@
-mod Entries
 mod Texts
 mod Fed
 pub mod Proved

@@ -4,6 +4,7 @@ use Prim.Native.Nat.{ℕ, _≤_, min}
 use mathlib.Core.List.{List, [], _∷_, _++_}
 use mathlib.Core.Path.{_≡_, refl, sym, ap, ap₂, _∙_, subst}
 use native.Mathlib.Omega.{arith}
+use native.Mathlib.Nat.{min-eq-left}
 use lib.ListN.{length, take}
 use Rattle.layout.specs.Write.{Left, stored}
 use Rattle.numbers.specs.Decimal.{fieldsText}
@@ -17,11 +18,10 @@ use Rattle.sheet.specs.declared.Answer.{Answer}
 use Rattle.sheet.specs.declared.Answer.the-variants as answer
 use Rattle.sheet.specs.Machine.{bytesIn, linesIn}
 use Rattle.table.specs.Table.{ENTRIES, entriesFrom}
-use Rattle.text.specs.Lines.{entriesOf, linesFrom, countFrom, «TEXT_BYTES»}
+use Rattle.text.specs.Lines.{linesFrom, countFrom, «TEXT_BYTES»}
 use Rattle.text.proofs.Text.{text-granted, text-refused}
 use Rattle.report.specs.Report as report
 use Rattle.report.specs.Report.{readText, reportOf}
-use Rattle.report.proofs.Entries.{its-entries}
 
 module _ (run : List ℕ) (es : List Entry) where
   granted-text : {next slot : ℕ} → answered (restore (storeOf run es)) ≡ Granted next slot → textOf run es ≡ linesFrom run es es ++ lastLine (countFrom run es) es slot
@@ -45,22 +45,22 @@ module _ (run : List ℕ) (es : List Entry) where
 
 -- ---- what restore answered of the entries of n lines
 module _ (run places : List ℕ) (n : ℕ) (few : n ≤ ENTRIES) {r : Restored} (is : r ≡ answered (restore (storeOf run (entriesFrom (min n ENTRIES) places)))) where
-  restored : r ≡ answered (restore (storeOf run (entriesOf places n)))
-  restored = is ∙ ap (λ (es : List Entry). answered (restore (storeOf run es))) (its-entries places n few)
+  restored : r ≡ answered (restore (storeOf run (entriesFrom n places)))
+  restored = is ∙ ap (λ (m : ℕ). answered (restore (storeOf run (entriesFrom m places)))) (min-eq-left few)
 
   pub table-granted : {next slot : ℕ} → r ≡ Granted next slot
-      → textOf run (entriesOf places n) ≡ linesFrom run (entriesOf places n) (entriesOf places n) ++ lastLine (countFrom run (entriesOf places n)) (entriesOf places n) slot
-  table-granted e = granted-text run (entriesOf places n) (sym restored ∙ e)
+      → textOf run (entriesFrom n places) ≡ linesFrom run (entriesFrom n places) (entriesFrom n places) ++ lastLine (countFrom run (entriesFrom n places)) (entriesFrom n places) slot
+  table-granted e = granted-text run (entriesFrom n places) (sym restored ∙ e)
 
-  pub table-refused : {number place m : ℕ} → r ≡ Refused number place → m ≡ number → textOf run (entriesOf places n) ≡ «LETTER_R» ∷ fieldsText (m ∷ place ∷ [])
-  table-refused {place = place} e w = refused-text run (entriesOf places n) (sym restored ∙ e) ∙ (λ i. «LETTER_R» ∷ fieldsText (sym w i ∷ place ∷ []))
+  pub table-refused : {number place m : ℕ} → r ≡ Refused number place → m ≡ number → textOf run (entriesFrom n places) ≡ «LETTER_R» ∷ fieldsText (m ∷ place ∷ [])
+  table-refused {place = place} e w = refused-text run (entriesFrom n places) (sym restored ∙ e) ∙ (λ i. «LETTER_R» ∷ fieldsText (sym w i ∷ place ∷ []))
 
 -- ---- what the reader answered
 module _ (run places : List ℕ) where
   pub read-text : (lines used : ℕ) {b bytes n most : ℕ} → b ≡ min used bytes → bytes ≡ bytesIn run → n ≡ min lines most → most ≡ linesIn places
-      → readText lines used run places ≡ textOf (take b run) (entriesOf places n)
+      → readText lines used run places ≡ textOf (take b run) (entriesFrom n places)
   unfolding report.readText
-  read-text lines used p q s t = sym (ap₂ (λ (x y : ℕ). textOf (take x run) (entriesOf places y)) (p ∙ ap (min used) q) (s ∙ ap (min lines) t))
+  read-text lines used p q s t = sym (ap₂ (λ (x y : ℕ). textOf (take x run) (entriesFrom y places)) (p ∙ ap (min used) q) (s ∙ ap (min lines) t))
 
   pub read-report : {a b : Answer} {lines used : ℕ} → b ≡ a → b ≡ answer.Read lines used → reportOf a run places ≡ readText lines used run places
   read-report p q = ap (λ (a : Answer). reportOf a run places) (sym p ∙ q)

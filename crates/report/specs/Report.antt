@@ -9,11 +9,11 @@ use Rattle.sheet.specs.declared.Answer.{Answer}
 use Rattle.sheet.specs.declared.Answer.the-variants.{Read, Refused}
 use Rattle.sheet.specs.Machine.{bytesIn, linesIn}
 use Rattle.text.specs.Text.{textOf, «LETTER_X»}
-use Rattle.text.specs.Lines.{entriesOf}
+use Rattle.table.specs.Table.{entriesFrom}
 
 -- no more lines and blob bytes count than the lists have room for: the machine leaves no more
 unfoldable pub readText : (lines used : ℕ) → (run places : List ℕ) → List ℕ
-readText lines used run places = textOf (take (min used (bytesIn run)) run) (entriesOf places (min lines (linesIn places)))
+readText lines used run places = textOf (take (min used (bytesIn run)) run) (entriesFrom (min lines (linesIn places)) places)
 
 abbrev pub reportOf : Answer → (run places : List ℕ) → List ℕ
 reportOf (Read lines used) run places = readText lines used run places

@@ -9,13 +9,14 @@ use sheet::LINES;
 use sheet::PLACE;
 use sheet::State;
 ghost use mathlib.Core.Path.{_≡_};
-ghost use Prim.Native.Nat.{_*_, _≤_, min};
+ghost use Prim.Native.Nat.{_≤_, min};
 ghost use lib.ListN.{length};
 ghost use Rattle.layout.specs.Write.{stored};
 ghost use Rattle.rows.specs.Answers.{leaves};
 ghost use Rattle.sheet.specs.Machine.{answerOf};
+ghost use Rattle.table.specs.Table.{entriesFrom};
 ghost use Rattle.text.specs.Text.{textOf};
-ghost use Rattle.text.specs.Lines.{entriesOf, «TEXT_BYTES»};
+ghost use Rattle.text.specs.Lines.{«TEXT_BYTES»};
 ghost use Rattle.report.specs.Report.{readText, reportOf};
 
 const LETTER_R: u8 = 0x52;
@@ -33,9 +34,9 @@ fn least(a: usize, b: usize) -> usize
 
 // The text of a store of n entries.
 fn report_store(run: &[u8], places: &[u64], n: usize, out: &mut [u8]) -> Written
-    requires { ⌜ (length (now run) ≤ 61440) × (n ≤ 512) × (6 * n ≤ length (now places)) ⌝ }
-    ensures { λ r. ⌜ leaves r (now (out .exit)) ≡ stored (textOf (now (run .entry)) (entriesOf (now (places .entry)) n)) (now (out .entry)) ⌝ }
-    ensures { λ r. ⌜ length (textOf (now (run .entry)) (entriesOf (now (places .entry)) n)) ≤ «TEXT_BYTES» ⌝ }
+    requires { ⌜ (length (now run) ≤ 61440) × (n ≤ 512) ⌝ }
+    ensures { λ r. ⌜ leaves r (now (out .exit)) ≡ stored (textOf (now (run .entry)) (entriesFrom n (now (places .entry)))) (now (out .entry)) ⌝ }
+    ensures { λ r. ⌜ length (textOf (now (run .entry)) (entriesFrom n (now (places .entry)))) ≤ «TEXT_BYTES» ⌝ }
 {
     let answer = table::restore(run, places, n);
     match answer {

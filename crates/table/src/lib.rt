@@ -1,5 +1,5 @@
-// A table of entries for a program: a local array that is filled from a sheet's places, and whose first entries are lent. It is made where it is lent, since an
-// array by value is copied whole on its way. A count above the table's length counts as that length.
+// The entry that six numbers of a sheet's places are, and a table of entries for a program: a local array that is filled from such places, and whose first
+// entries are lent. It is made where it is lent, since an array by value is copied whole on its way. A count above the table's length counts as that length.
 use restore::Restored;
 use sheet::PLACE;
 use store::Entry;
@@ -55,7 +55,7 @@ pub fn field_at(places: &[u64], i: usize) -> u32
 
 // The entry of the i-th line, from the six numbers that a sheet's reader left of it. A number that is wider than its field counts as the field's highest: a
 // sheet that was read leaves none.
-fn entry_from(places: &[u64], i: usize) -> Entry
+pub fn entry_from(places: &[u64], i: usize) -> Entry
     requires { ⌜ i < ENTRIES ⌝ }
     ensures { λ r. ⌜ r ≡ entryFrom (drop (6 * i) (now (places .entry))) ⌝ }
 {

@@ -2,4 +2,3 @@ pub mod Lines
 mod Rows
 pub mod Text
 mod Samples
-pub mod Places

@@ -1,12 +1,12 @@
 -- Entries from places, one at a time, and what is counted or written of them: a turn of a loop, and its end.
 -- Assumes nothing.
-use Prim.Native.Nat.{ℕ, suc, _+_, _-_, _≤_, _<_}
+use Prim.Native.Nat.{ℕ, suc, _+_, _-_, _*_, _≤_, _<_}
 use mathlib.Core.List.{List, [], _∷_, _++_}
 use mathlib.Core.Bool.{Bool, true, false, cond}
 use mathlib.Core.Path.{_≡_, refl, ap, subst, _∙_}
 use native.Mathlib.Omega.{arith}
-use native.Mathlib.Numerals.{add-one}
-use lib.ListN.{length, length-append}
+use lib.ListN.{length, drop, length-append}
+use lib.Seq.{drop-drop}
 use lib.Dec.{eqb}
 use Rattle.put.specs.Put.{Wrote}
 use Rattle.put.proofs.Put.{Writing, writing-step, writing-done}
@@ -14,18 +14,23 @@ use Rattle.store.specs.declared.Entry.{Entry}
 use Rattle.store.specs.Kinds.{QUEUED}
 use Rattle.store.specs.Store.{isOf}
 use Rattle.store.specs.Line.{queuedOf}
+use Rattle.table.specs.Table as table
+use Rattle.table.specs.Table.{entryFrom, entriesFrom}
 use Rattle.text.specs.Text as text
 use Rattle.text.specs.Text.{howMany}
 use Rattle.text.specs.Lines as lines
-use Rattle.text.specs.Lines.{entryFrom, entriesFrom, entryText, entryCount, linesFrom, countFrom}
+use Rattle.text.specs.Lines.{entryText, entryCount, linesFrom, countFrom}
 
 module _ (places : List ℕ) (n i : ℕ) where
-  pub entries-turn : i < n → entriesFrom places i (n - i) ≡ entryFrom places i ∷ entriesFrom places (i + 1) (n - (i + 1))
-  unfolding lines.entriesFrom
-  entries-turn h = let s : n - i ≡ suc (n - (i + 1)) = omega arith in rw (s, add-one i)
+  pub entries-turn : i < n → entriesFrom (n - i) (drop (6 * i) places) ≡ entryFrom (drop (6 * i) places) ∷ entriesFrom (n - (i + 1)) (drop (6 * (i + 1)) places)
+  unfolding table.entriesFrom
+  entries-turn h =
+      let s : n - i ≡ suc (n - (i + 1)) = omega arith in
+      let next : 6 * (i + 1) ≡ 6 * i + 6 = omega arith in
+      rw (s, next, ← drop-drop 6 (6 * i) places)
 
-  pub entries-none : n ≤ i → entriesFrom places i (n - i) ≡ []
-  unfolding lines.entriesFrom
+  pub entries-none : n ≤ i → entriesFrom (n - i) (drop (6 * i) places) ≡ []
+  unfolding table.entriesFrom
   entries-none h = let s : n - i ≡ 0 = omega arith in rw s
 
 -- ---- a sum over entries
@@ -33,16 +38,16 @@ pub record Sum (of : Entry → ℕ) (sum : List Entry → ℕ) : Type 0 where
   pub none : sum [] ≡ 0
   pub more : (e : Entry) (es : List Entry) → sum (e ∷ es) ≡ of e + sum es
 
-module _ {of : Entry → ℕ} {sum : List Entry → ℕ} (law : Sum of sum) (places : List ℕ) (n i : ℕ) {total : ℕ} (found : ℕ) (e : found + sum (entriesFrom places i (n - i)) ≡ total) where
-  pub sum-turn : i < n → {x : ℕ} → x ≡ of (entryFrom places i) → found + x + sum (entriesFrom places (i + 1) (n - (i + 1))) ≡ total
+module _ {of : Entry → ℕ} {sum : List Entry → ℕ} (law : Sum of sum) (places : List ℕ) (n i : ℕ) {total : ℕ} (found : ℕ) (e : found + sum (entriesFrom (n - i) (drop (6 * i) places)) ≡ total) where
+  pub sum-turn : i < n → {x : ℕ} → x ≡ of (entryFrom (drop (6 * i) places)) → found + x + sum (entriesFrom (n - (i + 1)) (drop (6 * (i + 1)) places)) ≡ total
   sum-turn h {x} w =
-      let d : sum (entriesFrom places i (n - i)) ≡ of (entryFrom places i) + sum (entriesFrom places (i + 1) (n - (i + 1))) =
+      let d : sum (entriesFrom (n - i) (drop (6 * i) places)) ≡ of (entryFrom (drop (6 * i) places)) + sum (entriesFrom (n - (i + 1)) (drop (6 * (i + 1)) places)) =
       ap sum (entries-turn places n i h) ∙ law .more _ _ in
       omega arith
 
   pub sum-end : n ≤ i → found ≡ total
   sum-end h =
-      let d : sum (entriesFrom places i (n - i)) ≡ 0 = ap sum (entries-none places n i h) ∙ law .none in
+      let d : sum (entriesFrom (n - i) (drop (6 * i) places)) ≡ 0 = ap sum (entries-none places n i h) ∙ law .none in
       omega arith
 
 -- ---- what is counted
@@ -71,11 +76,11 @@ lengths run all = record { none = refl; more = λ e es. length-append (entryText
 
 -- ---- the lines from the i-th entry on
 module _ (run : List ℕ) (all : List Entry) (places : List ℕ) (n i : ℕ) where
-  pub lines-turn : i < n → linesFrom run all (entriesFrom places i (n - i)) ≡ entryText run (queuedOf (entryFrom places i .id) all) (entryFrom places i) ++ linesFrom run all (entriesFrom places (i + 1) (n - (i + 1)))
+  pub lines-turn : i < n → linesFrom run all (entriesFrom (n - i) (drop (6 * i) places)) ≡ entryText run (queuedOf (entryFrom (drop (6 * i) places) .id) all) (entryFrom (drop (6 * i) places)) ++ linesFrom run all (entriesFrom (n - (i + 1)) (drop (6 * (i + 1)) places))
   unfolding lines.linesFrom
   lines-turn h = rw (entries-turn places n i h)
 
-  pub lines-none : n ≤ i → linesFrom run all (entriesFrom places i (n - i)) ≡ []
+  pub lines-none : n ≤ i → linesFrom run all (entriesFrom (n - i) (drop (6 * i) places)) ≡ []
   unfolding lines.linesFrom
   lines-none h = rw (entries-none places n i h)
 
@@ -83,15 +88,15 @@ module _ (run : List ℕ) (all : List Entry) (places : List ℕ) (n i : ℕ) whe
 pub retext : {l m a b : List ℕ} {at p : ℕ} → a ≡ b → Wrote l at a m p → Wrote l at b m p
 retext {l} {m} {at = at} {p = p} e w = subst (λ (t : List ℕ). Wrote l at t m p) e w
 
-module _ (run : List ℕ) (all : List Entry) (places : List ℕ) (n i : ℕ) {o bs m : List ℕ} {here : ℕ} (w : Writing o 0 bs m here (linesFrom run all (entriesFrom places i (n - i)))) where
-  pub line-room : i < n → length bs ≤ length o → here + length (entryText run (queuedOf (entryFrom places i .id) all) (entryFrom places i)) ≤ length m
+module _ (run : List ℕ) (all : List Entry) (places : List ℕ) (n i : ℕ) {o bs m : List ℕ} {here : ℕ} (w : Writing o 0 bs m here (linesFrom run all (entriesFrom (n - i) (drop (6 * i) places)))) where
+  pub line-room : i < n → length bs ≤ length o → here + length (entryText run (queuedOf (entryFrom (drop (6 * i) places) .id) all) (entryFrom (drop (6 * i) places))) ≤ length m
   line-room h room =
-      let d = ap length (lines-turn run all places n i h) ∙ length-append (entryText run (queuedOf (entryFrom places i .id) all) (entryFrom places i)) (linesFrom run all (entriesFrom places (i + 1) (n - (i + 1)))) in
+      let d = ap length (lines-turn run all places n i h) ∙ length-append (entryText run (queuedOf (entryFrom (drop (6 * i) places) .id) all) (entryFrom (drop (6 * i) places))) (linesFrom run all (entriesFrom (n - (i + 1)) (drop (6 * (i + 1)) places))) in
       omega (arith, d, w .room, w .same)
 
-  pub line-turn : i < n → {m' : List ℕ} {p : ℕ} → Wrote m here (entryText run (queuedOf (entryFrom places i .id) all) (entryFrom places i)) m' p
-      → Writing o 0 bs m' p (linesFrom run all (entriesFrom places (i + 1) (n - (i + 1))))
-  line-turn h s = writing-step (entryText run (queuedOf (entryFrom places i .id) all) (entryFrom places i)) (rw (lines-turn run all places n i h) at w) s
+  pub line-turn : i < n → {m' : List ℕ} {p : ℕ} → Wrote m here (entryText run (queuedOf (entryFrom (drop (6 * i) places) .id) all) (entryFrom (drop (6 * i) places))) m' p
+      → Writing o 0 bs m' p (linesFrom run all (entriesFrom (n - (i + 1)) (drop (6 * (i + 1)) places)))
+  line-turn h s = writing-step (entryText run (queuedOf (entryFrom (drop (6 * i) places) .id) all) (entryFrom (drop (6 * i) places))) (rw (lines-turn run all places n i h) at w) s
 
   pub lines-end : n ≤ i → Wrote o 0 bs m here
   lines-end h = writing-done (rw (lines-none run all places n i h) at w)

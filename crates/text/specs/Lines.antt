@@ -1,11 +1,11 @@
--- The lines of a granted store as they are written: entry by entry, from entries that stand as six numbers each. That they make up the text is proved
+-- The lines of a granted store as they are written: entry by entry. That they make up the text is proved
 -- (proofs/Lines.antt), so this need not be believed.
 -- Assumes nothing.
-use Prim.Native.Nat.{ℕ, zero, suc, _+_, _*_, _≤_, min}
+use Prim.Native.Nat.{ℕ, _+_, _≤_}
 use mathlib.Core.List.{List, [], _∷_, _++_}
 use mathlib.Core.Bool.{cond}
 use mathlib.Core.Path.{_≡_}
-use lib.ListN.{length, getD, take}
+use lib.ListN.{length, take}
 use lib.Dec.{eqb}
 use Rattle.layout.specs.Layout.{Answer, accepted, refusedBy, readRow}
 use Rattle.rows.specs.Values.{Contact}
@@ -16,31 +16,8 @@ use Rattle.store.specs.Kinds.{CONTACT}
 use Rattle.store.specs.Store.{partOf}
 use Rattle.numbers.specs.Decimal.{fieldsText}
 use Rattle.store.specs.Line.{lineOf, queuedOf, «LETTER_S»}
-use Rattle.sheet.specs.Sheet.{U32}
 use Rattle.text.specs.declared.Line.{Line}
 use Rattle.text.specs.declared.Measured.{Measured}
-
--- ---- entries from places: the i-th six numbers. A number that is wider than its field counts as the field's highest
-abbrev pub narrow : ℕ → ℕ
-narrow n = min n U32
-
-abbrev pub entryFrom : (places : List ℕ) → (i : ℕ) → Entry
-entryFrom places i = record {
-  id = getD places (6 * i + 1) 0;
-  start = getD places (6 * i + 2) 0;
-  len = getD places (6 * i + 3) 0;
-  msgno = narrow (getD places (6 * i + 4) 0);
-  version = narrow (getD places (6 * i + 5) 0);
-  kind = narrow (getD places (6 * i) 0);
-}
-
--- n entries from the i-th on
-unfoldable pub entriesFrom : (places : List ℕ) → (i n : ℕ) → List Entry
-entriesFrom places i zero = []
-entriesFrom places i (suc n) = entryFrom places i ∷ entriesFrom places (suc i) n
-
-abbrev pub entriesOf : (places : List ℕ) → (n : ℕ) → List Entry
-entriesOf places n = entriesFrom places 0 n
 
 -- ---- the line of an entry, or nothing
 abbrev pub rowText : (id queued : ℕ) → Answer Contact → List ℕ

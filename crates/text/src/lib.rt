@@ -1,5 +1,4 @@
-// The text of a store: the S line of each contact, and the T line. Entries stand as six numbers each, as the sheet leaves them: kind, id, start, length,
-// msgno, version. A text is measured first and then written, so that nothing is written where the output is too short.
+// The text of a store: the S line of each contact, and the T line. Entries stand as six numbers each, as the sheet leaves them (`table`). A text is measured first and then written, so that nothing is written where the output is too short.
 use contact::ContactCheck;
 use layout::question;
 use rows::ContactId;
@@ -21,13 +20,11 @@ ghost use Rattle.numbers.specs.Sets.{size};
 ghost use Rattle.store.specs.Store.{isOf};
 ghost use Rattle.store.specs.Kinds.{QUEUED};
 ghost use Rattle.store.specs.Line.{queuedOf};
+ghost use Rattle.table.specs.Table.{entryFrom, entriesFrom};
 ghost use Rattle.text.specs.Text.{howMany, lastLine};
-ghost use Rattle.text.specs.Lines.{narrow, entryFrom, entriesOf, rowText, rowCount, entryText, entryCount, linesFrom, countFrom, fieldsOf, textIn, Lined, Measures, «TEXT_BYTES»};
+ghost use Rattle.text.specs.Lines.{rowText, rowCount, entryText, entryCount, linesFrom, countFrom, fieldsOf, textIn, Lined, Measures, «TEXT_BYTES»};
 
 const LETTER_T: u8 = 0x54;
-
-// The highest number of 32 bits.
-const HIGHEST_32: u64 = 0xFFFFFFFF;
 
 // The most bytes that a text has.
 pub const TEXT_BYTES: usize = 76949;
@@ -49,37 +46,6 @@ pub struct Measured {
 
 // ---- entries
 
-fn narrow(n: u64) -> u32
-    ensures { λ r. ⌜ r ≡ narrow n ⌝ }
-{
-    if n <= HIGHEST_32 {
-        return n as u32;
-    }
-    HIGHEST_32 as u32
-}
-
-// The i-th entry.
-fn entry_in(places: &[u64], i: usize) -> Entry
-    requires { ⌜ 6 * i + 6 ≤ length (now places) ⌝ }
-    ensures { λ r. ⌜ r ≡ entryFrom (now (places .entry)) i ⌝ }
-{
-    let at = 6 * i;
-    let kind = narrow(places[at]);
-    let id = places[at + 1];
-    let start = places[at + 2] as usize;
-    let len = places[at + 3] as usize;
-    let msgno = narrow(places[at + 4]);
-    let version = narrow(places[at + 5]);
-    Entry {
-        id,
-        start,
-        len,
-        msgno,
-        version,
-        kind,
-    }
-}
-
 // One more, if this one counts.
 fn one_more(found: u64, counts: bool) -> u64
     requires { ⌜ found < 2 ^ 32 ⌝ }
@@ -93,13 +59,13 @@ fn one_more(found: u64, counts: bool) -> u64
 
 // How many of the first n entries are of this kind.
 fn how_many(places: &[u64], n: usize, kind: u32) -> u64
-    requires { ⌜ (n ≤ 512) × (6 * n ≤ length (now places)) ⌝ }
-    ensures { λ r. ⌜ r ≡ howMany kind (entriesOf (now (places .entry)) n) ⌝ }
+    requires { ⌜ n ≤ 512 ⌝ }
+    ensures { λ r. ⌜ r ≡ howMany kind (entriesFrom n (now (places .entry))) ⌝ }
 {
     let mut i = 0;
     let mut found: u64 = 0;
     while i < n {
-        let e = entry_in(places, i);
+        let e = table::entry_from(places, i);
         i += 1;
         let same = e.kind == kind;
         found = one_more(found, same);
@@ -118,13 +84,13 @@ fn is_queued(e: Entry, id: ContactId) -> bool
 
 // How many of the first n entries are queued rows of this contact.
 fn queued_in(places: &[u64], n: usize, id: ContactId) -> u64
-    requires { ⌜ (n ≤ 512) × (6 * n ≤ length (now places)) ⌝ }
-    ensures { λ r. ⌜ r ≡ queuedOf (id .0) (entriesOf (now (places .entry)) n) ⌝ }
+    requires { ⌜ n ≤ 512 ⌝ }
+    ensures { λ r. ⌜ r ≡ queuedOf (id .0) (entriesFrom n (now (places .entry))) ⌝ }
 {
     let mut i = 0;
     let mut found: u64 = 0;
     while i < n {
-        let e = entry_in(places, i);
+        let e = table::entry_from(places, i);
         i += 1;
         let same = is_queued(e, id);
         found = one_more(found, same);
@@ -219,11 +185,11 @@ fn put_entry(out: &mut [u8], at: usize, line: Line) -> usize
 
 // The line of the i-th entry, of n.
 fn line_at(run: &[u8], places: &[u64], n: usize, i: usize) -> Line
-    requires { ⌜ (length (now run) ≤ 61440) × (i < n) × (n ≤ 512) × (6 * n ≤ length (now places)) ⌝ }
-    ensures { λ r. ⌜ Lined (entryText (now (run .entry)) (queuedOf (entryFrom (now (places .entry)) i .id) (entriesOf (now (places .entry)) n)) (entryFrom (now (places .entry)) i))
-        (entryCount (now (run .entry)) (entryFrom (now (places .entry)) i)) r ⌝ }
+    requires { ⌜ (length (now run) ≤ 61440) × (i < n) × (n ≤ 512) ⌝ }
+    ensures { λ r. ⌜ Lined (entryText (now (run .entry)) (queuedOf (entryFrom (drop (6 * i) (now (places .entry))) .id) (entriesFrom n (now (places .entry)))) (entryFrom (drop (6 * i) (now (places .entry)))))
+        (entryCount (now (run .entry)) (entryFrom (drop (6 * i) (now (places .entry))))) r ⌝ }
 {
-    let e = entry_in(places, i);
+    let e = table::entry_from(places, i);
     if e.kind == store::CONTACT {
         let queued = queued_in(places, n, ContactId(e.id));
         return entry_line(run, e, queued);
@@ -233,8 +199,8 @@ fn line_at(run: &[u8], places: &[u64], n: usize, i: usize) -> Line
 
 // The lines of all entries.
 fn measure(run: &[u8], places: &[u64], n: usize) -> Measured
-    requires { ⌜ (length (now run) ≤ 61440) × (n ≤ 512) × (6 * n ≤ length (now places)) ⌝ }
-    ensures { λ r. ⌜ Measures (now (run .entry)) (entriesOf (now (places .entry)) n) r ⌝ }
+    requires { ⌜ (length (now run) ≤ 61440) × (n ≤ 512) ⌝ }
+    ensures { λ r. ⌜ Measures (now (run .entry)) (entriesFrom n (now (places .entry))) r ⌝ }
 {
     let mut i = 0;
     let mut len: usize = 0;
@@ -250,8 +216,8 @@ fn measure(run: &[u8], places: &[u64], n: usize) -> Measured
 
 // Writes the lines of all entries from the front of the output on.
 fn put_lines(run: &[u8], places: &[u64], n: usize, out: &mut [u8]) -> usize
-    requires { ⌜ (length (now run) ≤ 61440) × (n ≤ 512) × (6 * n ≤ length (now places)) × (length (linesFrom (now run) (entriesOf (now places) n) (entriesOf (now places) n)) ≤ length (now out)) ⌝ }
-    ensures { λ r. ⌜ Wrote (now (out .entry)) 0 (linesFrom (now (run .entry)) (entriesOf (now (places .entry)) n) (entriesOf (now (places .entry)) n)) (now (out .exit)) r ⌝ }
+    requires { ⌜ (length (now run) ≤ 61440) × (n ≤ 512) × (length (linesFrom (now run) (entriesFrom n (now places)) (entriesFrom n (now places))) ≤ length (now out)) ⌝ }
+    ensures { λ r. ⌜ Wrote (now (out .entry)) 0 (linesFrom (now (run .entry)) (entriesFrom n (now (places .entry))) (entriesFrom n (now (places .entry)))) (now (out .exit)) r ⌝ }
 {
     let mut i = 0;
     let mut here = 0;
@@ -271,11 +237,11 @@ pub fn write_granted(
     next_slot: u64,
     out: &mut [u8],
 ) -> Written
-    requires { ⌜ (length (now run) ≤ 61440) × (n ≤ 512) × (6 * n ≤ length (now places)) ⌝ }
-    ensures { λ r. ⌜ leaves r (now (out .exit)) ≡ stored (linesFrom (now (run .entry)) (entriesOf (now (places .entry)) n) (entriesOf (now (places .entry)) n)
-        ++ lastLine (countFrom (now (run .entry)) (entriesOf (now (places .entry)) n)) (entriesOf (now (places .entry)) n) «next_slot») (now (out .entry)) ⌝ }
-    ensures { λ r. ⌜ length (linesFrom (now (run .entry)) (entriesOf (now (places .entry)) n) (entriesOf (now (places .entry)) n)
-        ++ lastLine (countFrom (now (run .entry)) (entriesOf (now (places .entry)) n)) (entriesOf (now (places .entry)) n) «next_slot») ≤ «TEXT_BYTES» ⌝ }
+    requires { ⌜ (length (now run) ≤ 61440) × (n ≤ 512) ⌝ }
+    ensures { λ r. ⌜ leaves r (now (out .exit)) ≡ stored (linesFrom (now (run .entry)) (entriesFrom n (now (places .entry))) (entriesFrom n (now (places .entry)))
+        ++ lastLine (countFrom (now (run .entry)) (entriesFrom n (now (places .entry)))) (entriesFrom n (now (places .entry))) «next_slot») (now (out .entry)) ⌝ }
+    ensures { λ r. ⌜ length (linesFrom (now (run .entry)) (entriesFrom n (now (places .entry))) (entriesFrom n (now (places .entry)))
+        ++ lastLine (countFrom (now (run .entry)) (entriesFrom n (now (places .entry)))) (entriesFrom n (now (places .entry))) «next_slot») ≤ «TEXT_BYTES» ⌝ }
 {
     let measured = measure(run, places, n);
     let queued = how_many(places, n, store::QUEUED);

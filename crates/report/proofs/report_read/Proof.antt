@@ -39,7 +39,6 @@ report-store-requires c κs =
     let b = n .before .before in (
       omega (arith, inside b, b .least .ensures .1, b .before .room-for .ensures .1),
       omega (arith, n .least2 .ensures .1, n .before .room-for2 .ensures .1),
-      omega (arith, n .least2 .ensures .1, n .before .room-for2 .ensures .2),
     )
 
 same-length : tie.Need-same-length

@@ -1,21 +1,22 @@
 -- `text::how_many` meets its contract. The invariant: what is found, and what is among the entries from the i-th on, is what is among all.
 -- Assumes nothing.
-use Prim.Native.Nat.{ℕ, _+_, _-_, _≤_}
+use Prim.Native.Nat.{ℕ, _+_, _-_, _*_, _≤_}
 use mathlib.Core.Bool.{cond}
 use mathlib.Core.Path.{_≡_, ap}
 use native.Mathlib.Omega.{arith}
 use native.Mathlib.Nat.{sub-zero}
 use lib.Dec.{eqb}
+use lib.ListN.{drop}
 use borrow.Author.Needs.{needs}
 use Rattle.text.specs.Text.{howMany}
 use Rattle.store.specs.declared.Entry.{Entry}
-use Rattle.text.specs.Lines.{entriesFrom, entriesOf}
+use Rattle.table.specs.Table.{entriesFrom}
 use Rattle.text.proofs.Lines.{kinds, at-most-one, sum-turn, sum-end}
 use Rattle.text.proofs.how_many.Statement.{statement}
 use Rattle.text.proofs.how_many.Tie as tie
 
 abbrev Inv-loop : tie.InvT-loop
-Inv-loop places n kind i₀ found₀ i found = (i ≤ n) × (found ≤ i) × (found + howMany kind (entriesFrom places i (n - i)) ≡ howMany kind (entriesOf places n))
+Inv-loop places n kind i₀ found₀ i found = (i ≤ n) × (found ≤ i) × (found + howMany kind (entriesFrom (n - i) (drop (6 * i) places)) ≡ howMany kind (entriesFrom n places))
 
 abbrev μ-loop : tie.MeasureT-loop
 μ-loop places n kind i₀ found₀ i found = n - i
@@ -23,8 +24,8 @@ abbrev μ-loop : tie.MeasureT-loop
 loop-holds : tie.Need-loop-holds Inv-loop μ-loop
 loop-holds c = rw sub-zero (omega arith, omega arith, omega arith)
 
-entry-in-requires : tie.Need-entry-in-requires Inv-loop μ-loop
-entry-in-requires c κs = search needs
+entry-from-requires : tie.Need-entry-from-requires Inv-loop μ-loop
+entry-from-requires c κs = search needs
 
 add-i : tie.Need-add-i Inv-loop μ-loop
 add-i c = search needs
@@ -39,9 +40,9 @@ loop-again : tie.Need-loop-again Inv-loop μ-loop
 loop-again c =
     let l = c .before .before .before .before in
     let a = l .before .before .args in
-    let x = ap {B = ℕ} (λ (e : Entry). cond (eqb (e .kind) (a .kind)) 1 0) (c .before .before .entry-in .ensures) in
+    let x = ap {B = ℕ} (λ (e : Entry). cond (eqb (e .kind) (a .kind)) 1 0) (c .before .before .entry-from .ensures) in
     let o = c .one-more .ensures in
-    (omega arith, omega (arith, o, at-most-one (eqb (c .before .before .entry-in .result .kind) (a .kind))), omega (arith, o, sum-turn (kinds (a .kind)) (a .places .now) (a .n) (l .loop .i) (l .loop .found) (l .loop .inv .2) (c .before .before .before .loop-test .taken) x))
+    (omega arith, omega (arith, o, at-most-one (eqb (c .before .before .entry-from .result .kind) (a .kind))), omega (arith, o, sum-turn (kinds (a .kind)) (a .places .now) (a .n) (l .loop .i) (l .loop .found) (l .loop .inv .2) (c .before .before .before .loop-test .taken) x))
 
 returns : tie.Need-returns Inv-loop μ-loop
 returns c =
@@ -56,7 +57,7 @@ how-many-spec =
     Inv-loop
     μ-loop
     loop-holds
-    entry-in-requires
+    entry-from-requires
     add-i
     one-more-requires
     loop-less

@@ -3,13 +3,13 @@
 use mathlib.Core.Path.{refl}
 use borrow.Author.Needs.{needs}
 use Rattle.store.specs.Line.{queuedOf}
-use Rattle.text.specs.Lines.{entriesOf}
+use Rattle.table.specs.Table.{entriesFrom}
 use Rattle.text.proofs.Rows.{other-entry, entry-is}
 use Rattle.text.proofs.line_at.Statement.{statement}
 use Rattle.text.proofs.line_at.Tie as tie
 
-entry-in-requires : tie.Need-entry-in-requires
-entry-in-requires c κs = search needs
+entry-from-requires : tie.Need-entry-from-requires
+entry-from-requires c κs = search needs
 
 queued-in-requires : tie.Need-queued-in-requires
 queued-in-requires c κs = search needs
@@ -22,7 +22,7 @@ returns c =
     let q = c .before in
     let e = q .before .before .before in
     let a = e .before .before .before .args in
-    entry-is (a .run .now) (entriesOf (a .places .now) (a .n)) (e .entry-in .ensures) (q .queued-in .ensures) (c .entry-line .ensures)
+    entry-is (a .run .now) (entriesFrom (a .n) (a .places .now)) (e .entry-from .ensures) (q .queued-in .ensures) (c .entry-line .ensures)
 
 no-line-requires : tie.Need-no-line-requires
 no-line-requires c κs = search needs
@@ -32,9 +32,9 @@ returns-2 c =
     let t = c .before in
     let e = t .before .before in
     let a = e .before .before .before .args in
-    let es = entriesOf (a .places .now) (a .n) in
-    entry-is (a .run .now) es (e .entry-in .ensures) refl
-    (other-entry (a .run .now) (e .entry-in .result) (queuedOf (e .entry-in .result .id) es) (t .if1 .left) (c .no-line .ensures))
+    let es = entriesFrom (a .n) (a .places .now) in
+    entry-is (a .run .now) es (e .entry-from .ensures) refl
+    (other-entry (a .run .now) (e .entry-from .result) (queuedOf (e .entry-from .result .id) es) (t .if1 .left) (c .no-line .ensures))
 
 pub line-at-spec : {M : Type 1} → statement M
-line-at-spec = tie.close (tie.spec entry-in-requires queued-in-requires entry-line-requires returns no-line-requires returns-2)
+line-at-spec = tie.close (tie.spec entry-from-requires queued-in-requires entry-line-requires returns no-line-requires returns-2)

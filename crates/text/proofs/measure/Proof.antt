@@ -4,9 +4,10 @@ use Prim.Native.Nat.{_+_, _-_, _*_, _≤_}
 use mathlib.Core.Path.{_≡_, ap, _∙_}
 use native.Mathlib.Omega.{arith}
 use native.Mathlib.Nat.{sub-zero}
-use lib.ListN.{length}
+use lib.ListN.{length, drop}
 use borrow.Author.Needs.{needs}
-use Rattle.text.specs.Lines.{entriesFrom, entriesOf, linesFrom, countFrom}
+use Rattle.table.specs.Table.{entriesFrom}
+use Rattle.text.specs.Lines.{linesFrom, countFrom}
 use Rattle.text.proofs.Lines.{lengths, counts, at-most-one, sum-turn, sum-end}
 use Rattle.text.proofs.measure.Statement.{statement}
 use Rattle.text.proofs.measure.Tie as tie
@@ -14,8 +15,8 @@ use Rattle.text.proofs.measure.Tie as tie
 abbrev Inv-loop : tie.InvT-loop
 Inv-loop run places n i₀ len₀ contacts₀ i len contacts =
     (i ≤ n) × (len ≤ 149 * i) × (contacts ≤ i)
-    × (len + length (linesFrom run (entriesOf places n) (entriesFrom places i (n - i))) ≡ length (linesFrom run (entriesOf places n) (entriesOf places n)))
-    × (contacts + countFrom run (entriesFrom places i (n - i)) ≡ countFrom run (entriesOf places n))
+    × (len + length (linesFrom run (entriesFrom n places) (entriesFrom (n - i) (drop (6 * i) places))) ≡ length (linesFrom run (entriesFrom n places) (entriesFrom n places)))
+    × (contacts + countFrom run (entriesFrom (n - i) (drop (6 * i) places)) ≡ countFrom run (entriesFrom n places))
 
 abbrev μ-loop : tie.MeasureT-loop
 μ-loop run places n i₀ len₀ contacts₀ i len contacts = n - i
@@ -48,7 +49,7 @@ loop-again c =
     let w = t .line-at .ensures in
     let l = t .before .before in
     let a = l .before .before .before .args in
-    let es = entriesOf (a .places .now) (a .n) in
+    let es = entriesFrom (a .n) (a .places .now) in
     let o = c .one-more .ensures in
     let taken = t .before .loop-test .taken in (
       omega arith,
@@ -62,7 +63,7 @@ returns : tie.Need-returns Inv-loop μ-loop
 returns c =
     let l = c .before in
     let a = l .before .before .before .args in
-    let es = entriesOf (a .places .now) (a .n) in
+    let es = entriesFrom (a .n) (a .places .now) in
     record {
       long = sum-end (lengths (a .run .now) es) (a .places .now) (a .n) (l .loop .i) (l .loop .len) (l .loop .inv .3) (c .loop-test .left);
       many = sum-end (counts (a .run .now)) (a .places .now) (a .n) (l .loop .i) (l .loop .contacts) (l .loop .inv .4) (c .loop-test .left);

@@ -1,20 +1,21 @@
 -- `text::put_lines` meets its contract. The invariant: the lines from the i-th entry on, written from here on, give the whole.
 -- Assumes nothing.
-use Prim.Native.Nat.{_-_, _≤_}
+use Prim.Native.Nat.{_-_, _*_, _≤_}
 use mathlib.Core.Path.{ap}
 use native.Mathlib.Omega.{arith}
 use native.Mathlib.Nat.{sub-zero}
-use lib.ListN.{length}
+use lib.ListN.{length, drop}
 use borrow.Author.Needs.{needs}
 use Rattle.put.proofs.Put.{Writing, writing-start}
-use Rattle.text.specs.Lines.{entriesFrom, entriesOf, linesFrom}
+use Rattle.table.specs.Table.{entriesFrom}
+use Rattle.text.specs.Lines.{linesFrom}
 use Rattle.text.proofs.Lines.{retext, line-room, line-turn, lines-end}
 use Rattle.text.proofs.put_lines.Statement.{statement}
 use Rattle.text.proofs.put_lines.Tie as tie
 
 abbrev Inv-loop : tie.InvT-loop
 Inv-loop run places n out₀ i₀ here₀ out i here =
-    (i ≤ n) × Writing out₀ 0 (linesFrom run (entriesOf places n) (entriesOf places n)) out here (linesFrom run (entriesOf places n) (entriesFrom places i (n - i)))
+    (i ≤ n) × Writing out₀ 0 (linesFrom run (entriesFrom n places) (entriesFrom n places)) out here (linesFrom run (entriesFrom n places) (entriesFrom (n - i) (drop (6 * i) places)))
 
 abbrev μ-loop : tie.MeasureT-loop
 μ-loop run places n out₀ i₀ here₀ out i here = n - i
@@ -34,8 +35,8 @@ put-entry-requires c κs =
     let l = t .before .before in
     let s = l .before .before .before .before in
     let a = s .args in
-    let es = entriesOf (a .places .now) (a .n) in
-    omega (arith, ap length (t .line-at .ensures .text-is), line-room (a .run .now) es (a .places .now) (a .n) (l .loop .i) (l .loop .inv .1) (t .before .loop-test .taken) (s .pre .3))
+    let es = entriesFrom (a .n) (a .places .now) in
+    omega (arith, ap length (t .line-at .ensures .text-is), line-room (a .run .now) es (a .places .now) (a .n) (l .loop .i) (l .loop .inv .1) (t .before .loop-test .taken) (s .pre .2))
 
 loop-less : tie.Need-loop-less Inv-loop μ-loop
 loop-less c = search needs
@@ -46,7 +47,7 @@ loop-again c =
     let t = p .before .before in
     let l = t .before .before in
     let a = l .before .before .before .before .args in
-    let es = entriesOf (a .places .now) (a .n) in
+    let es = entriesFrom (a .n) (a .places .now) in
     (omega arith, line-turn (a .run .now) es (a .places .now) (a .n) (l .loop .i) (l .loop .inv .1) (t .before .loop-test .taken) (retext (t .line-at .ensures .text-is) (p .put-entry .ensures .1)))
 
 same-length : tie.Need-same-length Inv-loop μ-loop
@@ -56,7 +57,7 @@ returns : tie.Need-returns Inv-loop μ-loop
 returns c =
     let l = c .before in
     let a = l .before .before .before .before .args in
-    lines-end (a .run .now) (entriesOf (a .places .now) (a .n)) (a .places .now) (a .n) (l .loop .i) (l .loop .inv .1) (c .loop-test .left)
+    lines-end (a .run .now) (entriesFrom (a .n) (a .places .now)) (a .places .now) (a .n) (l .loop .i) (l .loop .inv .1) (c .loop-test .left)
 
 pub put-lines-spec : {M : Type 1} → statement M
 put-lines-spec =

@@ -1,22 +1,23 @@
 -- `text::queued_in` meets its contract. The invariant: what is found, and what is among the entries from the i-th on, is what is among all.
 -- Assumes nothing.
-use Prim.Native.Nat.{ℕ, _+_, _-_, _≤_}
+use Prim.Native.Nat.{ℕ, _+_, _-_, _*_, _≤_}
 use mathlib.Core.Bool.{Bool, cond}
 use mathlib.Core.Path.{_≡_, ap, _∙_}
 use native.Mathlib.Omega.{arith}
 use native.Mathlib.Nat.{sub-zero}
+use lib.ListN.{drop}
 use borrow.Author.Needs.{needs}
 use Rattle.store.specs.Line.{queuedOf}
 use Rattle.store.specs.declared.Entry.{Entry}
 use Rattle.store.specs.Kinds.{QUEUED}
 use Rattle.store.specs.Store.{isOf}
-use Rattle.text.specs.Lines.{entriesFrom, entriesOf}
+use Rattle.table.specs.Table.{entriesFrom}
 use Rattle.text.proofs.Lines.{queued-rows, at-most-one, sum-turn, sum-end}
 use Rattle.text.proofs.queued_in.Statement.{statement}
 use Rattle.text.proofs.queued_in.Tie as tie
 
 abbrev Inv-loop : tie.InvT-loop
-Inv-loop places n id i₀ found₀ i found = (i ≤ n) × (found ≤ i) × (found + queuedOf (id .0) (entriesFrom places i (n - i)) ≡ queuedOf (id .0) (entriesOf places n))
+Inv-loop places n id i₀ found₀ i found = (i ≤ n) × (found ≤ i) × (found + queuedOf (id .0) (entriesFrom (n - i) (drop (6 * i) places)) ≡ queuedOf (id .0) (entriesFrom n places))
 
 abbrev μ-loop : tie.MeasureT-loop
 μ-loop places n id i₀ found₀ i found = n - i
@@ -24,8 +25,8 @@ abbrev μ-loop : tie.MeasureT-loop
 loop-holds : tie.Need-loop-holds Inv-loop μ-loop
 loop-holds c = rw sub-zero (omega arith, omega arith, omega arith)
 
-entry-in-requires : tie.Need-entry-in-requires Inv-loop μ-loop
-entry-in-requires c κs = search needs
+entry-from-requires : tie.Need-entry-from-requires Inv-loop μ-loop
+entry-from-requires c κs = search needs
 
 add-i : tie.Need-add-i Inv-loop μ-loop
 add-i c = search needs
@@ -43,7 +44,7 @@ loop-again : tie.Need-loop-again Inv-loop μ-loop
 loop-again c =
     let l = c .before .before .before .before in
     let a = l .before .before .args in
-    let x = ap {B = ℕ} (λ (t : Bool). cond t 1 0) (c .before .is-queued .ensures ∙ ap (λ (e : Entry). isOf QUEUED (a .id .0) e) (c .before .before .entry-in .ensures)) in
+    let x = ap {B = ℕ} (λ (t : Bool). cond t 1 0) (c .before .is-queued .ensures ∙ ap (λ (e : Entry). isOf QUEUED (a .id .0) e) (c .before .before .entry-from .ensures)) in
     let o = c .one-more .ensures in
     (omega arith, omega (arith, o, at-most-one (c .before .is-queued .result)), omega (arith, o, sum-turn (queued-rows (a .id .0)) (a .places .now) (a .n) (l .loop .i) (l .loop .found) (l .loop .inv .2) (c .before .before .before .loop-test .taken) x))
 
@@ -60,7 +61,7 @@ queued-in-spec =
     Inv-loop
     μ-loop
     loop-holds
-    entry-in-requires
+    entry-from-requires
     add-i
     is-queued-requires
     one-more-requires

@@ -11,8 +11,9 @@ use Rattle.layout.proofs.Write.{stored-short, stored-row}
 use Rattle.put.proofs.Put.{_then_, put-front}
 use Rattle.store.specs.declared.Entry.{Entry}
 use Rattle.numbers.specs.Decimal.{fieldsText}
+use Rattle.table.specs.Table.{entriesFrom}
 use Rattle.text.specs.Text.{lastLine, «LETTER_T»}
-use Rattle.text.specs.Lines.{entriesOf, linesFrom, countFrom, «TEXT_BYTES»}
+use Rattle.text.specs.Lines.{linesFrom, countFrom, «TEXT_BYTES»}
 use Rattle.text.proofs.Lines.{retext}
 use Rattle.text.proofs.write_granted.Statement.{statement}
 use Rattle.text.proofs.write_granted.Tie as tie
@@ -25,7 +26,7 @@ abbrev start : tie.After-fields-len → tie.Start
 start c = measured c .before .before .before .before
 
 abbrev entries : tie.After-fields-len → List Entry
-entries c = entriesOf (start c .args .places .now) (start c .args .n)
+entries c = entriesFrom (start c .args .n) (start c .args .places .now)
 
 abbrev lines : tie.After-fields-len → List ℕ
 lines c = linesFrom (start c .args .run .now) (entries c) (entries c)
