@@ -4,20 +4,26 @@ use fields::FlagField;
 use fields::RunField;
 use fields::U8Field;
 use fields::U16Field;
-use fields::U32Field;
 use fields::U64Field;
 use layout::question;
 use reader::EndField;
-use reader::RangeField;
 ghost use mathlib.Core.Path.{_≡_};
 ghost use Prim.Native.Nat.{_≤_};
 ghost use lib.ListN.{length};
-ghost use Rattle.layout.specs.Form.{times, u32};
+ghost use Rattle.layout.specs.Veil.{plain};
+ghost use Rattle.layout.specs.Form.{bytes, times, u32};
 ghost use Rattle.layout.specs.Field.{readAt};
 ghost use Rattle.layout.specs.Layout.{group, list};
 ghost use Rattle.rows.specs.Rows.{chain, skipped, range};
 ghost use Rattle.reader.specs.Reader.{ended, endSays};
 ghost use Rattle.lists.specs.Lists.{foundAt, listSays, listRefusal, ListedAt};
+
+// How many bytes an item has, where all of a list have as many.
+const SKIPPED_BYTES: usize = 46;
+
+const RANGE_BYTES: usize = 8;
+
+const NUMBER_BYTES: usize = 4;
 
 // The items of a list: from first up to next.
 pub struct ListAt {
@@ -91,6 +97,21 @@ fn chains_end(row: &[u8], at: usize, n: usize) -> EndField
     EndField::Value(p)
 }
 
+// Where a skipped key ends. In a row that holds all of its bytes only the dir among them is asked anything.
+fn skipped_end(row: &[u8], at: usize) -> EndField
+    requires { ⌜ at ≤ length (now row) ⌝ }
+    ensures { λ r. ⌜ endSays r ≡ ended (readAt (group skipped) (now (row .entry)) at) ⌝ }
+{
+    if row.len() - at < SKIPPED_BYTES {
+        return reader::skipped_end(row, at);
+    }
+    let dir = fields::dir_at(row, at + 1);
+    let DirField::Value(_dir, _next) = dir else {
+        return EndField::Refused(dir.refusal());
+    };
+    EndField::Value(at + SKIPPED_BYTES)
+}
+
 // n skipped keys from a position.
 fn skipped_ends(row: &[u8], at: usize, n: usize) -> EndField
     requires { ⌜ at ≤ length (now row) ⌝ }
@@ -99,7 +120,7 @@ fn skipped_ends(row: &[u8], at: usize, n: usize) -> EndField
     let mut p = at;
     let mut i: usize = 0;
     while i < n {
-        let item = reader::skipped_end(row, p);
+        let item = skipped_end(row, p);
         let EndField::Value(next) = item else {
             return item;
         };
@@ -109,49 +130,14 @@ fn skipped_ends(row: &[u8], at: usize, n: usize) -> EndField
     EndField::Value(p)
 }
 
-// A range: from, to.
-fn range_end(row: &[u8], at: usize) -> EndField
-    ensures { λ r. ⌜ endSays r ≡ ended (readAt (group range) (now (row .entry)) at) ⌝ }
+// Items of n bytes in all, of which nothing is asked.
+fn plain_end(row: &[u8], at: usize, n: usize) -> EndField
+    ensures { λ r. ⌜ endSays r ≡ ended (readAt (bytes plain n) (now (row .entry)) at) ⌝ }
 {
-    let RangeField::Value(_from, _to, next) = reader::range_at(row, at) else {
+    let RunField::Value(_start, next) = fields::run_at(row, at, n) else {
         return EndField::Refused(question::FIELD);
     };
     EndField::Value(next)
-}
-
-// n ranges from a position.
-fn ranges_end(row: &[u8], at: usize, n: usize) -> EndField
-    requires { ⌜ at ≤ length (now row) ⌝ }
-    ensures { λ r. ⌜ endSays r ≡ ended (readAt (times (group range) n) (now (row .entry)) at) ⌝ }
-{
-    let mut p = at;
-    let mut i: usize = 0;
-    while i < n {
-        let item = range_end(row, p);
-        let EndField::Value(next) = item else {
-            return item;
-        };
-        p = next;
-        i += 1;
-    }
-    EndField::Value(p)
-}
-
-// n numbers from a position.
-fn numbers_end(row: &[u8], at: usize, n: usize) -> EndField
-    requires { ⌜ at ≤ length (now row) ⌝ }
-    ensures { λ r. ⌜ endSays r ≡ ended (readAt (times u32 n) (now (row .entry)) at) ⌝ }
-{
-    let mut p = at;
-    let mut i: usize = 0;
-    while i < n {
-        let U32Field::Value(_number, next) = fields::u32_at(row, p) else {
-            return EndField::Refused(question::FIELD);
-        };
-        p = next;
-        i += 1;
-    }
-    EndField::Value(p)
 }
 
 // Where a list is, once its end was found.
@@ -197,7 +183,7 @@ pub fn ranges_at(row: &[u8], at: usize) -> ListField
         return ListField::Refused(question::FIELD);
     };
     found(
-        ranges_end(row, first, count as usize),
+        plain_end(row, first, RANGE_BYTES * (count as usize)),
         first,
         count as usize,
     )
@@ -210,7 +196,7 @@ pub fn numbers_at(row: &[u8], at: usize) -> ListField
         return ListField::Refused(question::FIELD);
     };
     found(
-        numbers_end(row, first, count as usize),
+        plain_end(row, first, NUMBER_BYTES * (count as usize)),
         first,
         count as usize,
     )

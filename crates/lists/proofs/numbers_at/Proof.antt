@@ -1,14 +1,15 @@
--- `lists::numbers_at` meets its contract: the count, and then so many items.
-use mathlib.Core.Path.{sym}
+-- `lists::numbers_at` meets its contract: the count, and then the bytes of so many items.
+use mathlib.Core.Path.{sym, _∙_}
 use mathlib.Core.List.{List}
 use Prim.Native.Nat.{ℕ}
 use borrow.Author.Needs.{needs}
-use Rattle.layout.specs.Form.{u16, u32}
+use Rattle.layout.specs.Form.{u16, u32, times}
 use Rattle.layout.proofs.Front.{number-lawful}
 use Rattle.layout.specs.RowLaws.{Bytes}
 use Rattle.layout.proofs.At.{Took, took, learn, typed}
 use Rattle.fields.specs.Says.{u16Says}
 use Rattle.lists.proofs.Ends.{listed, unlisted}
+use Rattle.lists.proofs.Plain.{run-end, numbers-run}
 use Rattle.lists.proofs.numbers_at.Statement.{statement}
 use Rattle.lists.proofs.numbers_at.Tie as tie
 
@@ -36,11 +37,14 @@ enum-told c = search needs
 returns : tie.Need-returns
 returns c = (sym (unlisted u32 _ _ (learn u16Says (c .before .before .u16-at .ensures) (c .enum-told .given .1))), tt)
 
-cast-numbers-end : tie.Need-cast-numbers-end
-cast-numbers-end c = search needs
+cast-plain-end : tie.Need-cast-plain-end
+cast-plain-end c = search needs
 
-numbers-end-requires : tie.Need-numbers-end-requires
-numbers-end-requires c κs = count-took c .inside
+mul-plain-end : tie.Need-mul-plain-end
+mul-plain-end c = search needs
+
+plain-end-requires : tie.Need-plain-end-requires
+plain-end-requires c κs = search needs
 
 cast-found : tie.Need-cast-found
 cast-found c = search needs
@@ -52,9 +56,10 @@ returns-2 : tie.Need-returns-2
 returns-2 c =
     let e = c .before in
     let k = e .before in
-    listed u32 (number-lawful 4) (row (slice k)) (by (slice k)) _ _ _ (count-took k) (e .numbers-end .result) (c .found .result) (e .numbers-end .ensures) (c .found .ensures)
+    listed u32 (number-lawful 4) (row (slice k)) (by (slice k)) _ _ _ (count-took k) (e .plain-end .result) (c .found .result)
+    (e .plain-end .ensures ∙ run-end (times u32 (k .before .count .given .0 .0)) (numbers-run (k .before .count .given .0 .0)) _ _) (c .found .ensures)
 
 pub numbers-at-spec : {M : Type 1} → statement M
 numbers-at-spec =
     tie.close
-    (tie.spec u16-at-requires enum-known-count enum-told returns cast-numbers-end numbers-end-requires cast-found found-requires returns-2)
+    (tie.spec u16-at-requires enum-known-count enum-told returns cast-plain-end mul-plain-end plain-end-requires cast-found found-requires returns-2)

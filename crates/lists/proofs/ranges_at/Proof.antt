@@ -1,9 +1,9 @@
--- `lists::ranges_at` meets its contract: the count, and then so many items.
-use mathlib.Core.Path.{sym}
+-- `lists::ranges_at` meets its contract: the count, and then the bytes of so many items.
+use mathlib.Core.Path.{sym, _∙_}
 use mathlib.Core.List.{List}
 use Prim.Native.Nat.{ℕ}
 use borrow.Author.Needs.{needs}
-use Rattle.layout.specs.Form.{u16}
+use Rattle.layout.specs.Form.{u16, times}
 use Rattle.layout.specs.Layout.{group}
 use Rattle.layout.proofs.Front.{number-lawful}
 use Rattle.layout.specs.RowLaws.{Bytes}
@@ -12,6 +12,7 @@ use Rattle.rows.specs.Rows.{range}
 use Rattle.rows.proofs.Lawful.{range-lawful}
 use Rattle.fields.specs.Says.{u16Says}
 use Rattle.lists.proofs.Ends.{listed, unlisted}
+use Rattle.lists.proofs.Plain.{run-end, ranges-run}
 use Rattle.lists.proofs.ranges_at.Statement.{statement}
 use Rattle.lists.proofs.ranges_at.Tie as tie
 
@@ -39,11 +40,14 @@ enum-told c = search needs
 returns : tie.Need-returns
 returns c = (sym (unlisted (group range) _ _ (learn u16Says (c .before .before .u16-at .ensures) (c .enum-told .given .1))), tt)
 
-cast-ranges-end : tie.Need-cast-ranges-end
-cast-ranges-end c = search needs
+cast-plain-end : tie.Need-cast-plain-end
+cast-plain-end c = search needs
 
-ranges-end-requires : tie.Need-ranges-end-requires
-ranges-end-requires c κs = count-took c .inside
+mul-plain-end : tie.Need-mul-plain-end
+mul-plain-end c = search needs
+
+plain-end-requires : tie.Need-plain-end-requires
+plain-end-requires c κs = search needs
 
 cast-found : tie.Need-cast-found
 cast-found c = search needs
@@ -55,9 +59,10 @@ returns-2 : tie.Need-returns-2
 returns-2 c =
     let e = c .before in
     let k = e .before in
-    listed (group range) range-lawful (row (slice k)) (by (slice k)) _ _ _ (count-took k) (e .ranges-end .result) (c .found .result) (e .ranges-end .ensures) (c .found .ensures)
+    listed (group range) range-lawful (row (slice k)) (by (slice k)) _ _ _ (count-took k) (e .plain-end .result) (c .found .result)
+    (e .plain-end .ensures ∙ run-end (times (group range) (k .before .count .given .0 .0)) (ranges-run (k .before .count .given .0 .0)) _ _) (c .found .ensures)
 
 pub ranges-at-spec : {M : Type 1} → statement M
 ranges-at-spec =
     tie.close
-    (tie.spec u16-at-requires enum-known-count enum-told returns cast-ranges-end ranges-end-requires cast-found found-requires returns-2)
+    (tie.spec u16-at-requires enum-known-count enum-told returns cast-plain-end mul-plain-end plain-end-requires cast-found found-requires returns-2)
