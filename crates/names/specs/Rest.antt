@@ -1,11 +1,12 @@
--- What the reader of a name keeps and answers, in the terms of the UTF-8 definition: the limits of the bytes that are due.
+-- What the reader of a name answers, in the terms of the UTF-8 definition: the limits of the bytes that are due, and whole characters.
 -- Assumes nothing.
-use Prim.Native.Nat.{ℕ, zero, suc}
+use Prim.Native.Nat.{ℕ, zero, suc, _+_, _≤_, _<_}
 use mathlib.Core.List.{List, [], _∷_}
-use mathlib.Core.Bool.{cond}
+use mathlib.Core.Bool.{Bool, true, false, _&&_}
 use mathlib.Core.Option.{Option, none, some}
-use lib.ListN.{replicate}
-use Rattle.rows.specs.Utf8.{Limits, limits, isIn, tail, following}
+use mathlib.Core.Path.{_≡_}
+use lib.ListN.{length, drop, replicate}
+use Rattle.rows.specs.Utf8.{Limits, limits, isIn, tail, utf8}
 use Rattle.names.specs.declared.Rest.{Rest}
 use Rattle.names.specs.declared.Next.{Next}
 use Rattle.names.specs.declared.Next.the-variants.{Expects, Stops}
@@ -22,7 +23,14 @@ abbrev pub nextSays : Next → Option (List Limits)
 nextSays (Expects rest) = some (restSays rest)
 nextSays Stops = none
 
--- what is due once b came, where rs was; none where no character goes on so
-abbrev pub goesOn : List Limits → ℕ → Option (List Limits)
-goesOn [] b = following b
-goesOn (r ∷ rs) b = cond (isIn r b) (some rs) none
+-- bytes stand in front that are within these limits, each within its own
+unfoldable pub within : List Limits → List ℕ → Bool
+within [] bs = true
+within (r ∷ rs) [] = false
+within (r ∷ rs) (b ∷ bs) = isIn r b && within rs bs
+
+-- a character of n bytes stands at a position; 0: none does
+pub record Character (name : List ℕ) (at n : ℕ) : Type 0 where
+  pub inside : at + n ≤ length name
+  pub whole : 0 < n → utf8 (drop at name) ≡ utf8 (drop (at + n) name)
+  pub missing : n ≡ 0 → utf8 (drop at name) ≡ false

@@ -1,10 +1,12 @@
-// Whether a name is UTF-8 by RFC 3629, byte by byte.
+// Whether a name is UTF-8 by RFC 3629, character by character.
 ghost use mathlib.Core.Path.{_≡_};
 ghost use mathlib.Core.Option.{some};
-ghost use Rattle.rows.specs.Utf8.{limits, following, utf8};
-ghost use Rattle.names.specs.Rest.{due, restSays, nextSays, goesOn};
+ghost use Prim.Native.Nat.{_-_, _≤_, _<_};
+ghost use lib.ListN.{length, drop, replicate};
+ghost use Rattle.rows.specs.Utf8.{limits, tail, following, utf8};
+ghost use Rattle.names.specs.Rest.{due, restSays, nextSays, within, Character};
 
-// What must follow in the character begun: how many bytes, and the limits of the next one.
+// What must follow a character's first byte: how many bytes, and the limits of the next one; those behind it are tails.
 pub struct Rest {
     pub more: u8,
     pub lo: u8,
@@ -41,39 +43,76 @@ fn first_byte(b: u8) -> Next
     }
 }
 
-// What must follow behind the byte b. Only the byte after a character's first has limits of its own.
-fn next_byte(rest: Rest, b: u8) -> Next
-    ensures { λ r. ⌜ nextSays r ≡ goesOn (restSays rest) b ⌝ }
+// Whether tails stand from one position up to another.
+fn tails(name: &[u8], from: usize, to: usize) -> bool
+    requires { ⌜ (from ≤ to) × (to ≤ length (now name)) ⌝ }
+    ensures { λ r. ⌜ r ≡ within (replicate (to - from) tail) (drop from (now (name .entry))) ⌝ }
 {
-    if rest.more == 0 {
-        return first_byte(b);
+    let mut i = from;
+    while i < to {
+        let b = name[i];
+        if b < 0x80 {
+            return false;
+        }
+        if 0xBF < b {
+            return false;
+        }
+        i += 1;
     }
+    true
+}
+
+// Whether the bytes that must follow do, from a position on.
+fn follows(name: &[u8], at: usize, rest: Rest) -> bool
+    requires { ⌜ at ≤ length (now name) ⌝ }
+    ensures { λ r. ⌜ r ≡ within (restSays rest) (drop at (now (name .entry))) ⌝ }
+{
+    let more = rest.more as usize;
+    if more == 0 {
+        return true;
+    }
+    if name.len() - at < more {
+        return false;
+    }
+    let b = name[at];
     if b < rest.lo {
-        return Next::Stops;
+        return false;
     }
     if rest.hi < b {
-        return Next::Stops;
+        return false;
     }
-    expects(rest.more - 1, 0x80, 0xBF)
+    tails(name, at + 1, at + more)
+}
+
+// How many bytes the character at a position has; 0 where none stands there.
+fn character(name: &[u8], at: usize) -> usize
+    requires { ⌜ at < length (now name) ⌝ }
+    ensures { λ r. ⌜ Character (now (name .entry)) at r ⌝ }
+{
+    let b = name[at];
+    if b <= 0x7F {
+        return 1;
+    }
+    let Next::Expects(rest) = first_byte(b) else {
+        return 0;
+    };
+    if follows(name, at + 1, rest) {
+        return 1 + rest.more as usize;
+    }
+    0
 }
 
 // Whether the bytes are a run of whole characters; the empty run is one.
 pub fn is_utf8(name: &[u8]) -> bool
     ensures { λ r. ⌜ r ≡ utf8 (now (name .entry)) ⌝ }
 {
-    let mut rest = Rest {
-        more: 0,
-        lo: 0x80,
-        hi: 0xBF,
-    };
     let mut i: usize = 0;
     while i < name.len() {
-        let b = name[i];
-        let Next::Expects(r) = next_byte(rest, b) else {
+        let n = character(name, i);
+        if n == 0 {
             return false;
-        };
-        rest = r;
-        i += 1;
+        }
+        i += n;
     }
-    rest.more == 0
+    true
 }
