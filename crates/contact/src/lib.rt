@@ -17,13 +17,15 @@ use rows::Verdict;
 use rows::Verification;
 ghost use mathlib.Core.Path.{_≡_};
 ghost use Prim.Native.Nat.{_/_, _<_};
+ghost use Rattle.layout.specs.Read.{first};
 ghost use Rattle.layout.specs.Layout.{readRow};
+ghost use Rattle.rows.specs.Answers.{verdictOf};
 ghost use Rattle.rows.specs.Rows as layouts;
 ghost use Rattle.numbers.specs.Lists.{counts, roomFor};
 ghost use Rattle.card.specs.Card.{cardOf};
 ghost use Rattle.parts.specs.Places.{ChainedLists, NumbersLists, chainedFrom, numbersFrom, CardPlaces, cardIn, pendingFrom, sendFrom};
-ghost use Rattle.contact.specs.Consistent.{chainsRefusal, numbersRefusal, inconsistency, refusalIn};
-ghost use Rattle.contact.specs.Check.{contactFrom, Places, countsAt, checked, checkRefusal, PendingRuns, SendRuns, Filling};
+ghost use Rattle.contact.specs.Consistent.{chainsRefusal, numbersRefusal, refusalIn};
+ghost use Rattle.contact.specs.Check.{contactFrom, countsAt, checked, checkRefusal, PendingRuns, SendRuns, Filling};
 ghost use Rattle.contact.specs.Contact.{pendingKeysOf, sendPartOf, contactOf, zeroContact, lists, listsBefore, listsAfter, filled, Fillable, refusedBy, leaves, reads};
 
 // The send chain's numbers; its key stands beside it. Absent until the first Resume.
@@ -152,18 +154,16 @@ fn numbers_consistent(row: &[u8], sent: u32, at: NumbersAt) -> Verdict
     Verdict::Accepted
 }
 
-// 17 to 24.
-fn consistent_in_row(row: &[u8], at: ContactAt) -> Verdict
-    requires { ⌜ Places (now row) at ⌝ }
-    ensures { λ r. ⌜ refusalIn r ≡ inconsistency (contactFrom (now (row .entry)) at) ⌝ }
+// 17 to 24, of parts that were read.
+fn consistent_in_row(row: &[u8], sent: u32, chained: ChainedAt, numbers: NumbersAt) -> Verdict
+    requires { ⌜ ChainedLists (now row) chained × NumbersLists (now row) numbers ⌝ }
+    ensures { λ r. ⌜ refusalIn r ≡ first (chainsRefusal (chainedFrom (now (row .entry)) chained .chains) (chainedFrom (now (row .entry)) chained .skipped)) (numbersRefusal sent (numbers .«peer_acked») (numbers .contiguous) (numbersFrom (now (row .entry)) numbers .above) (numbersFrom (now (row .entry)) numbers .unacked) (numbersFrom (now (row .entry)) numbers .expired)) ⌝ }
 {
-    let chained = at.chained;
     let chains = chains_consistent(row, chained);
     let Verdict::Accepted = chains else {
         return chains;
     };
-    let numbers = at.numbers;
-    numbers_consistent(row, at.keys.sent_msgno, numbers)
+    numbers_consistent(row, sent, numbers)
 }
 
 // The questions of a contact row; nothing is copied.
@@ -192,17 +192,44 @@ pub fn check_contact(version: u32, row: &[u8]) -> ContactCheck
     if at4 < row.len() {
         return ContactCheck::Refused(question::ROW_END);
     }
-    let at = ContactAt {
-        paired,
-        keys,
-        chained,
-        numbers,
-    };
-    let verdict = consistent_in_row(row, at);
-    let Verdict::Refused(q) = verdict else {
-        return ContactCheck::Fields(at);
+    let Verdict::Refused(q) = consistent_in_row(row, keys.sent_msgno, chained, numbers) else {
+        return ContactCheck::Fields(ContactAt {
+            paired,
+            keys,
+            chained,
+            numbers,
+        });
     };
     ContactCheck::Refused(q)
+}
+
+// The same questions, where no place is asked for.
+pub fn ask_contact(version: u32, row: &[u8]) -> Verdict
+    ensures { λ r. ⌜ r ≡ verdictOf (readRow (layouts.contact version) (now (row .entry))) ⌝ }
+{
+    if version != rows::BLOB_VERSION {
+        return Verdict::Refused(question::VERSION);
+    }
+    let paired_field = parts::paired_at(row, 0);
+    let PairedField::Value(_paired, behind_paired) = paired_field else {
+        return Verdict::Refused(paired_field.refusal());
+    };
+    let keys_field = parts::keys_at(row, behind_paired);
+    let KeysField::Value(keys, behind_keys) = keys_field else {
+        return Verdict::Refused(keys_field.refusal());
+    };
+    let chained_field = parts::chained_at(row, behind_keys);
+    let ChainedField::Value(chained, behind_chained) = chained_field else {
+        return Verdict::Refused(chained_field.refusal());
+    };
+    let numbers_field = parts::numbers_at(row, behind_chained);
+    let NumbersField::Value(numbers, end) = numbers_field else {
+        return Verdict::Refused(numbers_field.refusal());
+    };
+    if end < row.len() {
+        return Verdict::Refused(question::ROW_END);
+    }
+    consistent_in_row(row, keys.sent_msgno, chained, numbers)
 }
 
 impl Contact {

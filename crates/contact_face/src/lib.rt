@@ -1,6 +1,6 @@
 // The functions on contact rows that Rust and C call, under their C names. A slice passes as its pointer and its length.
 // Neither requires anything of its caller. A granted call answers 0, a refused one the question's number; what a refused call was lent stays as it was.
-use contact::ContactCheck;
+use rows::Verdict;
 ghost use mathlib.Core.Path.{_≡_};
 ghost use Rattle.contact.specs.Contact.{listsBefore, listsAfter};
 ghost use Rattle.rewrite.specs.Rewrite.{rewrites};
@@ -11,9 +11,9 @@ ghost use Rattle.contact_face.specs.Faces.{checkNumber, leaves, shown};
 pub extern "C" fn sicklestar_check_contact(version: u32, row: &[u8]) -> u32
     ensures { λ r. ⌜ r ≡ checkNumber version (now (row .entry)) ⌝ }
 {
-    match contact::check_contact(version, row) {
-        ContactCheck::Fields(_) => return 0,
-        ContactCheck::Refused(number) => return number as u32,
+    match contact::ask_contact(version, row) {
+        Verdict::Accepted => return 0,
+        Verdict::Refused(number) => return number as u32,
     }
 }
 

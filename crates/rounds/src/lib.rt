@@ -1,5 +1,4 @@
 // One turn of the rounds that ask each entry by itself: 1, 2, and 3 to 24.
-use contact::ContactCheck;
 use courier::CourierCheck;
 use device::DeviceCheck;
 use layout::question;
@@ -30,10 +29,7 @@ fn device_verdict(version: u32, row: &[u8]) -> Verdict
 fn contact_verdict(version: u32, row: &[u8]) -> Verdict
     ensures { λ r. ⌜ verdictIn r ≡ refusalIn (readRow (layouts.contact version) (now (row .entry))) ⌝ }
 {
-    let ContactCheck::Refused(q) = contact::check_contact(version, row) else {
-        return Verdict::Accepted;
-    };
-    Verdict::Refused(q)
+    contact::ask_contact(version, row)
 }
 
 fn queued_verdict(version: u32, row: &[u8]) -> Verdict

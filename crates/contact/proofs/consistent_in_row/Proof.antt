@@ -7,7 +7,7 @@ use Rattle.contact.proofs.consistent_in_row.Statement.{statement}
 use Rattle.contact.proofs.consistent_in_row.Tie as tie
 
 chains-consistent-requires : tie.Need-chains-consistent-requires
-chains-consistent-requires c κs = c .before .before .pre .chained
+chains-consistent-requires c κs = c .before .pre .0
 
 enum-told : tie.Need-enum-told
 enum-told c = search needs
@@ -21,11 +21,11 @@ returns c =
     stands _ (r .chains-consistent .ensures) (learn refusalIn (r .chains-consistent .ensures) (c .enum-told2 .given .1))
 
 numbers-consistent-requires : tie.Need-numbers-consistent-requires
-numbers-consistent-requires c κs = c .before .before .before .before .before .before .pre .numbers
+numbers-consistent-requires c κs = c .before .before .before .before .pre .1
 
 returns-2 : tie.Need-returns-2
 returns-2 c =
-    let t = c .before .before in
+    let t = c .before in
     goes-on (c .numbers-consistent .ensures) (learn refusalIn (t .before .before .chains-consistent .ensures) (t .enum-told .given .1))
 
 pub consistent-in-row-spec : {M : Type 1} → statement M
