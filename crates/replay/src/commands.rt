@@ -9,7 +9,7 @@ use super::Script;
 use super::UNACKED;
 use super::at_most;
 use super::least;
-use cases::first;
+use ascii::first;
 use rows::Written;
 use sheet::Answer;
 use sheet::State;
@@ -32,12 +32,12 @@ fn put_number(places: &mut [u64], at: usize, n: u64) {
 
 fn put_entry(line: &[u8], places: &mut [u64], first: usize, entry: usize) {
     let at = place_of(first, entry);
-    put_number(places, at, script::number(line, b' ', 0));
-    put_number(places, at + 1, script::number(line, b' ', 1));
-    put_number(places, at + 2, script::number(line, b' ', 4));
-    put_number(places, at + 3, script::number(line, b' ', 5));
-    put_number(places, at + 4, script::number(line, b' ', 2));
-    put_number(places, at + 5, script::number(line, b' ', 3));
+    put_number(places, at, ascii::number(line, b' ', 0));
+    put_number(places, at + 1, ascii::number(line, b' ', 1));
+    put_number(places, at + 2, ascii::number(line, b' ', 4));
+    put_number(places, at + 3, ascii::number(line, b' ', 5));
+    put_number(places, at + 4, ascii::number(line, b' ', 2));
+    put_number(places, at + 5, ascii::number(line, b' ', 3));
 }
 
 // Feeds a part of a line to the sheet's reader, which writes to the free half.
@@ -118,7 +118,7 @@ fn bytes_of(s: Script, word: &[u8], run: &mut [u8]) -> Written {
     let start = least(s.start, run.len());
     let room = least(run.len() - start, sheet::BLOB_BYTES);
     let end = start + room;
-    cases::bytes(word, &mut run[start..end])
+    ascii::bytes(word, &mut run[start..end])
 }
 
 // The row that bytes_of left.
@@ -128,11 +128,11 @@ fn row_in(s: Script, run: &[u8], n: usize) -> &[u8] {
 }
 
 fn raw_restore_of(s: Script, line: &[u8], run: &mut [u8]) -> Script {
-    let count = script::number(line, b' ', 1);
+    let count = ascii::number(line, b' ', 1);
     if (sheet::LINES as u64) < count {
         return s.unknown();
     }
-    let Written::Length(n) = bytes_of(s, script::word(line, b' ', 2), run) else {
+    let Written::Length(n) = bytes_of(s, ascii::word(line, b' ', 2), run) else {
         return s.unknown();
     };
     let mut next = s;
@@ -148,24 +148,24 @@ fn raw_restore_of(s: Script, line: &[u8], run: &mut [u8]) -> Script {
 
 fn lend(s: Script, line: &[u8]) -> Script {
     s.lends(
-        script::number(line, b' ', 1),
-        script::number(line, b' ', 2),
-        script::number(line, b' ', 3),
-        script::number(line, b' ', 4),
-        script::number(line, b' ', 5),
-        script::number(line, b' ', 6),
+        ascii::number(line, b' ', 1),
+        ascii::number(line, b' ', 2),
+        ascii::number(line, b' ', 3),
+        ascii::number(line, b' ', 4),
+        ascii::number(line, b' ', 5),
+        ascii::number(line, b' ', 6),
     )
 }
 
 fn veil_row(s: Script, line: &[u8], run: &[u8], n: usize, out: &mut [u8]) -> Written {
-    let kind = narrow(script::number(line, b' ', 1));
-    let version = narrow(script::number(line, b' ', 2));
-    let room = at_most(script::number(line, b' ', 3), out.len());
+    let kind = narrow(ascii::number(line, b' ', 1));
+    let version = narrow(ascii::number(line, b' ', 2));
+    let room = at_most(ascii::number(line, b' ', 3), out.len());
     veil::veil(kind, version, row_in(s, run, n), &mut out[0..room])
 }
 
 fn veil_line(s: Script, line: &[u8], run: &mut [u8], out: &mut [u8]) -> Script {
-    let Written::Length(n) = bytes_of(s, script::word(line, b' ', 4), run) else {
+    let Written::Length(n) = bytes_of(s, ascii::word(line, b' ', 4), run) else {
         return s.unknown();
     };
     s.shows(veil_row(s, line, run, n, out))
@@ -178,11 +178,11 @@ fn read_contact(version: u32, word: &[u8], row: &[u8], out: &mut [u8]) -> Writte
     let mut above = [0u32; 15360];
     let mut unacked = [0u32; 15360];
     let mut expired = [0u32; 15360];
-    let c = lent::CHAIN_PLACE * at_most(script::number(word, b',', 0), CHAINS);
-    let k = lent::SKIPPED_PLACE * at_most(script::number(word, b',', 1), SKIPPED);
-    let a = 2 * at_most(script::number(word, b',', 2), ABOVE);
-    let u = at_most(script::number(word, b',', 3), UNACKED);
-    let e = 2 * at_most(script::number(word, b',', 4), EXPIRED);
+    let c = lent::CHAIN_PLACE * at_most(ascii::number(word, b',', 0), CHAINS);
+    let k = lent::SKIPPED_PLACE * at_most(ascii::number(word, b',', 1), SKIPPED);
+    let a = 2 * at_most(ascii::number(word, b',', 2), ABOVE);
+    let u = at_most(ascii::number(word, b',', 3), UNACKED);
+    let e = 2 * at_most(ascii::number(word, b',', 4), EXPIRED);
     rewrite::rewrite_contact(
         version,
         row,
@@ -210,18 +210,18 @@ fn read_row(kind: u64, version: u32, word: &[u8], row: &[u8], out: &mut [u8]) ->
 }
 
 fn read_bytes(s: Script, line: &[u8], run: &[u8], n: usize, out: &mut [u8]) -> Script {
-    let kind = script::number(line, b' ', 1);
-    let version = narrow(script::number(line, b' ', 2));
-    let word = script::word(line, b' ', 3);
+    let kind = ascii::number(line, b' ', 1);
+    let version = narrow(ascii::number(line, b' ', 2));
+    let word = ascii::word(line, b' ', 3);
     s.shows(read_row(kind, version, word, row_in(s, run, n), out))
 }
 
 fn read_line(s: Script, line: &[u8], run: &mut [u8], out: &mut [u8]) -> Script {
-    let kind = script::number(line, b' ', 1);
-    if !script::lengths_for(kind, script::word(line, b' ', 3)) {
+    let kind = ascii::number(line, b' ', 1);
+    if !script::lengths_for(kind, ascii::word(line, b' ', 3)) {
         return s.unknown();
     }
-    let Written::Length(n) = bytes_of(s, script::word(line, b' ', 4), run) else {
+    let Written::Length(n) = bytes_of(s, ascii::word(line, b' ', 4), run) else {
         return s.unknown();
     };
     read_bytes(s, line, run, n, out)
@@ -269,7 +269,7 @@ fn command_line(s: Script, line: &[u8], run: &mut [u8], out: &mut [u8]) -> Scrip
         return s.begins();
     }
     if command == script::RESTORE {
-        return restore_of(s, script::number(line, b' ', 1));
+        return restore_of(s, ascii::number(line, b' ', 1));
     }
     if command == script::RAWRESTORE {
         return raw_restore_of(s, line, run);
@@ -283,8 +283,8 @@ fn command_line(s: Script, line: &[u8], run: &mut [u8], out: &mut [u8]) -> Scrip
     if command == script::READ {
         return read_line(s, line, run, out);
     }
-    let a = script::number(line, b' ', 1);
-    let b = script::number(line, b' ', 2);
+    let a = ascii::number(line, b' ', 1);
+    let b = ascii::number(line, b' ', 2);
     s.asks(code_of(command), a, b, 0, 0)
 }
 

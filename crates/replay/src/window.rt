@@ -112,7 +112,7 @@ fn read_more(w: Window, text: &mut [u8], at: usize, held: usize) -> Window
 pub(super) fn look(w: Window, text: &mut [u8]) -> Window {
     let held = least(w.held, text.len());
     let at = least(w.at, held);
-    let n = cases::until(&text[at..held], b'\n');
+    let n = ascii::until(&text[at..held], b'\n');
     let end = at + n;
     if end < held {
         return w.line(at, end, end + 1);

@@ -1,6 +1,4 @@
 mod Table
 mod Words
 mod Numbers
-pub mod Pairs
 mod Samples
-pub mod ReadBack

@@ -8,8 +8,8 @@ use native.Mathlib.Nat.{add-zero, zero-add, add-suc, suc-add, le-of-suc-le-suc, 
 use native.Mathlib.Omega.{arith}
 use lib.Dec.{T, eqb, eqb→eq}
 use lib.ListN.{length, getD, take, drop, List·getD-eq-default}
-use Rattle.cases.specs.Text as text
-use Rattle.cases.specs.Text.{before}
+use Rattle.ascii.specs.Words as text
+use Rattle.ascii.specs.Words.{before}
 use Rattle.store.proofs.Tests.{both}
 use Rattle.script.specs.Script as script
 use Rattle.script.specs.Script.{Command, withUnknown, unknown, ofCode, narrowOf, wideOf, othersOf, same}

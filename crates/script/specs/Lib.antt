@@ -1,4 +1,2 @@
 pub mod Script
 pub mod Table
-pub mod Says
-pub mod Hex

@@ -11,10 +11,10 @@ use mathlib.Core.Option.{Option, none, some}
 use lib.ListN.{length, getD}
 use lib.Dec.{eqb, leb}
 use Rattle.numbers.specs.Decimal.{COMMA}
+use Rattle.ascii.specs.Decimal.{U32, U64, decimalIn}
+use Rattle.ascii.specs.Hex.{dashOf}
+use Rattle.ascii.specs.Words.{SPACE, parted, wordAt}
 use Rattle.store.specs.Kinds.{CONTACT, COURIER}
-use Rattle.cases.specs.Text.{SPACE, dashOf}
-use Rattle.sheet.specs.Decimal.{decimalIn}
-use Rattle.sheet.specs.Sheet.{parted, U32, U64}
 
 -- ---- commands
 -- a text's bytes, where its letters are of ASCII
@@ -155,20 +155,8 @@ commandAs code words =
     code
     UNKNOWN
 
--- the i-th of the words between these marks, counted from 0
-abbrev pub wordAt : (mark i : ℕ) → List ℕ → List ℕ
-wordAt mark i text = getD (parted mark text) i []
-
 abbrev pub commandOf : List ℕ → ℕ
 commandOf line = commandAs (codeOf (wordAt SPACE 0 line)) (parted SPACE line)
-
--- what a word says, 0 where it is no number
-abbrev pub numberOr0 : Option ℕ → ℕ
-numberOr0 none = 0
-numberOr0 (some n) = n
-
-abbrev pub numberAt : (mark i : ℕ) → List ℕ → ℕ
-numberAt mark i text = numberOr0 (decimalIn U64 (wordAt mark i text))
 
 -- ---- other lines and words
 -- whether the words from the i-th on are decimals, each up to its number

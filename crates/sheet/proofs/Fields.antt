@@ -14,16 +14,15 @@ use Rattle.numbers.specs.Decimal.{LF, COMMA, numberFrom, isDigit}
 use Rattle.put.specs.Put as storing
 use Rattle.put.specs.Put.{put}
 use Rattle.sheet.specs.declared.State.{State}
-use Rattle.sheet.specs.Decimal as decimals
-use Rattle.sheet.specs.Decimal.{decimalIn}
-use Rattle.sheet.specs.Blob as blobs
-use Rattle.sheet.specs.Blob.{isHex, hexValue, before, blobOf}
+use Rattle.ascii.specs.Decimal as decimals
+use Rattle.ascii.specs.Decimal.{decimalIn, goesOn}
+use Rattle.ascii.specs.Hex as blobs
+use Rattle.ascii.specs.Hex.{isHex, hexValue, withByte, blobOf}
 use Rattle.sheet.specs.Machine as machine
-use Rattle.sheet.specs.Machine.{FIRST, NUMBER, HIGH, LOW, state, waiting, stopped, highestAt, bytesIn, usedOne, storedOne, Held, held, stateIn, stepped, fed}
-use Rattle.sheet.proofs.Parts.{Plain, plain-nil, plain-cons}
-use Rattle.sheet.proofs.Hex.{hex-small}
-use Rattle.sheet.proofs.Decimal as text
-use Rattle.sheet.proofs.Decimal.{goesOn, read-digits}
+use Rattle.sheet.specs.Machine.{FIRST, NUMBER, HIGH, LOW, state, waiting, stopped, highestAt, grown, bytesIn, usedOne, storedOne, Held, held, stateIn, stepped, fed}
+use Rattle.sheet.proofs.Plain.{Plain, plain-nil, plain-cons}
+use Rattle.ascii.proofs.Blobs.{hex-small}
+use Rattle.ascii.proofs.Decimals.{read-digits}
 
 -- ---- chunks
 pub fed-append : (a b : List ℕ) (h : Held) → fed (a ++ b) h ≡ fed b (fed a h)
@@ -60,14 +59,14 @@ numberAt a b c n k u kind left = state a b c n k u u kind left 0 0 NUMBER
 module _ (a b c k u kind left : ℕ) (run places : List ℕ) where
   digits : {f : List ℕ} → Plain f → (n : ℕ)
       → fed f (held (numberAt a b c n k u kind left) run places) ≡ held (cond (goesOn (highestAt kind left) n f) (numberAt a b c (numberFrom n f) k u kind left) (waiting k left DECIMAL)) run places
-  unfolding machine.fed machine.stepped machine.otherStep machine.numberStep machine.digitStep text.goesOn
+  unfolding machine.fed machine.stepped machine.otherStep machine.numberStep machine.digitStep decimals.goesOn
   digits plain-nil n = refl
   digits (plain-cons {b = d} {bs = ds} lf comma p) n = rw (lf, comma) (go (eqb n 0) (isDigit d) (leb (n * 10 + (d - 0x30)) (highestAt kind left)) (digits p (n * 10 + (d - 0x30))))
     where
       go : (z i l : Bool)
           → fed ds (held (numberAt a b c (n * 10 + (d - 0x30)) k u kind left) run places)
           ≡ held (cond (goesOn (highestAt kind left) (n * 10 + (d - 0x30)) ds) (numberAt a b c (numberFrom (n * 10 + (d - 0x30)) ds) k u kind left) (waiting k left DECIMAL)) run places
-          → fed ds (held (cond z (waiting k left DECIMAL) (cond i (cond l (numberAt a b c (n * 10 + (d - 0x30)) k u kind left) (waiting k left DECIMAL)) (waiting k left DECIMAL))) run places)
+          → fed ds (held (cond z (waiting k left DECIMAL) (grown (cond (i && l) (some (n * 10 + (d - 0x30))) none) (numberAt a b c n k u kind left))) run places)
           ≡ held (cond (not z && (i && (l && goesOn (highestAt kind left) (n * 10 + (d - 0x30)) ds))) (numberAt a b c (numberFrom (n * 10 + (d - 0x30)) ds) k u kind left) (waiting k left DECIMAL)) run places
       go true i l ih = waits p k left DECIMAL run places
       go false false l ih = waits p k left DECIMAL run places
@@ -88,7 +87,7 @@ module _ (a b c k u kind left : ℕ) (run places : List ℕ) where
   field (plain-cons {b = d} {bs = ds} lf comma p) = rw (lf, comma) (go (isDigit d) (leb (0 * 10 + (d - 0x30)) (highestAt kind left)))
     where
       go : (i l : Bool)
-          → fed ds (held (cond i (cond l (numberAt a b c (0 * 10 + (d - 0x30)) k u kind left) (waiting k left DECIMAL)) (waiting k left DECIMAL)) run places)
+          → fed ds (held (grown (cond (i && l) (some (0 * 10 + (d - 0x30))) none) (firstAt a b c k u kind left)) run places)
           ≡ held (cond (i && (l && goesOn (highestAt kind left) (0 * 10 + (d - 0x30)) ds)) (numberAt a b c (numberFrom (0 * 10 + (d - 0x30)) ds) k u kind left) (waiting k left DECIMAL)) run places
       go false l = waits p k left DECIMAL run places
       go true false = waits p k left DECIMAL run places
@@ -179,7 +178,7 @@ module _ (a b c k start kind room : ℕ) (places : List ℕ) where
   BlobLeft u run none h = stateIn (stepped LF h) ≡ stopped k BLOB
   BlobLeft u run (some bs) h = h ≡ held (blobAt a b c k start (usedAll room u bs) kind) (runAll room u bs run) places
 
-  one-more : (u v : ℕ) (run : List ℕ) (o : Option (List ℕ)) (h : Held) → BlobLeft (usedOne room u) (storedOne room u v run) o h → BlobLeft u run (before v o) h
+  one-more : (u v : ℕ) (run : List ℕ) (o : Option (List ℕ)) (h : Held) → BlobLeft (usedOne room u) (storedOne room u v run) o h → BlobLeft u run (withByte v o) h
   unfolding usedAll runAll
   one-more u v run none h p = p
   one-more u v run (some bs) h p = p
@@ -205,7 +204,7 @@ module _ (a b c k start kind room : ℕ) (places : List ℕ) where
           (fed ds (held (blobAt a b c k start (usedOne room u) kind) (storedOne room u (hexValue d * 16 + hexValue x) run) places))
 
       later : (j : Bool) → isHex d ≡ true → Later →
-          BlobLeft u run (cond j (before (hexValue d * 16 + hexValue x) (blobOf ds)) none)
+          BlobLeft u run (cond j (withByte (hexValue d * 16 + hexValue x) (blobOf ds)) none)
           (fed ds (held (cond j (blobAt a b c k start (usedOne room u) kind) (waiting k 0 BLOB)) (cond j (storedOne room u (hexValue d % 16 * 16 + hexValue x) run) run) places))
       later true h ih =
           let s : hexValue d % 16 ≡ hexValue d = omega (arith, hex-small d h) in
@@ -213,7 +212,7 @@ module _ (a b c k start kind room : ℕ) (places : List ℕ) where
       later false h ih = wait-ends p run
 
       go : (i : Bool) → isHex d ≡ i → Later →
-          BlobLeft u run (cond (i && isHex x) (before (hexValue d * 16 + hexValue x) (blobOf ds)) none)
+          BlobLeft u run (cond (i && isHex x) (withByte (hexValue d * 16 + hexValue x) (blobOf ds)) none)
           (fed (x ∷ ds) (held (cond i (state a b c 0 k start u kind 0 (hexValue d) 0 LOW) (waiting k 0 BLOB)) run places))
       go true h ih = rw (lf2, comma2, e) (later (isHex x) h ih)
       go false h ih = wait-ends (plain-cons {b = x} {bs = ds} lf2 comma2 p) run

@@ -15,14 +15,15 @@ use Rattle.layout.specs.RowLaws.{Bytes}
 use Rattle.numbers.specs.Decimal.{LF, COMMA, numberFrom}
 use Rattle.store.specs.declared.Entry.{Entry}
 use Rattle.store.specs.Kinds.{DEVICE, CONTACT, QUEUED, COURIER}
-use Rattle.sheet.specs.Decimal as decimals
-use Rattle.sheet.specs.Decimal.{isDecimal, decimalIn}
-use Rattle.sheet.specs.Blob as blobs
-use Rattle.sheet.specs.Blob.{isHex, hexValue, before, blobOf}
+use Rattle.ascii.specs.Decimal as decimals
+use Rattle.ascii.specs.Decimal.{U32, U64, isDecimal, decimalIn}
+use Rattle.ascii.specs.Hex as blobs
+use Rattle.ascii.specs.Hex.{isHex, hexValue, withByte, blobOf}
+use Rattle.ascii.specs.Words.{parted}
 use Rattle.sheet.specs.Sheet as sheet
-use Rattle.sheet.specs.Sheet.{parted, U32, U64, Shape, shapeOf, LineSays, said, refusedBy, andOthers, numbersOf, ask43, ask42, ask41, ofFields, lineOf, Room, SheetSays, read, refused, entryOf, blobIn, onto, ask44, saidFrom}
+use Rattle.sheet.specs.Sheet.{Shape, shapeOf, LineSays, said, refusedBy, andOthers, numbersOf, ask43, ask42, ask41, ofFields, lineOf, Room, SheetSays, read, refused, entryOf, blobIn, onto, ask44, saidFrom}
 use Rattle.sheet.specs.Proved.{EntryFits, AllFit, Fits}
-use Rattle.sheet.proofs.Hex.{hex-small}
+use Rattle.ascii.proofs.Blobs.{hex-small}
 use Rattle.sheet.proofs.Letters.{of-letter}
 
 abbrev Nothing : Type 0
@@ -52,7 +53,7 @@ blob-fits [] = tt
 blob-fits (d ∷ []) = tt
 blob-fits (d ∷ e ∷ ds) = go (isHex d) (isHex e) refl refl (blobOf ds) (blob-fits ds)
   where
-    go : (i j : Bool) → isHex d ≡ i → isHex e ≡ j → (o : Option (List ℕ)) → BlobFits o → BlobFits (cond (i && j) (before (hexValue d * 16 + hexValue e) o) none)
+    go : (i j : Bool) → isHex d ≡ i → isHex e ≡ j → (o : Option (List ℕ)) → BlobFits o → BlobFits (cond (i && j) (withByte (hexValue d * 16 + hexValue e) o) none)
     go false j p q o f = tt
     go true false p q o f = tt
     go true true p q none f = tt

@@ -14,7 +14,7 @@ use Rattle.put.specs.Put as storing
 use Rattle.put.specs.Put.{put}
 use Rattle.put.proofs.Put.{length-put}
 use Rattle.sheet.specs.declared.State.{State}
-use Rattle.sheet.specs.Blob.{isHex, hexValue}
+use Rattle.ascii.specs.Hex.{isHex, hexValue}
 use Rattle.sheet.specs.Sheet.{«BLOB_BYTES», LINES}
 use Rattle.sheet.specs.Machine as machine
 use Rattle.sheet.specs.Machine.{HIGH, LOW, REFUSED, roomFor, bytesIn, linesIn, lowRun, lowStep, six, closedPlaces, endPlaces, endStep, commaStep, highStep, otherStep, Held, held, stepped, fed}

@@ -11,10 +11,12 @@ use lib.Dec.{leb, ltb, eqb}
 use Rattle.layout.specs.Questions.{«SHEET_SIZE»}
 use Rattle.numbers.specs.Decimal.{LF}
 use Rattle.store.specs.declared.Entry.{Entry}
+use Rattle.ascii.specs.Words as words
+use Rattle.ascii.specs.Words.{inFront, parted}
 use Rattle.sheet.specs.Sheet as sheet
-use Rattle.sheet.specs.Sheet.{inFront, parted, LineSays, said, refusedBy, lineOf, Room, SheetSays, read, refused, entryOf, blobIn, onto, ask44, saidFrom, sheetIn}
+use Rattle.sheet.specs.Sheet.{LineSays, said, refusedBy, lineOf, Room, SheetSays, read, refused, entryOf, blobIn, onto, ask44, saidFrom, sheetIn}
 use Rattle.sheet.specs.Proved.{ontoAll}
-use Rattle.sheet.proofs.Parts.{Some, some-part, some-parts}
+use Rattle.ascii.proofs.Parts.{Some, some-part, some-parts}
 
 -- ---- parts of bytes and of others behind them: the last of the first and the first of the others are one
 unfoldable glued : List (List ℕ) → List (List ℕ) → List (List ℕ)
@@ -43,7 +45,7 @@ unfolding glued
 glued-none (q ∷ qs) some-part = refl
 
 parted-append : (m : ℕ) (a b : List ℕ) → parted m (a ++ b) ≡ glued (parted m a) (parted m b)
-unfolding sheet.parted
+unfolding words.parted
 parted-append m [] b = rw (glued-none (parted m b) (some-parts m b))
 parted-append m (x ∷ a) b = go (eqb x m) (parted-append m a b)
   where

@@ -1,7 +1,5 @@
-mod Hex
 mod Letters
-mod Parts
-pub mod Decimal
+mod Plain
 mod Fields
 mod Lines
 mod Within

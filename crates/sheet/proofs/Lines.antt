@@ -15,16 +15,18 @@ use Rattle.numbers.specs.Decimal.{LF, COMMA}
 use Rattle.put.specs.Put.{put}
 use Rattle.store.specs.Kinds.{DEVICE, CONTACT, QUEUED, COURIER}
 use Rattle.sheet.specs.declared.State.{State}
-use Rattle.sheet.specs.Decimal.{decimalIn}
-use Rattle.sheet.specs.Blob.{blobOf}
+use Rattle.ascii.specs.Decimal.{decimalIn}
+use Rattle.ascii.specs.Hex.{blobOf}
+use Rattle.ascii.specs.Words.{parted}
 use Rattle.sheet.specs.Sheet as sheet
-use Rattle.sheet.specs.Sheet.{parted, Shape, shapeOf, LineSays, said, refusedBy, andOthers, numbersOf, ask43, ask42, ask41, ofFields, lineOf, entryOf, sixOf}
+use Rattle.sheet.specs.Sheet.{Shape, shapeOf, LineSays, said, refusedBy, andOthers, numbersOf, ask43, ask42, ask41, ofFields, lineOf, entryOf, sixOf}
 use Rattle.sheet.specs.Machine as machine
 use Rattle.sheet.specs.Machine.{state, atLine, waiting, stopped, highestAt, bytesIn, linesIn, begunAs, six, Held, held, stateIn, stepped, fed}
-use Rattle.sheet.proofs.Hex.{none-some}
+use Rattle.ascii.proofs.Never.{none-some}
 use Rattle.sheet.proofs.Letters.{of-letter}
-use Rattle.sheet.proofs.Parts as parts
-use Rattle.sheet.proofs.Parts.{joined, joined-parts, Some, some-part, some-parts, Free, Plain, plain-cons, AllPlain, plains-cons, plain-fields}
+use Rattle.ascii.proofs.Parts as parts
+use Rattle.ascii.proofs.Parts.{joined, joined-parts, Some, some-part, some-parts, Free}
+use Rattle.sheet.proofs.Plain.{Plain, plain-cons, AllPlain, plains-cons, plain-fields}
 use Rattle.sheet.proofs.Fields.{fed-append, stays, stays-one, waits, firstAt, tookNumber, field-comma, field-end, blobAt, usedAll, runAll, run-long, fits-used, fits-run, over-used, BlobLeft, blob, blob-comma}
 
 -- ---- a field, the comma behind it, and the fields to come

@@ -17,13 +17,14 @@ use Rattle.put.specs.Put.{put}
 use Rattle.put.proofs.Put.{length-put, put-append}
 use Rattle.store.specs.declared.Entry.{Entry}
 use Rattle.sheet.specs.declared.Answer.the-variants.{Refused}
+use Rattle.ascii.specs.Words.{parted}
 use Rattle.sheet.specs.Sheet as sheet
-use Rattle.sheet.specs.Sheet.{parted, LineSays, said, refusedBy, lineOf, Room, SheetSays, read, refused, entryOf, blobIn, onto, ask44, saidFrom, LINES, sixOf, sixes}
+use Rattle.sheet.specs.Sheet.{LineSays, said, refusedBy, lineOf, Room, SheetSays, read, refused, entryOf, blobIn, onto, ask44, saidFrom, LINES, sixOf, sixes}
 use Rattle.sheet.specs.Machine as machine
 use Rattle.sheet.specs.Machine.{atLine, stopped, bytesIn, linesIn, Held, held, stateIn, stepped, fed, answerOf}
-use Rattle.sheet.proofs.Hex.{no-way}
-use Rattle.sheet.proofs.Parts as parts
-use Rattle.sheet.proofs.Parts.{joined, joined-parts, AllFree, frees-cons, free-parts}
+use Rattle.ascii.proofs.Never.{no-way}
+use Rattle.ascii.proofs.Parts as parts
+use Rattle.ascii.proofs.Parts.{joined, joined-parts, AllFree, frees-cons, free-parts}
 use Rattle.sheet.proofs.Fields.{fed-append, stays}
 use Rattle.sheet.proofs.Lines.{Closed, LineLeft, line}
 use Rattle.sheet.proofs.Within.{stopped-answer, unended}

@@ -1,22 +1,23 @@
 -- In a line whose LF is still to come the machine has refused nothing, or has refused the line by 41; so a sheet that ends there is refused by 41.
 -- Assumes nothing.
-use Prim.Native.Nat.{ℕ, suc, _+_, _-_, _*_, _≤_, min}
+use Prim.Native.Nat.{ℕ, suc, _+_, _-_, _≤_, min}
 use mathlib.Core.List.{List, [], _∷_}
 use mathlib.Core.Bool.{Bool, true, false, cond}
 use mathlib.Core.Option.{Option, none, some}
 use mathlib.Core.Path.{_≡_, refl}
 use native.Mathlib.Omega.{arith}
-use lib.Dec.{leb, eqb}
+use lib.Dec.{eqb}
 use borrow.Author.Tests.{eqb-true}
 use Rattle.layout.specs.Questions.{LINE, DECIMAL}
-use Rattle.numbers.specs.Decimal.{LF, COMMA, isDigit}
+use Rattle.numbers.specs.Decimal.{LF, COMMA}
 use Rattle.sheet.specs.declared.State.{State}
 use Rattle.sheet.specs.declared.Answer.the-variants.{Refused}
-use Rattle.sheet.specs.Blob.{isHex, hexValue}
+use Rattle.ascii.specs.Decimal.{withDigit}
+use Rattle.ascii.specs.Hex.{isHex, hexValue}
 use Rattle.sheet.specs.Sheet.{Shape, shapeOf, LINES}
 use Rattle.sheet.specs.Machine as machine
-use Rattle.sheet.specs.Machine.{START, LETTER, FIRST, NUMBER, HIGH, LOW, WAIT, REFUSED, atLine, waiting, stopped, begunAs, highestAt, numbered, taken, lettered, paired, bytesIn, usedOne, storedTo, digitStep, numberStep, commaStep, highStep, lowStep, lowRun, otherStep, Held, held, stateIn, stepped, fed, answerOf}
-use Rattle.sheet.proofs.Parts.{Free, free-nil, free-cons}
+use Rattle.sheet.specs.Machine.{START, LETTER, FIRST, NUMBER, HIGH, LOW, WAIT, REFUSED, atLine, waiting, stopped, begunAs, highestAt, grown, taken, lettered, paired, bytesIn, usedOne, storedTo, digitStep, numberStep, commaStep, highStep, lowStep, lowRun, otherStep, Held, held, stateIn, stepped, fed, answerOf}
+use Rattle.ascii.proofs.Parts.{Free, free-nil, free-cons}
 
 data Within (k : ℕ) : State → Type 0 where
   no-line : Within k (stopped k LINE)
@@ -60,12 +61,11 @@ module _ (k : ℕ) (s : State) (e : s .lines ≡ k) where
 
     by-digit : Within k (digitStep b s)
     unfolding machine.digitStep
-    by-digit = go (isDigit b) (leb (s .number * 10 + (b - 0x30)) (highestAt (s .kind) (s .left)))
+    by-digit = go (withDigit (highestAt (s .kind) (s .left)) (s .number) b)
       where
-        go : (i l : Bool) → Within k (cond i (cond l (numbered (s .number * 10 + (b - 0x30)) s) (waiting (s .lines) (s .left) DECIMAL)) (waiting (s .lines) (s .left) DECIMAL))
-        go true true = going refl refl e
-        go true false = going refl refl e
-        go false l = going refl refl e
+        go : (o : Option ℕ) → Within k (grown o s)
+        go none = going refl refl e
+        go (some n) = going refl refl e
 
     by-number : Within k (numberStep b s)
     unfolding machine.numberStep

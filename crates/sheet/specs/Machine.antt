@@ -8,14 +8,15 @@ use mathlib.Core.Option.{Option, none, some}
 use lib.ListN.{length, set}
 use lib.Dec.{leb, ltb, eqb}
 use Rattle.layout.specs.Questions.{LINE, DECIMAL, BLOB, «SHEET_SIZE»}
-use Rattle.numbers.specs.Decimal.{LF, COMMA, isDigit}
+use Rattle.numbers.specs.Decimal.{LF, COMMA}
 use Rattle.put.specs.Put.{put}
+use Rattle.ascii.specs.Decimal.{U32, U64, withDigit}
+use Rattle.ascii.specs.Hex.{isHex, hexValue}
 use Rattle.store.specs.Kinds.{QUEUED}
 use Rattle.sheet.specs.declared.State.{State}
 use Rattle.sheet.specs.declared.Answer.{Answer}
 use Rattle.sheet.specs.declared.Answer.the-variants.{Read, Refused}
-use Rattle.sheet.specs.Blob.{isHex, hexValue}
-use Rattle.sheet.specs.Sheet.{U32, U64, Shape, shapeOf, Room, «BLOB_BYTES», LINES}
+use Rattle.sheet.specs.Sheet.{Shape, shapeOf, Room, «BLOB_BYTES», LINES}
 
 -- ---- where in a line the reader stands
 -- before its letter
@@ -99,11 +100,12 @@ highestAt kind left = cond (eqb left 1) U32 (cond (eqb left 2 && eqb kind QUEUED
 abbrev pub numbered : (number : ℕ) → State → State
 numbered n s = state (s .oldest) (s .older) (s .newest) n (s .lines) (s .start) (s .used) (s .kind) (s .left) (s .digit) (s .refusal) NUMBER
 
-abbrev pub grown : (number : ℕ) → State → State
-grown n s = cond (leb n (highestAt (s .kind) (s .left))) (numbered n s) (waitsFor DECIMAL s)
+abbrev pub grown : Option ℕ → State → State
+grown none s = waitsFor DECIMAL s
+grown (some n) s = numbered n s
 
 unfoldable pub digitStep : ℕ → State → State
-digitStep b s = cond (isDigit b) (grown (s .number * 10 + (b - 0x30)) s) (waitsFor DECIMAL s)
+digitStep b s = grown (withDigit (highestAt (s .kind) (s .left)) (s .number) b) s
 
 -- no digit stands behind a first 0
 unfoldable pub numberStep : ℕ → State → State

@@ -1,25 +1,18 @@
--- What is proved of sheets, of decimals, and of the machine that reads a sheet byte by byte (proofs/Proved.antt).
+-- What is proved of sheets, and of the machine that reads a sheet byte by byte (proofs/Proved.antt).
 -- Assumes nothing.
 use Prim.Native.Nat.{ℕ, _+_, _*_, _≤_}
 use mathlib.Core.List.{List, [], _∷_, _++_}
-use mathlib.Core.Option.{some}
 use mathlib.Core.Path.{_≡_}
 use lib.ListN.{length, drop}
 use Rattle.layout.specs.RowLaws.{Bytes}
-use Rattle.numbers.specs.Decimal.{LF, decimal}
+use Rattle.numbers.specs.Decimal.{LF}
+use Rattle.ascii.specs.Decimal.{U32, U64}
+use Rattle.ascii.specs.Words.{parted}
 use Rattle.store.specs.declared.Entry.{Entry}
 use Rattle.store.specs.Kinds.{COURIER}
 use Rattle.sheet.specs.declared.Answer.the-variants.{Read, Refused}
-use Rattle.sheet.specs.Decimal.{decimalIn}
-use Rattle.sheet.specs.Sheet.{parted, U32, U64, Room, SheetSays, read, refused, saidFrom, sheetIn, sheetOf, «BLOB_BYTES», LINES, sixes, entriesIn}
+use Rattle.sheet.specs.Sheet.{Room, SheetSays, read, refused, saidFrom, sheetIn, sheetOf, «BLOB_BYTES», LINES, sixes, entriesIn}
 use Rattle.sheet.specs.Machine.{atLine, roomOf, Held, held, stateIn, runIn, placesIn, fed, answerOf}
-
--- ---- decimals
-pub record DecimalsRead : Type 0 where
-  -- a number's text is read as the number, up to the highest
-  pub text-reads : (highest n : ℕ) → n ≤ highest → decimalIn highest (decimal n) ≡ some n
-  -- and no other text is
-  pub reads-text : (highest n : ℕ) (text : List ℕ) → decimalIn highest text ≡ some n → (text ≡ decimal n) × (n ≤ highest)
 
 -- ---- what a sheet says
 -- no number is wider than its field, and the row stands within the run

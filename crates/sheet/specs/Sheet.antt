@@ -9,21 +9,11 @@ use lib.ListN.{length, getD, drop}
 use lib.Dec.{leb, ltb, eqb}
 use Rattle.layout.specs.Questions.{LINE, DECIMAL, BLOB, «SHEET_SIZE»}
 use Rattle.numbers.specs.Decimal.{LF, COMMA}
+use Rattle.ascii.specs.Decimal.{U32, U64, decimalIn}
+use Rattle.ascii.specs.Hex.{blobOf}
+use Rattle.ascii.specs.Words.{parted}
 use Rattle.store.specs.declared.Entry.{Entry}
 use Rattle.store.specs.Kinds.{DEVICE, CONTACT, QUEUED, COURIER}
-use Rattle.sheet.specs.Decimal.{decimalIn}
-use Rattle.sheet.specs.Blob.{blobOf}
-
--- ---- parts
--- b before the first part
-abbrev pub inFront : ℕ → List (List ℕ) → List (List ℕ)
-inFront b [] = []
-inFront b (p ∷ ps) = (b ∷ p) ∷ ps
-
--- what stands before, between and behind the marks: one part more than there are marks
-unfoldable pub parted : (mark : ℕ) → List ℕ → List (List ℕ)
-parted mark [] = [] ∷ []
-parted mark (b ∷ bs) = cond (eqb b mark) ([] ∷ parted mark bs) (inFront b (parted mark bs))
 
 -- ---- the letter
 abbrev pub «LETTER_D» : ℕ
@@ -37,13 +27,6 @@ abbrev pub «LETTER_Q» : ℕ
 
 abbrev pub «LETTER_K» : ℕ
 «LETTER_K» = 0x4B
-
--- the highest numbers of 32 and of 64 bits
-abbrev pub U32 : ℕ
-U32 = 0xFFFFFFFF
-
-abbrev pub U64 : ℕ
-U64 = 0xFFFFFFFFFFFFFFFF
 
 -- what a line with some letter holds: an entry of this kind, and decimals up to these numbers before the blob
 pub record Shape : Type 0 where

@@ -3,16 +3,14 @@
 // Blob bytes go to a lent run, and of each line six numbers go to lent places: kind, id, start, length, msgno, version. A run shorter than
 // 61,440 bytes, or places for fewer than 512 lines, lower the limits of 44; no place and no byte past them is touched.
 // 41 is answered as soon as it is sure. 42 and 43 wait for the line's end, since its later bytes can still make it 41.
+use ascii::Said;
 use layout::question;
 ghost use mathlib.Core.Path.{_≡_};
-ghost use mathlib.Core.Bool.{true};
 ghost use mathlib.Core.List.{[], _∷_};
 ghost use Prim.Native.Nat.{_+_, _-_, _<_, _≤_};
 ghost use lib.ListN.{length};
-ghost use Rattle.numbers.specs.Decimal.{isDigit};
 ghost use Rattle.put.specs.Put.{put};
-ghost use Rattle.sheet.specs.Blob.{isHex, hexValue};
-ghost use Rattle.sheet.specs.Sheet.{U32, shapeOf, «BLOB_BYTES»};
+ghost use Rattle.sheet.specs.Sheet.{shapeOf, «BLOB_BYTES»};
 ghost use Rattle.sheet.specs.Machine.{atLine, waiting, stopped, begun, begunAs, highestAt, digitStep, numberStep, taken, commaStep, highStep, roomFor};
 ghost use Rattle.sheet.specs.Machine.{bytesIn, linesIn, lowStep, lowRun, idIn, msgnoIn, six, closed, closedPlaces, endStep, endPlaces, otherStep, held, stepped, fed, answerOf};
 
@@ -163,7 +161,7 @@ fn take_letter(s: State, b: u8) -> State
 }
 
 fn highest(kind: u32, left: u8) -> u64
-    ensures { λ r. ⌜ (r ≡ highestAt kind left) × (U32 ≤ r) ⌝ }
+    ensures { λ r. ⌜ r ≡ highestAt kind left ⌝ }
 {
     if left == 1 {
         return HIGHEST_32;
@@ -177,31 +175,16 @@ fn highest(kind: u32, left: u8) -> u64
     u64::MAX
 }
 
-fn is_digit(b: u8) -> bool
-    ensures { λ r. ⌜ r ≡ isDigit b ⌝ }
-{
-    if b < b'0' {
-        return false;
-    }
-    b <= b'9'
-}
-
 fn take_digit(s: State, b: u8) -> State
     ensures { λ r. ⌜ r ≡ digitStep b s ⌝ }
 {
-    if is_digit(b) {
-        let d = width::wide_byte(b - b'0');
-        let most = highest(s.kind, s.left);
-        let n = s.number;
-        if (most - d) / 10 < n {
-            return waiting(s.lines, s.left, question::DECIMAL);
-        }
-        let mut next = s;
-        next.number = n * 10 + d;
-        next.phase = NUMBER;
-        return next;
-    }
-    waiting(s.lines, s.left, question::DECIMAL)
+    let Said::Number(n) = ascii::with_digit(s.number, b, highest(s.kind, s.left)) else {
+        return waiting(s.lines, s.left, question::DECIMAL);
+    };
+    let mut next = s;
+    next.number = n;
+    next.phase = NUMBER;
+    next
 }
 
 // No digit stands behind a first 0.
@@ -254,32 +237,12 @@ fn take_comma(s: State) -> State
 
 // ---- blob
 
-fn is_hex(b: u8) -> bool
-    ensures { λ r. ⌜ r ≡ isHex b ⌝ }
-{
-    if is_digit(b) {
-        return true;
-    }
-    if b < b'a' {
-        return false;
-    }
-    b <= b'f'
-}
-
-// Without a branch, which random digits would mislead: the letters' last four bits are 1 to 6, and a letter has the bit of 64.
-fn hex_value(b: u8) -> u8
-    requires { ⌜ isHex b ≡ true ⌝ }
-    ensures { λ r. ⌜ (r ≡ hexValue b) × (r < 16) ⌝ }
-{
-    b % 16 + b / 64 * 9
-}
-
 fn take_high(s: State, b: u8) -> State
     ensures { λ r. ⌜ r ≡ highStep b s ⌝ }
 {
-    if is_hex(b) {
+    if ascii::is_hex(b) {
         let mut next = s;
-        next.digit = hex_value(b);
+        next.digit = ascii::hex_value(b);
         next.phase = LOW;
         return next;
     }
@@ -299,8 +262,8 @@ pub fn room_for(most: usize, lent: usize) -> usize
 fn take_low(s: State, b: u8, run: &mut [u8]) -> State
     ensures { λ r. ⌜ (r ≡ lowStep (bytesIn (now (run .entry))) b s) × (now (run .exit) ≡ lowRun (bytesIn (now (run .entry))) b s (now (run .entry))) ⌝ }
 {
-    if is_hex(b) {
-        let d = hex_value(b);
+    if ascii::is_hex(b) {
+        let d = ascii::hex_value(b);
         let room = room_for(BLOB_BYTES, run.len());
         let used = s.used;
         let mut next = s;

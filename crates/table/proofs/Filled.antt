@@ -9,8 +9,9 @@ use lib.ListN.{length, getD, take, drop, set, replicate, length-replicate}
 use lib.Seq.{drop-drop, getD-drop}
 use Rattle.store.specs.declared.Entry.{Entry}
 use Rattle.store.specs.Store.{noEntry}
+use Rattle.ascii.specs.Decimal.{U32}
 use Rattle.sheet.specs.Sheet as sheet
-use Rattle.sheet.specs.Sheet.{U32, entryIn, entriesIn}
+use Rattle.sheet.specs.Sheet.{entryIn, entriesIn}
 use Rattle.sheet.specs.Proved.{EntryFits}
 use Rattle.table.specs.Table as table
 use Rattle.table.specs.Table.{ENTRIES, inField, entryFrom, entriesFrom, overlaid, AsRead}

@@ -5,7 +5,8 @@ use mathlib.Core.Path.{_≡_}
 use mathlib.Core.List.{List, [], _∷_}
 use lib.ListN.{getD, drop}
 use Rattle.store.specs.declared.Entry.{Entry}
-use Rattle.sheet.specs.Sheet.{U32, entriesIn}
+use Rattle.ascii.specs.Decimal.{U32}
+use Rattle.sheet.specs.Sheet.{entriesIn}
 use Rattle.sheet.specs.Proved.{AllFit}
 
 -- how many entries a table has

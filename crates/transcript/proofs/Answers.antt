@@ -5,7 +5,7 @@ use mathlib.Core.List.{List}
 use mathlib.Core.Path.{_≡_, sym, ap, _∙_}
 use lib.ListN.{take}
 use borrow.Author.Tests.{eq-eqb, ne-eqb}
-use Rattle.script.specs.Hex.{hexOf}
+use Rattle.ascii.specs.Hex.{hexOf}
 use Rattle.call_code.specs.Encoding.{YES, ADVANCED, TRUTH, NUMBER, WROTE, SAID, NO}
 use Rattle.transcript.specs.Transcript.{falseText, trueText, truthText, placeText, answerText}
 

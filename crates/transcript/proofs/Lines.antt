@@ -12,8 +12,8 @@ use Rattle.layout.proofs.Write.{stored-short, stored-row}
 use Rattle.put.specs.Put.{Wrote}
 use Rattle.put.proofs.Put.{put-front, _then_}
 use Rattle.numbers.specs.Decimal.{LF, decimal}
-use Rattle.cases.specs.Text.{SPACE}
-use Rattle.script.specs.Hex.{DASH, pairsOf, hexOf}
+use Rattle.ascii.specs.Words.{SPACE}
+use Rattle.ascii.specs.Hex.{DASH, pairsOf, hexOf}
 use Rattle.transcript.specs.Transcript.{EQUALS, lineOf, placeText}
 
 module _ (out text : List ℕ) where

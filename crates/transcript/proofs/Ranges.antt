@@ -15,9 +15,9 @@ use Rattle.received.proofs.Pairs.{length-pairs, drop-pairs, drop-pairs-all}
 use Rattle.put.specs.Put.{Wrote}
 use Rattle.put.proofs.Put.{Writing, writing-step, writing-done}
 use Rattle.numbers.specs.Decimal.{decimal}
-use Rattle.cases.specs.Text.{SPACE}
-use Rattle.script.specs.Hex.{DASH, pairsOf}
-use Rattle.script.proofs.Pairs as hex
+use Rattle.ascii.specs.Words.{SPACE}
+use Rattle.ascii.specs.Hex.{DASH, pairsOf}
+use Rattle.ascii.proofs.Pairs as hex
 use Rattle.transcript.specs.Transcript as transcript
 use Rattle.transcript.specs.Transcript.{SEMICOLON, rangeText, listed, rangesText, stateText}
 

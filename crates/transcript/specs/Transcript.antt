@@ -8,8 +8,8 @@ use lib.ListN.{length, take}
 use lib.Dec.{eqb}
 use Rattle.rows.specs.Values.{Range}
 use Rattle.numbers.specs.Decimal.{LF, decimal}
-use Rattle.cases.specs.Text.{SPACE}
-use Rattle.script.specs.Hex.{DASH, pairsOf, hexOf}
+use Rattle.ascii.specs.Words.{SPACE}
+use Rattle.ascii.specs.Hex.{DASH, pairsOf, hexOf}
 use Rattle.call_code.specs.Encoding.{YES, ADVANCED, TRUTH, NUMBER, WROTE, SAID, NO}
 
 -- `=`

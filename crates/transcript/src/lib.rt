@@ -20,8 +20,8 @@ ghost use Rattle.put.specs.Put.{Wrote};
 ghost use Rattle.numbers.specs.Ranges.{range};
 ghost use Rattle.received.specs.Lent.{pairs};
 ghost use Rattle.numbers.specs.Decimal.{decimal};
-ghost use Rattle.cases.specs.Text.{SPACE};
-ghost use Rattle.script.specs.Hex.{hexOf};
+ghost use Rattle.ascii.specs.Words.{SPACE};
+ghost use Rattle.ascii.specs.Hex.{hexOf};
 ghost use Rattle.transcript.specs.Transcript.{EQUALS, lineOf, truthText, placeText, answerText, rangeText, listed, rangesText, stateText};
 
 const EQUALS: u8 = b'=';
@@ -106,7 +106,7 @@ pub fn hex_line(bytes: &[u8], out: &mut [u8]) -> Written
         return Written::Refused(question::OUTPUT);
     }
     let at = begin(out);
-    let end = script::put_pairs(out, at, bytes);
+    let end = ascii::put_pairs(out, at, bytes);
     Written::Length(put::put_byte(out, end, LF))
 }
 
@@ -147,10 +147,10 @@ pub fn answer_line(tag: u64, a: u64, b: u64, bytes: &[u8], out: &mut [u8]) -> Wr
         return number_line(b"", a, out);
     }
     if tag == WROTE {
-        return hex_line(cases::first(bytes, n), out);
+        return hex_line(ascii::first(bytes, n), out);
     }
     if tag == SAID {
-        return text_line(cases::first(bytes, less_one(n)), out);
+        return text_line(ascii::first(bytes, less_one(n)), out);
     }
     if tag == NO {
         return number_line(b"no ", a, out);
@@ -242,7 +242,7 @@ fn write_state(id: ContactId, row: &[u8], above: &[u32], count: usize, out: &mut
     let at = begin(out);
     let space_at = line::put_decimal(out, at, id.0);
     let row_at = put::put_byte(out, space_at, SPACE);
-    let ranges_at = script::put_pairs(out, row_at, row);
+    let ranges_at = ascii::put_pairs(out, row_at, row);
     let end = put_ranges(out, ranges_at, above, count);
     Written::Length(put::put_byte(out, end, LF))
 }

@@ -1,7 +1,7 @@
 // Replays stored cases without Rust: reads standard input, one case a line, computes our answer to each with the proved libraries, and compares it with the stored one.
 // Prints `different: LINE` for each case that comes out different or cannot be read, and at the end a line for each letter.
+use ascii::Said;
 use card::Card;
-use cases::Number;
 use data::Leb128Field;
 use fields::U32Field;
 use fields::U64Field;
@@ -16,6 +16,9 @@ ghost use mathlib.Core.Path.{_≡_};
 ghost use Prim.Native.Nat.{_+_, _*_, _≤_, _<_, min};
 ghost use lib.ListN.{length};
 ghost use Rattle.table.specs.Table.{ENTRIES};
+
+// The highest number of 32 bits.
+const HIGHEST_32: u64 = 0xffff_ffff;
 
 // How many cases of a letter there were, and how many of them came out different.
 struct Tally {
@@ -116,55 +119,59 @@ impl Tallies {
     }
 }
 
+fn narrow(n: u64) -> u32 {
+    (n % 4294967296) as u32
+}
+
 fn is_number(text: &[u8], n: u64) -> bool {
-    match cases::decimal(text) {
-        Number::Value(m) => m as u64 == n,
-        Number::None => false,
-    }
+    let Said::Number(m) = ascii::decimal(text, HIGHEST_32) else {
+        return false;
+    };
+    m == n
 }
 
 // `VALUE TAKEN`.
 fn is_value(text: &[u8], value: u32, taken: usize) -> bool {
-    is_number(cases::field(text), value as u64) && is_number(cases::rest(text), taken as u64)
+    is_number(ascii::field(text), value as u64) && is_number(ascii::rest(text), taken as u64)
 }
 
 // `- NUMBER`.
 fn is_refusal(text: &[u8], number: u8) -> bool {
-    cases::is_dash(cases::field(text)) && is_number(cases::rest(text), number as u64)
+    ascii::is_dash(ascii::field(text)) && is_number(ascii::rest(text), number as u64)
 }
 
 // `HEX VALUE TAKEN` or `HEX - NUMBER`: LEB128 at the front of the bytes.
 fn leb128_read(case: &[u8], bytes: &mut [u8]) -> bool {
-    let Written::Length(n) = cases::bytes(cases::field(case), bytes) else {
+    let Written::Length(n) = ascii::bytes(ascii::field(case), bytes) else {
         return false;
     };
-    match data::read_leb128(cases::first(bytes, n)) {
-        Leb128Field::Value(value, taken) => is_value(cases::rest(case), value, taken),
-        Leb128Field::Refused(number) => is_refusal(cases::rest(case), number),
+    match data::read_leb128(ascii::first(bytes, n)) {
+        Leb128Field::Value(value, taken) => is_value(ascii::rest(case), value, taken),
+        Leb128Field::Refused(number) => is_refusal(ascii::rest(case), number),
     }
 }
 
 // `VALUE HEX`: the value in LEB128.
 fn leb128_written(case: &[u8], bytes: &mut [u8], again: &mut [u8]) -> bool {
-    let Number::Value(value) = cases::decimal(cases::field(case)) else {
+    let Said::Number(value) = ascii::decimal(ascii::field(case), HIGHEST_32) else {
         return false;
     };
-    let Written::Length(n) = cases::bytes(cases::rest(case), bytes) else {
+    let Written::Length(n) = ascii::bytes(ascii::rest(case), bytes) else {
         return false;
     };
-    let Written::Length(size) = data::leb128(value, again) else {
+    let Written::Length(size) = data::leb128(narrow(value), again) else {
         return false;
     };
-    check::same(cases::first(bytes, n), cases::first(again, size))
+    check::same(ascii::first(bytes, n), ascii::first(again, size))
 }
 
 // `HEX 1` or `HEX 0`: whether the bytes are UTF-8.
 fn name(case: &[u8], bytes: &mut [u8]) -> bool {
-    let Written::Length(n) = cases::bytes(cases::field(case), bytes) else {
+    let Written::Length(n) = ascii::bytes(ascii::field(case), bytes) else {
         return false;
     };
-    let is = names::is_utf8(cases::first(bytes, n));
-    is_number(cases::rest(case), is as u64)
+    let is = names::is_utf8(ascii::first(bytes, n));
+    is_number(ascii::rest(case), is as u64)
 }
 
 // Whether the card is written as this row.
@@ -172,20 +179,20 @@ fn writes(card: Card, row: &[u8], again: &mut [u8]) -> bool {
     let Written::Length(n) = card.encode(again) else {
         return false;
     };
-    check::same(row, cases::first(again, n))
+    check::same(row, ascii::first(again, n))
 }
 
 // `HEX 0`: a card, written again as the same bytes; or `HEX NUMBER`.
 fn card(case: &[u8], bytes: &mut [u8], again: &mut [u8]) -> bool {
-    let Written::Length(n) = cases::bytes(cases::field(case), bytes) else {
+    let Written::Length(n) = ascii::bytes(ascii::field(case), bytes) else {
         return false;
     };
-    let row = cases::first(bytes, n);
+    let row = ascii::first(bytes, n);
     let decoded = Card::decode(row);
     let verdict = decoded.verdict;
     match verdict {
-        Verdict::Accepted => is_number(cases::rest(case), 0) && writes(decoded.card, row, again),
-        Verdict::Refused(number) => is_number(cases::rest(case), number as u64),
+        Verdict::Accepted => is_number(ascii::rest(case), 0) && writes(decoded.card, row, again),
+        Verdict::Refused(number) => is_number(ascii::rest(case), number as u64),
     }
 }
 
@@ -220,19 +227,19 @@ fn row_again(letter: u8, version: u32, row: &[u8], again: &mut [u8]) -> Written 
 
 // `VERSION HEX 0`: a row, written again as the same bytes; or `VERSION HEX NUMBER`.
 fn row(letter: u8, case: &[u8], bytes: &mut [u8], again: &mut [u8]) -> bool {
-    let Number::Value(version) = cases::decimal(cases::field(case)) else {
+    let Said::Number(version) = ascii::decimal(ascii::field(case), HIGHEST_32) else {
         return false;
     };
-    let blob = cases::rest(case);
-    let Written::Length(n) = cases::bytes(cases::field(blob), bytes) else {
+    let blob = ascii::rest(case);
+    let Written::Length(n) = ascii::bytes(ascii::field(blob), bytes) else {
         return false;
     };
-    let row = cases::first(bytes, n);
-    match row_again(letter, version, row, again) {
+    let row = ascii::first(bytes, n);
+    match row_again(letter, narrow(version), row, again) {
         Written::Length(size) => {
-            is_number(cases::rest(blob), 0) && check::same(row, cases::first(again, size))
+            is_number(ascii::rest(blob), 0) && check::same(row, ascii::first(again, size))
         }
-        Written::Refused(number) => is_number(cases::rest(blob), number as u64),
+        Written::Refused(number) => is_number(ascii::rest(blob), number as u64),
     }
 }
 
@@ -292,7 +299,7 @@ fn places_of(bytes: &[u8], count: usize) -> [u64; PLACES]
 // Whether the text is these two numbers, of eight bytes each.
 fn is_pair(text: &[u8], one: u64, other: u64) -> bool {
     let mut pair = [0u8; 16];
-    let Written::Length(n) = cases::bytes(text, &mut pair) else {
+    let Written::Length(n) = ascii::bytes(text, &mut pair) else {
         return false;
     };
     n == 16 && number_64(&pair, 0) == one && number_64(&pair, 8) == other
@@ -302,7 +309,7 @@ fn is_pair(text: &[u8], one: u64, other: u64) -> bool {
 fn is_restored(text: &[u8], answer: Restored) -> bool {
     match answer {
         Restored::Granted(contact, slot) => {
-            is_number(cases::field(text), 0) && is_pair(cases::rest(text), contact, slot)
+            is_number(ascii::field(text), 0) && is_pair(ascii::rest(text), contact, slot)
         }
         Restored::Refused(number, place) => is_value(text, number as u32, place),
     }
@@ -310,16 +317,16 @@ fn is_restored(text: &[u8], answer: Restored) -> bool {
 
 // `RUN ANSWER`: the run of a store with these entries, and what restore answers.
 fn restored(case: &[u8], places: &[u64], count: usize, bytes: &mut [u8]) -> bool {
-    let Written::Length(n) = cases::bytes(cases::field(case), bytes) else {
+    let Written::Length(n) = ascii::bytes(ascii::field(case), bytes) else {
         return false;
     };
-    let answer = table::restore(cases::first(bytes, n), places, count);
-    is_restored(cases::rest(case), answer)
+    let answer = table::restore(ascii::first(bytes, n), places, count);
+    is_restored(ascii::rest(case), answer)
 }
 
 // `ENTRIES RUN ANSWER`.
 fn store(case: &[u8], bytes: &mut [u8], again: &mut [u8]) -> bool {
-    let Written::Length(n) = cases::bytes(cases::field(case), bytes) else {
+    let Written::Length(n) = ascii::bytes(ascii::field(case), bytes) else {
         return false;
     };
     let count = n / ENTRY;
@@ -327,8 +334,8 @@ fn store(case: &[u8], bytes: &mut [u8], again: &mut [u8]) -> bool {
         return false;
     }
     if n % ENTRY == 0 {
-        let places = places_of(cases::first(bytes, n), count);
-        return restored(cases::rest(case), &places, count, again);
+        let places = places_of(ascii::first(bytes, n), count);
+        return restored(ascii::rest(case), &places, count, again);
     }
     false
 }
@@ -359,21 +366,21 @@ fn statement(sheet: &[u8], out: &mut [u8]) -> Written {
 
 // Whether the field is these bytes.
 fn is_bytes(text: &[u8], expected: &[u8], bytes: &mut [u8]) -> bool {
-    let Written::Length(n) = cases::bytes(text, bytes) else {
+    let Written::Length(n) = ascii::bytes(text, bytes) else {
         return false;
     };
-    check::same(expected, cases::first(bytes, n))
+    check::same(expected, ascii::first(bytes, n))
 }
 
 // `SHEET TEXT`: a sheet, and the text of its statement.
 fn sheet(case: &[u8], bytes: &mut [u8], again: &mut [u8]) -> bool {
-    let Written::Length(n) = cases::bytes(cases::field(case), bytes) else {
+    let Written::Length(n) = ascii::bytes(ascii::field(case), bytes) else {
         return false;
     };
-    let Written::Length(size) = statement(cases::first(bytes, n), again) else {
+    let Written::Length(size) = statement(ascii::first(bytes, n), again) else {
         return false;
     };
-    is_bytes(cases::rest(case), cases::first(again, size), bytes)
+    is_bytes(ascii::rest(case), ascii::first(again, size), bytes)
 }
 
 // Whether our answer to a case is the stored one.
@@ -392,7 +399,7 @@ fn same(letter: u8, case: &[u8], bytes: &mut [u8], again: &mut [u8]) -> bool {
 
 // A line's first field, where it is one byte.
 fn letter(line: &[u8]) -> u8 {
-    let field = cases::field(line);
+    let field = ascii::field(line);
     if field.len() == 1 { field[0] } else { 0 }
 }
 
@@ -411,7 +418,7 @@ fn count(
         return tallies;
     }
     let kind = letter(line);
-    if same(kind, cases::rest(line), bytes, again) {
+    if same(kind, ascii::rest(line), bytes, again) {
         return tallies.with(kind, true);
     }
     io::write_all(STDOUT_FILENO, b"different: ");
@@ -433,7 +440,7 @@ fn lines(text: &[u8], bytes: &mut [u8], again: &mut [u8]) -> Tallies {
     let mut at: usize = 0;
     while at < text.len() {
         let rest = &text[at..];
-        let n = cases::until(rest, b'\n');
+        let n = ascii::until(rest, b'\n');
         let next = past(at + n, text.len());
         number += 1;
         tallies = count(tallies, number, &rest[0..n], bytes, again);

@@ -4,8 +4,7 @@ use Prim.Native.Nat.{_+_}
 use mathlib.Core.Bool.{_&&_}
 use mathlib.Core.Path.{_≡_, refl, sym, _∙_}
 use native.Mathlib.Omega.{arith}
-use Rattle.cases.specs.Text.{SPACE}
-use Rattle.sheet.specs.Sheet.{parted}
+use Rattle.ascii.specs.Words.{SPACE, parted}
 use Rattle.script.specs.Script.{decimalsFrom}
 use Rattle.script.proofs.Numbers.{one-decimal, no-decimals}
 use borrow.Author.Needs.{needs}

@@ -4,7 +4,7 @@ use native.Mathlib.Omega.{arith}
 use lib.ListN.{length}
 use borrow.Author.Tests.{eq-eqb, ne-eqb}
 use Rattle.numbers.specs.Decimal.{COMMA}
-use Rattle.sheet.specs.Sheet.{parted}
+use Rattle.ascii.specs.Words.{parted}
 use Rattle.script.proofs.Numbers.{all-five}
 use borrow.Author.Needs.{needs}
 use Rattle.script.proofs.are_lengths.Statement.{statement}

@@ -6,7 +6,7 @@ use mathlib.Core.List.{List}
 use mathlib.Core.Path.{_≡_, refl, sym, ap, _∙_}
 use native.Mathlib.Omega.{arith}
 use lib.ListN.{length, take, drop}
-use Rattle.cases.specs.Text.{before}
+use Rattle.ascii.specs.Words.{before}
 use Rattle.script.specs.Script.{withUnknown, ofCode, same, codeFrom, codeOf}
 use Rattle.script.specs.Table.{DOT, ROW, NARROW, TABLE}
 use Rattle.script.proofs.Table.{row-in, name-of}

@@ -1,8 +1,7 @@
 -- `script::command` meets its contract: the words are counted, and then the decimals asked.
 -- Assumes nothing.
 use mathlib.Core.Path.{refl, sym, ap, _∙_}
-use Rattle.cases.specs.Text.{SPACE}
-use Rattle.sheet.specs.Sheet.{parted}
+use Rattle.ascii.specs.Words.{SPACE, parted}
 use Rattle.script.specs.Script.{codeOf}
 use Rattle.script.specs.Table as table
 use Rattle.script.proofs.Numbers.{counted, miscounted}

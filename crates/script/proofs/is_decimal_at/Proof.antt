@@ -2,8 +2,8 @@
 -- Assumes nothing.
 use mathlib.Core.Path.{sym, ap}
 use Rattle.script.specs.Script.{isSome}
-use Rattle.script.specs.Says.{decimalSays}
-use Rattle.script.proofs.Numbers.{said}
+use Rattle.ascii.specs.Says.{decimalSays}
+use Rattle.ascii.proofs.Decimals.{said}
 use borrow.Author.Needs.{needs}
 use Rattle.script.proofs.is_decimal_at.Statement.{statement}
 use Rattle.script.proofs.is_decimal_at.Tie as tie

@@ -3,8 +3,7 @@
 use native.Mathlib.Omega.{arith}
 use lib.ListN.{length}
 use borrow.Author.Tests.{eq-eqb, ne-eqb}
-use Rattle.cases.specs.Text.{SPACE}
-use Rattle.sheet.specs.Sheet.{parted}
+use Rattle.ascii.specs.Words.{SPACE, parted}
 use Rattle.script.proofs.Numbers.{all-six}
 use borrow.Author.Needs.{needs}
 use Rattle.script.proofs.is_entry.Statement.{statement}

@@ -10,11 +10,11 @@ is-hex-requires : tie.Need-is-hex-requires
 is-hex-requires c κs = search needs
 
 hex-value-requires : tie.Need-hex-value-requires
-hex-value-requires c κs = sym (c .before .is-hex .ensures) ∙ c .if1 .taken
+hex-value-requires c κs = search needs
 
 returns : tie.Need-returns
 unfolding machine.highStep
-returns c = let t = c .before in rw (c .hex-value .ensures .0, sym (t .before .is-hex .ensures) ∙ t .if1 .taken)
+returns c = let hex = sym (c .before .before .is-hex .ensures) ∙ c .before .if1 .taken in rw (c .hex-value .ensures hex .0, hex)
 
 waiting-requires : tie.Need-waiting-requires
 waiting-requires c κs = search needs

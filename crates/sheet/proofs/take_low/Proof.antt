@@ -1,6 +1,7 @@
 -- `sheet::take_low` meets its contract.
 -- Assumes nothing.
 use mathlib.Core.Path.{sym, _∙_}
+use native.Mathlib.Omega.{arith}
 use borrow.Author.Tests.{lt-ltb, le-ltb}
 use Rattle.sheet.specs.Machine as machine
 use borrow.Author.Needs.{needs}
@@ -11,7 +12,7 @@ is-hex-requires : tie.Need-is-hex-requires
 is-hex-requires c κs = search needs
 
 hex-value-requires : tie.Need-hex-value-requires
-hex-value-requires c κs = sym (c .before .is-hex .ensures) ∙ c .if1 .taken
+hex-value-requires c κs = search needs
 
 room-for-requires : tie.Need-room-for-requires
 room-for-requires c κs = search needs
@@ -20,7 +21,9 @@ mul-run : tie.Need-mul-run
 mul-run c = search needs
 
 add-run : tie.Need-add-run
-add-run c = search needs
+add-run c =
+    let v = c .before .before .before in
+    omega (arith, v .hex-value .ensures (sym (v .before .before .is-hex .ensures) ∙ v .before .if1 .taken) .1)
 
 slice-write-run : tie.Need-slice-write-run
 slice-write-run c = search needs
@@ -38,7 +41,7 @@ returns c =
     let v = r .before in
     let i = v .before in
     let hex = sym (i .before .is-hex .ensures) ∙ i .if1 .taken in
-    (rw (hex, ← r .room-for .ensures .0, lt-ltb _ _ (c .before .if2 .taken)), rw (hex, ← r .room-for .ensures .0, lt-ltb _ _ (c .before .if2 .taken), v .hex-value .ensures .0))
+    (rw (hex, ← r .room-for .ensures .0, lt-ltb _ _ (c .before .if2 .taken)), rw (hex, ← r .room-for .ensures .0, lt-ltb _ _ (c .before .if2 .taken), v .hex-value .ensures hex .0))
 
 add-next-2 : tie.Need-add-next-2
 add-next-2 c = search needs

@@ -2,8 +2,8 @@
 -- Assumes nothing.
 use mathlib.Core.Path.{sym}
 use native.Mathlib.Omega.{arith}
-use Rattle.script.specs.Hex.{pairsOf}
-use Rattle.script.proofs.Pairs.{length-pairs}
+use Rattle.ascii.specs.Hex.{pairsOf}
+use Rattle.ascii.proofs.Pairs.{length-pairs}
 use Rattle.transcript.proofs.Lines.{no-room, line-written, as-line, no-bytes, some-bytes}
 use borrow.Author.Needs.{needs}
 use Rattle.transcript.proofs.hex_line.Statement.{statement}

@@ -5,7 +5,7 @@ use mathlib.Core.Path.{_≡_}
 use native.Mathlib.Omega.{arith}
 use lib.ListN.{length, drop}
 use Rattle.received.specs.Lent.{pairs}
-use Rattle.cases.specs.Text.{SPACE}
+use Rattle.ascii.specs.Words.{SPACE}
 use Rattle.transcript.specs.Transcript.{listed}
 use Rattle.transcript.proofs.Ranges.{fit-turn, fit-less, fit-end}
 use borrow.Author.Needs.{needs}

@@ -5,7 +5,7 @@ use native.Mathlib.Omega.{arith}
 use lib.ListN.{drop}
 use Rattle.received.specs.Lent.{pairs}
 use Rattle.put.proofs.Put.{Writing, writing-start}
-use Rattle.cases.specs.Text.{SPACE}
+use Rattle.ascii.specs.Words.{SPACE}
 use Rattle.transcript.specs.Transcript.{listed}
 use Rattle.transcript.proofs.Ranges.{put-turn, put-room, put-end}
 use borrow.Author.Needs.{needs}

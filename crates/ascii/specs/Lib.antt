@@ -1,0 +1,4 @@
+pub mod Decimal
+pub mod Hex
+pub mod Words
+pub mod Says
