@@ -4,11 +4,11 @@ use Prim.Native.Nat.{ℕ, zero, suc, _+_, _-_, _*_, _/_, _%_, _≤_, _<_}
 use mathlib.Core.List.{List, [], _∷_}
 use mathlib.Core.Bool.{Bool, true, false, cond, _&&_, _||_}
 use mathlib.Core.Option.{Option, none, some}
-use mathlib.Core.Path.{_≡_, refl}
+use mathlib.Core.Path.{_≡_, refl, ap, _∙_}
 use native.Mathlib.Omega.{arith}
 use native.Mathlib.Numerals.{add-one}
-use lib.ListN.{length, getD, drop}
-use lib.Seq.{drop-cons}
+use lib.ListN.{length, getD, take, drop}
+use lib.Seq.{drop-cons, take-nil}
 use lib.Dec.{leb}
 use borrow.Author.Tests.{leb-true, leb-false, le-leb, lt-leb}
 use Rattle.layout.specs.Questions.{BLOB}
@@ -16,7 +16,7 @@ use Rattle.layout.specs.Layout.{accepted, refusedBy}
 use Rattle.rows.specs.Checks.{all}
 use Rattle.rows.proofs.Tests.{and-both}
 use Rattle.ascii.specs.Hex as hex
-use Rattle.ascii.specs.Hex.{isHex, hexValue, withByte, blobOf, unpaired, blobSays}
+use Rattle.ascii.specs.Hex.{isHex, hexValue, withByte, blobOf, unpaired, hexPairs, blobSays}
 use Rattle.ascii.proofs.Never.{no-way}
 
 -- ---- `0` to `9`, or `a` to `f`
@@ -42,6 +42,13 @@ letter-low d e h = go (is-one d e)
     go : Hex d → (0x61 ≤ d) × (d ≤ 0x66)
     go (low a b) = absurd (omega arith)
     go (letter a b) = (a, b)
+
+pub hex-above : (d : ℕ) → isHex d ≡ true → 0x30 ≤ d
+hex-above d e = go (is-one d e)
+  where
+    go : Hex d → 0x30 ≤ d
+    go (low a b) = a
+    go (letter a b) = omega arith
 
 pub hex-small : (d : ℕ) → isHex d ≡ true → hexValue d < 16
 hex-small d e = go (leb d 0x39) refl
@@ -71,6 +78,11 @@ hex-at [] i e h = absurd (omega arith)
 hex-at (b ∷ bs) zero e h = and-both (isHex b) (all isHex bs) e .0
 hex-at (b ∷ bs) (suc i) e h = hex-at bs i (and-both (isHex b) (all isHex bs) e .1) (omega arith)
 
+pub hex-take : (n : ℕ) (t : List ℕ) → all isHex t ≡ true → all isHex (take n t) ≡ true
+hex-take zero t e = refl
+hex-take (suc n) [] e = refl
+hex-take (suc n) (b ∷ bs) e = let h = and-both (isHex b) (all isHex bs) e in rw (h .0, hex-take n bs (h .1))
+
 -- ---- pairs
 pub length-unpaired : (t : List ℕ) → length (unpaired t) ≡ length t / 2
 unfolding hex.unpaired
@@ -87,6 +99,67 @@ unpaired-at (d ∷ e ∷ ds) (suc i) h =
     let two : 2 * suc i ≡ suc (suc (2 * i)) = omega arith in
     let three : 2 * suc i + 1 ≡ suc (suc (2 * i + 1)) = omega arith in
     rw (three, two) (unpaired-at ds i (omega arith))
+
+-- the pairs in front of a text: they stand in it, they are digits, and the k-th byte on they are those behind the first k pairs
+pub pairs-long : (t : List ℕ) → 2 * hexPairs t ≤ length t
+unfolding hex.hexPairs
+pairs-long [] = omega arith
+pairs-long (d ∷ []) = omega arith
+pairs-long (d ∷ e ∷ ds) = go (isHex d && isHex e) (pairs-long ds)
+  where
+    go : (b : Bool) → 2 * hexPairs ds ≤ length ds → 2 * cond b (suc (hexPairs ds)) 0 ≤ length (d ∷ e ∷ ds)
+    go true h = omega arith
+    go false h = omega arith
+
+pub pairs-hex : (t : List ℕ) → all isHex (take (2 * hexPairs t) t) ≡ true
+unfolding hex.hexPairs
+pairs-hex [] = refl
+pairs-hex (d ∷ []) = refl
+pairs-hex (d ∷ e ∷ ds) = go (isHex d) (isHex e) refl refl (pairs-hex ds)
+  where
+    go : (p q : Bool) → isHex d ≡ p → isHex e ≡ q → all isHex (take (2 * hexPairs ds) ds) ≡ true → all isHex (take (2 * cond (p && q) (suc (hexPairs ds)) 0) (d ∷ e ∷ ds)) ≡ true
+    go true true hd he h = let two : 2 * suc (hexPairs ds) ≡ suc (suc (2 * hexPairs ds)) = omega arith in rw (two, hd, he) h
+    go true false hd he h = refl
+    go false q hd he h = refl
+
+module _ (t : List ℕ) (i : ℕ) (h : i + 1 < length t) where
+  two-on : drop i t ≡ getD t i 0 ∷ getD t (i + 1) 0 ∷ drop (i + 2) t
+  two-on =
+      let two : i + 2 ≡ suc (suc i) = omega arith in
+      let one : i + 1 ≡ suc i = omega arith in
+      drop-cons t i 0 (omega arith) ∙ ap (λ (l : List ℕ). getD t i 0 ∷ l) (rw (one, two) (drop-cons t (suc i) 0 (omega arith)))
+
+  pub pair-more : isHex (getD t i 0) ≡ true → isHex (getD t (i + 1) 0) ≡ true → hexPairs (drop i t) ≡ suc (hexPairs (drop (i + 2) t))
+  unfolding hex.hexPairs
+  pair-more p q = rw (two-on, p, q)
+
+  pub no-first : isHex (getD t i 0) ≡ false → hexPairs (drop i t) ≡ 0
+  unfolding hex.hexPairs
+  no-first p = rw (two-on, p)
+
+  pub no-second : isHex (getD t (i + 1) 0) ≡ false → hexPairs (drop i t) ≡ 0
+  unfolding hex.hexPairs
+  no-second q = rw (two-on, q) (go (isHex (getD t i 0)))
+    where
+      go : (b : Bool) → cond (b && false) (suc (hexPairs (drop (i + 2) t))) 0 ≡ 0
+      go true = refl
+      go false = refl
+
+pub no-pair : (t : List ℕ) → length t < 2 → hexPairs t ≡ 0
+unfolding hex.hexPairs
+no-pair [] h = refl
+no-pair (d ∷ []) h = refl
+no-pair (d ∷ e ∷ ds) h = absurd (omega arith)
+
+-- the first k bytes of pairs are those of the first k pairs
+pub unpaired-take : (k : ℕ) (t : List ℕ) → unpaired (take (2 * k) t) ≡ take k (unpaired t)
+unfolding hex.unpaired
+unpaired-take zero t = refl
+unpaired-take (suc k) [] = rw (take-nil (2 * suc k))
+unpaired-take (suc k) (d ∷ []) = let two : 2 * suc k ≡ suc (suc (2 * k)) = omega arith in rw two
+unpaired-take (suc k) (d ∷ e ∷ ds) =
+    let two : 2 * suc k ≡ suc (suc (2 * k)) = omega arith in
+    rw (two, unpaired-take k ds)
 
 -- a blob is an even number of digits, and these its bytes
 pub odd-blob : (t : List ℕ) → length t % 2 ≡ 1 → blobOf t ≡ none

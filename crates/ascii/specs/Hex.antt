@@ -1,6 +1,6 @@
 -- Hexadecimal: bytes as pairs of lowercase digits, read and written, and a field that is bytes.
 -- Assumes nothing.
-use Prim.Native.Nat.{ℕ, _+_, _-_, _*_, _/_, _%_}
+use Prim.Native.Nat.{ℕ, suc, _+_, _-_, _*_, _/_, _%_}
 use mathlib.Core.List.{List, [], _∷_}
 use mathlib.Core.Bool.{Bool, cond, _&&_, _||_}
 use mathlib.Core.Option.{Option, none, some}
@@ -38,6 +38,12 @@ unfoldable pub unpaired : List ℕ → List ℕ
 unpaired [] = []
 unpaired (d ∷ []) = []
 unpaired (d ∷ e ∷ ds) = (hexValue d * 16 + hexValue e) ∷ unpaired ds
+
+-- how many pairs of digits stand in front
+unfoldable pub hexPairs : List ℕ → ℕ
+hexPairs [] = 0
+hexPairs (d ∷ []) = 0
+hexPairs (d ∷ e ∷ ds) = cond (isHex d && isHex e) (suc (hexPairs ds)) 0
 
 -- ---- written
 unfoldable pub hexDigit : ℕ → ℕ

@@ -12,7 +12,7 @@ ghost use Rattle.rows.specs.Checks.{all};
 ghost use Rattle.numbers.specs.Decimal.{isDigit};
 ghost use Rattle.put.specs.Put.{Wrote};
 ghost use Rattle.ascii.specs.Decimal.{decimalIn, withDigit, saysFrom};
-ghost use Rattle.ascii.specs.Hex.{isHex, hexValue, unpaired, hexDigit, pairsOf, hexOf, dashOf, bytesOf, keeps};
+ghost use Rattle.ascii.specs.Hex.{isHex, hexValue, unpaired, hexPairs, hexDigit, pairsOf, hexOf, dashOf, bytesOf, keeps};
 ghost use Rattle.ascii.specs.Words.{SPACE, before, behind, parted, wordAt, numberAt};
 ghost use Rattle.ascii.specs.Says.{decimalSays};
 
@@ -233,17 +233,34 @@ fn all_hex(text: &[u8]) -> bool
     true
 }
 
-// Stores the bytes that pairs of digits are, for which there is room.
-fn put_bytes(text: &[u8], out: &mut [u8]) -> usize
-    requires { ⌜ (all isHex (now text) ≡ true) × (length (now text) / 2 ≤ length (now out)) ⌝ }
-    ensures { λ r. ⌜ (r ≡ length (now (text .entry)) / 2) × Wrote (now (out .entry)) 0 (unpaired (now (text .entry))) (now (out .exit)) r ⌝ }
+// How many pairs of digits stand in front.
+pub fn hex_pairs(text: &[u8]) -> usize
+    ensures { λ r. ⌜ r ≡ hexPairs (now (text .entry)) ⌝ }
+{
+    let mut n = 0;
+    while n < text.len() / 2 {
+        if !is_hex(text[2 * n]) {
+            return n;
+        }
+        if !is_hex(text[2 * n + 1]) {
+            return n;
+        }
+        n += 1;
+    }
+    n
+}
+
+// Stores the bytes that pairs of digits are from a position on, and answers the position behind them. A part of readers, which see to the digits and the room.
+pub fn put_bytes(text: &[u8], out: &mut [u8], at: usize) -> usize
+    requires { ⌜ (all isHex (now text) ≡ true) × (at + length (now text) / 2 ≤ length (now out)) ⌝ }
+    ensures { λ r. ⌜ (r ≡ at + length (now (text .entry)) / 2) × Wrote (now (out .entry)) at (unpaired (now (text .entry))) (now (out .exit)) r ⌝ }
 {
     let mut i = 0;
     while i < text.len() / 2 {
-        out[i] = hex_value(text[2 * i]) * 16 + hex_value(text[2 * i + 1]);
+        out[at + i] = hex_value(text[2 * i]) * 16 + hex_value(text[2 * i + 1]);
         i += 1;
     }
-    i
+    at + i
 }
 
 // Whether the text is `-`, which stands for no bytes.
@@ -273,7 +290,7 @@ pub fn bytes(text: &[u8], out: &mut [u8]) -> Written
         if out.len() < text.len() / 2 {
             return Written::Refused(question::OUTPUT);
         }
-        return Written::Length(put_bytes(text, out));
+        return Written::Length(put_bytes(text, out, 0));
     }
     Written::Refused(question::BLOB)
 }

@@ -1,6 +1,7 @@
 mod Letters
 mod Plain
 mod Fields
+mod Pairs
 mod Lines
 mod Within
 mod Sheets

@@ -6,13 +6,17 @@
 use ascii::Said;
 use layout::question;
 ghost use mathlib.Core.Path.{_≡_};
-ghost use mathlib.Core.List.{[], _∷_};
-ghost use Prim.Native.Nat.{_+_, _-_, _<_, _≤_};
+ghost use mathlib.Core.List.{List, [], _∷_};
+ghost use mathlib.Core.Bool.{true, cond};
+ghost use Prim.Native.Nat.{ℕ, _+_, _-_, _%_, _<_, _≤_};
 ghost use lib.ListN.{length};
+ghost use lib.Dec.{eqb};
+ghost use Rattle.rows.specs.Checks.{all};
+ghost use Rattle.ascii.specs.Hex.{isHex, hexPairs};
 ghost use Rattle.put.specs.Put.{put};
 ghost use Rattle.sheet.specs.Sheet.{shapeOf, «BLOB_BYTES»};
 ghost use Rattle.sheet.specs.Machine.{atLine, waiting, stopped, begun, begunAs, highestAt, digitStep, numberStep, taken, commaStep, highStep, roomFor};
-ghost use Rattle.sheet.specs.Machine.{bytesIn, linesIn, lowStep, lowRun, idIn, msgnoIn, six, closed, closedPlaces, endStep, endPlaces, otherStep, held, stepped, fed, answerOf};
+ghost use Rattle.sheet.specs.Machine.{HIGH, bytesIn, linesIn, lowStep, lowRun, idIn, msgnoIn, six, closed, closedPlaces, endStep, endPlaces, otherStep, held, stepped, fed, answerOf};
 
 const LF: u8 = b'\n';
 
@@ -401,6 +405,37 @@ pub fn step(s: State, b: u8, run: &mut [u8], places: &mut [u64]) -> State
     take_other(s, b)
 }
 
+// Pairs of digits where the reader stands between pairs of a blob; none elsewhere.
+fn pairs_in(s: State, rest: &[u8]) -> usize
+    ensures { λ r. ⌜ r ≡ cond (eqb (s .phase) HIGH) (hexPairs (now (rest .entry))) 0 ⌝ }
+{
+    if s.phase == HIGH {
+        return ascii::hex_pairs(rest);
+    }
+    0
+}
+
+// Many pairs of digits at once: their bytes go to the run as far as there is room.
+fn take_pairs(s: State, digits: &[u8], run: &mut [u8]) -> State
+    requires { ⌜ (s .phase ≡ HIGH) × (0 < length (now digits)) × (length (now digits) % 2 ≡ 0) × (all isHex (now digits) ≡ true) ⌝ }
+    ensures { λ r. ⌜ ((places : List ℕ) → held r (now (run .exit)) places ≡ fed (now (digits .entry)) (held s (now (run .entry)) places)) ⌝ }
+{
+    let n = digits.len() / 2;
+    let room = room_for(BLOB_BYTES, run.len());
+    let used = s.used;
+    let mut next = s;
+    next.digit = 0;
+    next.used = room + 1;
+    if used < room {
+        let fit = room_for(n, room - used);
+        let end = ascii::put_bytes(&digits[0..2 * fit], run, used);
+        if fit == n {
+            next.used = end;
+        }
+    }
+    next
+}
+
 // All bytes of a chunk.
 pub fn read_chunk(state: State, chunk: &[u8], run: &mut [u8], places: &mut [u64]) -> State
     ensures { λ r. ⌜ held r (now (run .exit)) (now (places .exit)) ≡ fed (now (chunk .entry)) (held state (now (run .entry)) (now (places .entry))) ⌝ }
@@ -408,9 +443,15 @@ pub fn read_chunk(state: State, chunk: &[u8], run: &mut [u8], places: &mut [u64]
     let mut s = state;
     let mut i = 0;
     while i < chunk.len() {
-        let b = chunk[i];
-        i += 1;
-        s = step(s, b, run, places);
+        let n = 2 * pairs_in(s, &chunk[i..]);
+        if 0 < n {
+            s = take_pairs(s, &chunk[i..i + n], run);
+            i += n;
+        } else {
+            let b = chunk[i];
+            i += 1;
+            s = step(s, b, run, places);
+        }
     }
     s
 }

@@ -1,9 +1,8 @@
--- `ascii::store` meets its contract: its loop stores the pairs byte by byte (`bytes-start`, `bytes-turn`, `bytes-end`). The measure is the pairs left.
+-- `ascii::put_bytes` meets its contract: its loop stores the pairs byte by byte (`bytes-start`, `bytes-turn`, `bytes-end`). The measure is the pairs left.
 -- Assumes nothing.
 use Prim.Native.Nat.{_+_, _*_, _/_, _-_, _≤_, _<_}
 use mathlib.Core.Path.{_≡_}
 use native.Mathlib.Omega.{arith}
-use native.Mathlib.Nat.{zero-add}
 use lib.ListN.{length, getD, drop}
 use borrow.Author.Needs.{needs}
 use Rattle.put.proofs.Put.{Writing, bytes-start, bytes-turn, bytes-end}
@@ -13,10 +12,10 @@ use Rattle.ascii.proofs.put_bytes.Statement.{statement}
 use Rattle.ascii.proofs.put_bytes.Tie as tie
 
 abbrev Inv-loop : tie.InvT-loop
-Inv-loop text out₀ i₀ out i = (i ≤ length text / 2) × Writing out₀ 0 (unpaired text) out (0 + i) (drop i (unpaired text))
+Inv-loop text out₀ at i₀ out i = (i ≤ length text / 2) × Writing out₀ at (unpaired text) out (at + i) (drop i (unpaired text))
 
 abbrev μ-loop : tie.MeasureT-loop
-μ-loop text out₀ i₀ out i = length text / 2 - i
+μ-loop text out₀ at i₀ out i = length text / 2 - i
 
 -- what the two digits of a pair say
 high : (c : tie.After-hex-value Inv-loop μ-loop) → let l = c .before .before .before in
@@ -63,6 +62,9 @@ hex-value-requires-2 c κs = search needs
 add-out : tie.Need-add-out Inv-loop μ-loop
 add-out c = omega (arith, high (c .before .before) .1, low c .1)
 
+add-out-2 : tie.Need-add-out-2 Inv-loop μ-loop
+add-out-2 c = search needs
+
 slice-write-out : tie.Need-slice-write-out Inv-loop μ-loop
 slice-write-out c = search needs
 
@@ -78,7 +80,10 @@ loop-again c =
     let text = l .before .before .before .args .text .now in
     let h : l .loop .i < length (unpaired text) = omega (arith, length-unpaired text) in
     let e = rw (← high (c .before .before) .0, ← low c .0) at (unpaired-at text (l .loop .i) h) in
-    (omega arith, rw (zero-add (l .loop .i)) at (bytes-turn _ 0 _ (l .loop .i) h e (l .loop .inv .1)))
+    (omega arith, bytes-turn _ _ _ (l .loop .i) h e (l .loop .inv .1))
+
+add-result : tie.Need-add-result Inv-loop μ-loop
+add-result c = search needs
 
 same-length : tie.Need-same-length Inv-loop μ-loop
 same-length c = search needs
@@ -87,9 +92,9 @@ returns : tie.Need-returns Inv-loop μ-loop
 returns c =
     let l = c .before in
     let text = l .before .before .before .args .text .now in
-    (omega arith, rw zero-add at (bytes-end _ 0 _ (l .loop .i) (omega (arith, length-unpaired text)) (l .loop .inv .1)))
+    (omega arith, bytes-end _ _ _ (l .loop .i) (omega (arith, length-unpaired text)) (l .loop .inv .1))
 
 pub put-bytes-spec : {M : Type 1} → statement M
 put-bytes-spec =
     tie.close
-    (tie.spec Inv-loop μ-loop loop-holds mul-hex-value shared-slice-read-hex-value hex-value-requires mul-out mul-hex-value-2 add-hex-value shared-slice-read-hex-value-2 hex-value-requires-2 add-out slice-write-out add-i loop-less loop-again same-length returns)
+    (tie.spec Inv-loop μ-loop loop-holds mul-hex-value shared-slice-read-hex-value hex-value-requires mul-out mul-hex-value-2 add-hex-value shared-slice-read-hex-value-2 hex-value-requires-2 add-out add-out-2 slice-write-out add-i loop-less loop-again add-result same-length returns)
