@@ -28,7 +28,7 @@ class Named:
 
 @dataclass(frozen=True)
 class Array:
-    """An array of so many values of a declared type."""
+    """An array of so many values of a declared type, or numbers."""
     element: object
     count: int
 
@@ -121,7 +121,7 @@ def type_of(term, kinds):
         path = unquoted(term[1][1])
         crate, name = path.split("::", 1)
         return Named(crate, name, kinds.get(path, "struct"))
-    if term[0] == "tyArray" and term[1][0] == "tyNamed":
+    if term[0] == "tyArray" and term[1][0] in ("tyNamed", "tyInt"):
         return Array(type_of(term[1], kinds), int(term[2][1]))
     if term[0] == "tyStruct" and unquoted(term[1]) == "&[]":
         ref = items(term[2])[0]

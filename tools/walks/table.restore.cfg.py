@@ -4,5 +4,5 @@ lends = {"table": ("count", f"as-many {FILLED}")}
 ends = f"(rw (all-lent {FILLED}) at is-r)"
 uses = [
     "use Rattle.table.proofs.Filled.{as-many, all-lent}",
-    "use Rattle.table.proofs.Table.{of-array, repeated, in-cells, whole-of, lends-whole, whole-back, first-of, lends-first, table-back}",
+    "use Rattle.walks.proofs.Table.{of-array, repeated, in-cells, whole-of, lends-whole, whole-back, first-of, lends-first, table-back}",
 ]

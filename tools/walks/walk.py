@@ -169,7 +169,7 @@ def row(type_):
     if isinstance(type_, mir.Flag):
         return "Boolean"
     if isinstance(type_, mir.Array):
-        return f"Array {row(type_.element)} {type_.count}"
+        return f"Array {atom(row(type_.element))} {type_.count}"
     return f"UInt w{type_.bits}" if isinstance(type_, mir.Number) else f"{type_.name}T.the-row"
 
 
@@ -391,7 +391,7 @@ class Table(Value):
         self.filled = Value(label, type_)
         self.value_of = value_of
         element = held(type_.element)
-        proof = f"(repeated {row(type_.element)} {type_.count} {value_of.name} ({element} .val {value_of.name}) {value_of.proof})"
+        proof = f"(repeated {atom(row(type_.element))} {type_.count} {value_of.name} ({element} .val {value_of.name}) {value_of.proof})"
         super().__init__(f"(replicate {type_.count} {value_of.name})", type_, proof)
         self.long = f"(length-replicate {type_.count} {value_of.name})"
 

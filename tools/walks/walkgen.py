@@ -2,7 +2,7 @@
 """rt mir CRATE | walkgen.py FN.cfg.py : the proof of a straight-line function over lent slices, which calls others and returns what the last one answers.
 
 The parameters are lent slices (`&` and `&mut`) and plain values; each `&mut` goes to one callee for good, and before that to others as `&`. A local may be a
-table, `[value; n]`, which is lent whole to a callee that fills it, as `&mut table[..]`, and then its first elements to another. A config sets
+table, `[value; n]`, which is lent whole to a callee, as `&mut table[..]`, and then its first elements to another, or to none. A config sets
     crate, fn   the function; no fn in a config for all functions of a crate
     requires    for a call that requires something, by its result's name: the proof
     ends        the proof of what the function ensures
@@ -78,6 +78,7 @@ class Line(walk.Walk):
             elif isinstance(statement, mir.Assign):
                 self.relend(statement, names)
         self.calls = [step for step in self.steps if isinstance(step, Called)]
+        self.fronted_tables = [step.table for step in self.steps if isinstance(step, Fronted)]
 
     def call(self, statement, name):
         earlier = [step.result for step in self.steps if isinstance(step, Called)]
@@ -179,7 +180,9 @@ class Line(walk.Walk):
 
     def opened(self, value):
         """How many parentheses lending it and taking it back open."""
-        return 3 if isinstance(value, (walk.First, walk.Whole)) else 2
+        if isinstance(value, walk.Whole):
+            return 3 if value.place in self.fronted_tables else 4
+        return 3 if isinstance(value, walk.First) else 2
 
     def lending(self, call, context):
         """The steps by which `&mut` slices are lent as `&` for a call, and tables."""
@@ -226,7 +229,8 @@ class Line(walk.Walk):
     def wholly(self, step, context):
         """The steps by which a table becomes a slice: its address, that and its length, and that this is how many elements it has."""
         lent = self.held[step.place]
-        return self.sliced(step, context, lent, "lit ! tt", "record { fits = lit< tt }", f"sym {lent.lender.long}")
+        fits = "record { fits = lit< tt }"
+        return self.sliced(step, context, lent, "lit ! tt" if lent.array.count < 1024 else f"big-lit ! ({fits})", fits, f"sym {lent.lender.long}")
 
     def lending_table(self, value, context):
         front = context.to_front([value.cells])
@@ -241,7 +245,14 @@ class Line(walk.Walk):
         context.replace_front(3, [value.cells])
         last = lasts.pop(value.label)
         back = f"whole-back ! tt {value.element} {value.array.count} {value.lifetime_made} {last} {value.local} {value.name_made}"
-        return f"{steps}{back} (λ long-{value.label}. let {value.label} : {walk.denoted(value.array)} = {last} in"
+        steps = f"{steps}{back} (λ long-{value.label}. let {value.label} : {walk.denoted(value.array)} = {last} in"
+        return steps if value.place in self.fronted_tables else f"{steps} {self.cells_back(value, context)}"
+
+    def cells_back(self, value, context):
+        """The steps by which a table that is lent no more is a local again."""
+        context.replace_front(1, [value.cell])
+        back = f"cells-back ! {value.element} {value.array.count} {value.label} {value.local} long-{value.label} (λ v-{value.label}. "
+        return back + context.to_front([value.cell, value.dies]).rstrip()
 
     def table_back(self, value, context):
         context.replace_front(2, [value.cell])

@@ -1,7 +1,6 @@
 pub mod Read
 pub mod Halves
 pub mod Turns
-pub mod Find
 pub mod Steps
 pub mod ByKind
 pub mod Laws

@@ -1,4 +1,4 @@
--- What stands after the turns of the entries below the i-th: the answers are those of document 01's rounds, and what is kept is what the store's near linear fold keeps.
+-- What stands after the turns of the entries below the i-th: the answers are those of document 01's rounds, and what is kept is so.
 -- Assumes nothing.
 use Prim.Native.Nat.{ℕ, _<_}
 use mathlib.Core.List.{List, [], _∷_}
@@ -10,9 +10,8 @@ use Rattle.store.specs.declared.Asked.{Asked}
 use Rattle.store.specs.declared.Asked.the-variants as so
 use Rattle.store.specs.Rounds.{turns, rounds}
 use Rattle.store.specs.Kinds.{CONTACT, Seen}
-use Rattle.store.specs.Store.{entryAt, partOf, storeOf, nextIn, order, bounds, begun}
+use Rattle.store.specs.Store.{entryAt, partOf, storeOf, nextIn, slotsBelow, order, bounds, begun}
 use Rattle.store.specs.Aside.{isAside, asideSeen, readAside, seenAside, acrossAside}
-use Rattle.store.specs.Walk.{begin, kept}
 use Rattle.across.specs.declared.Walk.{Walk}
 use Rattle.across.specs.declared.Across.{Across}
 use Rattle.across.specs.declared.Across.the-variants.{Going, Refused}
@@ -32,11 +31,7 @@ askedOf (Refused number place) = so.Refused number place
 
 pub record Kept (run : List ℕ) (es : List Entry) (aside : Aside) (i : ℕ) (w : Walk) : Type 0 where
   pub next : 0 < i → w .«next_contact» ≡ nextIn (sight run es aside) es
-  pub contacts : w .contacts ≡ kept es 0 i begin .contacts
-  pub slots : w .slots ≡ kept es 0 i begin .slots
-  pub «queued_id» : w .«queued_id» ≡ kept es 0 i begin .«queued_id»
-  pub «queued_no» : w .«queued_no» ≡ kept es 0 i begin .«queued_no»
-  pub spot : w .spot ≡ kept es 0 i begin .spot
+  pub slots : w .slots ≡ slotsBelow es i
   pub owner : entryAt es (w .spot) .kind ≡ CONTACT → OwnerStands (ownerSeen run aside (entryAt es (w .spot))) (partOf run (entryAt es (w .spot))) (w .owner)
 
 abbrev pub KeptIn : (run : List ℕ) → List Entry → Aside → (i : ℕ) → Across → Type 0

@@ -1,5 +1,5 @@
-// Questions 25 to 33, across the rows: of each entry in turn, against those before it. An id or slot above all earlier ones is new without a search,
-// a queued row's contact is looked for from where the last one was found on, and what is asked of that contact is kept.
+// Questions 25 to 33, across the rows: of each entry in turn, against those before it. The first entry that has a twin before it is known in advance, so that
+// an entry is new by its index; a queued row's contact is looked for from where the last one was found on, and what is asked of that contact is kept.
 use contact::ContactCheck;
 use courier::CourierCheck;
 use courier::HeldAt;
@@ -15,7 +15,7 @@ ghost use lib.Dec.{eqb};
 ghost use Rattle.rows.specs.Checks.{any};
 ghost use Rattle.store.specs.Store.{partOf};
 ghost use Rattle.across.specs.Owner.{noOwner, contactSeen, ownerIn, ownerSeen, ownerAside, ownerFrom, ownerFound, unackedAt, Searchable, OwnerStands};
-ghost use Rattle.across.specs.Across.{begunFrom, contactOf, earlier, farLimit, chosen, ownerLimit, spotOf, ownerFor, Reusable, twinOf, pairAbove, twinBelow, twinLimit};
+ghost use Rattle.across.specs.Across.{begunFrom, contactOf, earlier, farLimit, chosen, ownerLimit, spotOf, ownerFor, Reusable};
 ghost use Rattle.across.specs.Across.{lowIn, nextContactIn, depositorIn, deviceTurn, contactTurn, queuedTurn, courierTurn, settled};
 
 // What is asked of a queued row's contact: sent_msgno, and where in its row the unacked numbers start and how many they are.
@@ -27,15 +27,11 @@ pub struct Owner {
 
 pub struct Walk {
     pub next_contact: u64,
-    // one above the highest contact and the highest slot so far
-    pub contacts: u64,
+    // one above the highest slot so far
     pub slots: u64,
-    // the highest (contact, msgno) of a queued row so far
-    pub queued_id: u64,
     // where the contact of the last queued row stands
     pub spot: usize,
     pub owner: Owner,
-    pub queued_no: u32,
 }
 
 pub enum Across {
@@ -62,12 +58,9 @@ pub fn begin(asked: Asked) -> Across
         let owner = no_owner();
         return Across::Going(Walk {
             next_contact: 0,
-            contacts: 0,
             slots: 0,
-            queued_id: 0,
             spot: 0,
             owner,
-            queued_no: 0,
         });
     };
     Across::Refused(number, place)
@@ -233,48 +226,7 @@ pub fn owner_of(run: &[u8], aside: Aside, c: Entry, p: usize, upto: usize, state
     owner_from(run, aside, c)
 }
 
-pub fn twin_of(e: Entry) -> Wanted
-    ensures { λ r. ⌜ r ≡ twinOf e ⌝ }
-{
-    Wanted {
-        id: e.id,
-        msgno: e.msgno,
-        kind: e.kind,
-    }
-}
-
-fn pair_above(w: Walk, e: Entry) -> bool
-    ensures { λ r. ⌜ r ≡ pairAbove w e ⌝ }
-{
-    if w.queued_id < e.id {
-        return true;
-    }
-    w.queued_id == e.id && w.queued_no < e.msgno
-}
-
-// How far another entry of the same kind, and the same contact, message or slot is looked for: not at all where this one is above all earlier ones.
-fn twin_below(e: Entry, i: usize, w: Walk) -> usize
-    ensures { λ r. ⌜ r ≡ twinBelow e i w ⌝ }
-{
-    let kind = e.kind;
-    match kind {
-        1 => { if w.contacts <= e.id { 0 } else { i } }
-        2 => { if pair_above(w, e) { 0 } else { i } }
-        3 => { if w.slots <= e.id { 0 } else { i } }
-        _ => 0,
-    }
-}
-
-pub fn twin_limit(e: Entry, i: usize, state: Across) -> usize
-    ensures { λ r. ⌜ r ≡ twinLimit e i state ⌝ }
-{
-    let Across::Going(w) = state else {
-        return 0;
-    };
-    twin_below(e, i, w)
-}
-
-// ---- one turn. The i-th entry is e; its contact's entry is c, found at p, and owner what is asked of it; its twin was found at t, or t is the limit of that search
+// ---- one turn. The i-th entry is e; its contact's entry is c, found at p, and owner what is asked of it; `first` is the first entry that has a twin
 
 fn settle_device(run: &[u8], e: Entry, w: Walk) -> Across
     ensures { λ r. ⌜ r ≡ deviceTurn (now (run .entry)) e w ⌝ }
@@ -284,20 +236,16 @@ fn settle_device(run: &[u8], e: Entry, w: Walk) -> Across
     Across::Going(after)
 }
 
-fn settle_contact(e: Entry, i: usize, t: usize, w: Walk) -> Across
-    ensures { λ r. ⌜ r ≡ contactTurn e i t w ⌝ }
+fn settle_contact(e: Entry, i: usize, first: usize, w: Walk) -> Across
+    ensures { λ r. ⌜ r ≡ contactTurn e i first w ⌝ }
 {
     if w.next_contact <= e.id {
         return Across::Refused(question::CONTACT_BELOW_NEXT, i);
     }
-    if t < twin_below(e, i, w) {
+    if first <= i {
         return Across::Refused(question::CONTACT_NEW, i);
     }
-    let mut after = w;
-    if w.contacts <= e.id {
-        after.contacts = e.id + 1;
-    }
-    Across::Going(after)
+    Across::Going(w)
 }
 
 fn settle_queued(
@@ -306,12 +254,12 @@ fn settle_queued(
     c: Entry,
     i: usize,
     p: usize,
-    t: usize,
+    first: usize,
     owner: Owner,
     w: Walk,
 ) -> Across
     requires { ⌜ Searchable (partOf (now run) c) owner ⌝ }
-    ensures { λ r. ⌜ r ≡ queuedTurn (partOf (now (run .entry)) c) e i p t owner w ⌝ }
+    ensures { λ r. ⌜ r ≡ queuedTurn (partOf (now (run .entry)) c) e i p first owner w ⌝ }
 {
     if i <= p {
         return Across::Refused(question::QUEUED_CONTACT, i);
@@ -326,26 +274,22 @@ fn settle_queued(
     if is_unacked(row, owner, e.msgno) {
         return Across::Refused(question::QUEUED_UNACKED, i);
     }
-    if t < twin_below(e, i, w) {
+    if first <= i {
         return Across::Refused(question::QUEUED_NEW, i);
     }
     let mut after = w;
-    if pair_above(w, e) {
-        after.queued_id = e.id;
-        after.queued_no = e.msgno;
-    }
     after.spot = p;
     after.owner = owner;
     Across::Going(after)
 }
 
-fn settle_courier(run: &[u8], e: Entry, i: usize, t: usize, w: Walk) -> Across
-    ensures { λ r. ⌜ r ≡ courierTurn (now (run .entry)) e i t w ⌝ }
+fn settle_courier(run: &[u8], e: Entry, i: usize, first: usize, w: Walk) -> Across
+    ensures { λ r. ⌜ r ≡ courierTurn (now (run .entry)) e i first w ⌝ }
 {
     if !low_depositor(run, e, w.next_contact) {
         return Across::Refused(question::DEPOSITOR, i);
     }
-    if t < twin_below(e, i, w) {
+    if first <= i {
         return Across::Refused(question::SLOT_NEW, i);
     }
     if e.id == u64::MAX {
@@ -364,12 +308,12 @@ pub fn settle(
     c: Entry,
     i: usize,
     p: usize,
-    t: usize,
+    first: usize,
     owner: Owner,
     state: Across,
 ) -> Across
     requires { ⌜ Searchable (partOf (now run) c) owner ⌝ }
-    ensures { λ r. ⌜ r ≡ settled (now (run .entry)) e c i p t owner state ⌝ }
+    ensures { λ r. ⌜ r ≡ settled (now (run .entry)) e c i p first owner state ⌝ }
 {
     let Across::Going(w) = state else {
         return state;
@@ -377,9 +321,9 @@ pub fn settle(
     let kind = e.kind;
     match kind {
         0 => settle_device(run, e, w),
-        1 => settle_contact(e, i, t, w),
-        2 => settle_queued(run, e, c, i, p, t, owner, w),
-        3 => settle_courier(run, e, i, t, w),
+        1 => settle_contact(e, i, first, w),
+        2 => settle_queued(run, e, c, i, p, first, owner, w),
+        3 => settle_courier(run, e, i, first, w),
         _ => Across::Going(w),
     }
 }

@@ -15,7 +15,6 @@ use Rattle.store.specs.declared.Asked.the-variants as so
 use Rattle.store.specs.Rounds.{Round, turns}
 use Rattle.store.specs.Store.{storeOf, seen, nextIn, slotsBelow, asked, found, outcome, restore, going}
 use Rattle.store.specs.Aside.{isAside, asideSeen, askedAside}
-use Rattle.store.proofs.Walk.{slots-kept}
 use Rattle.rounds.specs.Rounds.{roundOf}
 use Rattle.across.specs.declared.Across.{Across}
 use Rattle.across.specs.declared.Across.the-variants.{Going, Refused}
@@ -49,8 +48,7 @@ some-entry run (x ∷ es) aside e = omega arith
 ends-at : (run : List ℕ) (es : List Entry) (aside : Aside) (end : Across) → At run es aside (length es) end → ended end ≡ questioned run es aside
 ends-at run es aside (Going w) at =
     let next = at .so-kept .next (some-entry run es aside (at .asked)) in
-    let slot = at .so-kept .slots ∙ slots-kept es (length es) in
-    λ k. granting (at .asked k) (next k) (slot k)
+    λ k. granting (at .asked k) (next k) (at .so-kept .slots k)
 ends-at run es aside (Refused number place) at = ap (λ (a : Asked). granting a (nextIn (sight run es aside) es) (slotsBelow es (length es))) (at .asked)
 
 pub answers : (run : List ℕ) (es : List Entry) (aside : Aside) (end : Across) (r : Restored) → At run es aside (length es) end → r ≡ ended end → r ≡ questioned run es aside

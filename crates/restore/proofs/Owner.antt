@@ -1,17 +1,81 @@
 -- Where a queued row's contact is found: what the searches answer, together.
 -- Assumes nothing.
-use Prim.Native.Nat.{ℕ, _-_}
+use Prim.Native.Nat.{ℕ, _+_, _-_, _≤_, _<_}
 use native.Mathlib.Nat.{sub-zero}
+use native.Mathlib.Omega.{arith}
+use native.Mathlib.Decide.{decLe}
 use mathlib.Core.List.{List}
-use mathlib.Core.Path.{_≡_, _∙_, ap}
+use mathlib.Core.Bool.{Bool, true, false, cond}
+use mathlib.Core.Path.{_≡_, refl, sym, _∙_, ap, subst}
+use lib.Dec.{leb, ltb, T, leb→le, nleb→lt, ltb→lt, nltb→le}
 use Rattle.store.specs.declared.Entry.{Entry}
 use Rattle.store.specs.declared.Wanted.{Wanted}
-use Rattle.store.specs.Find.{firstOf}
-use Rattle.across.specs.Across.{contactOf, earlier, farLimit, chosen, ownerOf}
+use Rattle.store.specs.Kinds.{CONTACT}
+use Rattle.store.specs.Store.{entryAt, isOf}
+use Rattle.store.specs.Find.{isWanted, firstOf}
+use Rattle.store.proofs.Tests.{truth, false-not, both, pair}
+use Rattle.store.proofs.Searches.{FirstAt, first-at}
+use Rattle.across.specs.Across.{contactOf, earlier, farLimit, chosen, OwnerAt}
 
-pub owner-is : (es : List Entry) (e : Entry) (upto spot near p far o r : ℕ) (w : Wanted) → w ≡ contactOf e → near ≡ earlier spot upto → p ≡ firstOf es w near (upto - near) → far ≡ farLimit p near upto
-    → o ≡ firstOf es w 0 (far - 0) → r ≡ chosen p o far upto → r ≡ ownerOf es e upto spot
-owner-is es e upto spot near p far o r w is-w is-near is-p is-far is-o is-r =
-    let p′ : p ≡ firstOf es (contactOf e) (earlier spot upto) (upto - earlier spot upto) = is-p ∙ (λ k. firstOf es (is-w k) (is-near k) (upto - is-near k)) in
-    let far′ : far ≡ farLimit (firstOf es (contactOf e) (earlier spot upto) (upto - earlier spot upto)) (earlier spot upto) upto = is-far ∙ (λ k. farLimit (p′ k) (is-near k) upto) in
-    is-r ∙ (λ k. chosen (p′ k) ((is-o ∙ (ap (firstOf es w 0) (sub-zero far) ∙ (λ j. firstOf es (is-w j) 0 (far′ j)))) k) (far′ k) upto)
+earlier-low : (a b : ℕ) → earlier a b ≤ b
+earlier-low a b = go (leb a b) refl
+  where
+    go : (t : Bool) → leb a b ≡ t → cond t a b ≤ b
+    go true is = leb→le a b (truth (leb a b) is)
+    go false is = omega arith
+
+module _ (es : List Entry) (e : Entry) where
+  abbrev isIts : ℕ → Bool
+  isIts m = isOf CONTACT (e .id) (entryAt es m)
+
+  abbrev wanted : ℕ → Bool
+  wanted m = isWanted (contactOf e) (entryAt es m)
+
+  its : (m : ℕ) → T (wanted m) → T (isIts m)
+  its m t = both (isIts m) true t .0
+
+  wants : (m : ℕ) → T (isIts m) → T (wanted m)
+  wants m t = pair (isIts m) true t tt
+
+  -- from `near` on, and else from the start
+  chosen-at : (upto near : ℕ) → near ≤ upto
+      → (let p = firstOf es (contactOf e) near (upto - near) in let far = farLimit p near upto in OwnerAt es e upto (chosen p (firstOf es (contactOf e) 0 far) far upto))
+  chosen-at upto near low = go (ltb p upto) refl
+    where
+      p : ℕ
+      p = firstOf es (contactOf e) near (upto - near)
+
+      front : FirstAt wanted near (upto - near) p
+      front = first-at wanted near (upto - near)
+
+      back : FirstAt wanted 0 near (firstOf es (contactOf e) 0 near)
+      back = first-at wanted 0 near
+
+      behind : p < upto → OwnerAt es e upto p
+      behind l = record { hit = λ x. its p (front .hit (omega arith)); misses = λ over. absurd (omega arith) }
+
+      none : upto ≤ p → near ≤ firstOf es (contactOf e) 0 near → (m : ℕ) → m < upto → T (isIts m) → ⊥
+      none over none-back m l t = go (decLe near m)
+        where
+          go : Dec (near ≤ m) → ⊥
+          go (yes a) = front .misses m a (omega arith) (wants m t)
+          go (no a) = back .misses m (omega arith) (omega arith) (wants m t)
+
+      before : upto ≤ p → (t : Bool) → ltb (firstOf es (contactOf e) 0 near) near ≡ t → OwnerAt es e upto (cond t (firstOf es (contactOf e) 0 near) upto)
+      before over true is =
+          let l = ltb→lt (firstOf es (contactOf e) 0 near) near (truth (ltb (firstOf es (contactOf e) 0 near) near) is) in
+          record { hit = λ x. its (firstOf es (contactOf e) 0 near) (back .hit (omega arith)); misses = λ o. absurd (omega arith) }
+      before over false is =
+          record { hit = λ x. absurd (omega arith); misses = λ o. none over (nltb→le (firstOf es (contactOf e) 0 near) near (false-not (ltb (firstOf es (contactOf e) 0 near) near) is)) }
+
+      go : (t : Bool) → ltb p upto ≡ t → (let far = cond t 0 near in OwnerAt es e upto (cond t p (cond (ltb (firstOf es (contactOf e) 0 far) far) (firstOf es (contactOf e) 0 far) upto)))
+      go true is = behind (ltb→lt p upto (truth (ltb p upto) is))
+      go false is = before (nltb→le p upto (false-not (ltb p upto) is)) (ltb (firstOf es (contactOf e) 0 near) near) refl
+
+  pub owner-is : (upto spot near p far o r : ℕ) (w : Wanted) → w ≡ contactOf e → near ≡ earlier spot upto → p ≡ firstOf es w near (upto - near) → far ≡ farLimit p near upto
+      → o ≡ firstOf es w 0 (far - 0) → r ≡ chosen p o far upto → OwnerAt es e upto r
+  owner-is upto spot near p far o r w is-w is-near is-p is-far is-o is-r =
+      let p′ : p ≡ firstOf es (contactOf e) (earlier spot upto) (upto - earlier spot upto) = is-p ∙ (λ k. firstOf es (is-w k) (is-near k) (upto - is-near k)) in
+      let far′ : far ≡ farLimit (firstOf es (contactOf e) (earlier spot upto) (upto - earlier spot upto)) (earlier spot upto) upto = is-far ∙ (λ k. farLimit (p′ k) (is-near k) upto) in
+      let o′ = is-o ∙ (ap (firstOf es w 0) (sub-zero far) ∙ (λ j. firstOf es (is-w j) 0 (far′ j))) in
+      subst (OwnerAt es e upto) (sym (is-r ∙ (λ k. chosen (p′ k) (o′ k) (far′ k) upto))) (chosen-at upto (earlier spot upto) (earlier-low spot upto))

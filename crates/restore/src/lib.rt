@@ -9,8 +9,9 @@ ghost use Prim.Native.Nat.{_+_, _-_, _<_};
 ghost use lib.ListN.{length};
 ghost use Rattle.store.specs.Rounds.{turn, turns};
 ghost use Rattle.store.specs.Store.{storeOf, restore};
+ghost use Rattle.store.specs.Twins.{firstTwin};
 ghost use Rattle.rounds.specs.Rounds.{roundOf};
-ghost use Rattle.across.specs.Across.{ownerOf};
+ghost use Rattle.across.specs.Across.{OwnerAt};
 ghost use Rattle.across.specs.At.{At};
 ghost use Rattle.store.specs.declared.Aside.the-variants.{Nothing};
 ghost use Rattle.restore.specs.Restored.{begunWith, ended, answered, questioned};
@@ -79,7 +80,7 @@ fn turns(run: &[u8], entries: &[Entry], aside: Aside, round: u8, asked: Asked) -
 
 // Where the contact of a queued row stands, below `upto`: from the kept spot on, then from the start. `upto` where there is none.
 fn owner_at(entries: &[Entry], e: Entry, upto: usize, spot: usize) -> usize
-    ensures { λ r. ⌜ r ≡ ownerOf (now (entries .entry)) e upto spot ⌝ }
+    ensures { λ r. ⌜ OwnerAt (now (entries .entry)) e upto r ⌝ }
 {
     let wanted = across::contact_of(e);
     let near = across::earlier(spot, upto);
@@ -89,8 +90,9 @@ fn owner_at(entries: &[Entry], e: Entry, upto: usize, spot: usize) -> usize
     across::chosen(p, o, far, upto)
 }
 
-fn across_at(run: &[u8], entries: &[Entry], aside: Aside, i: usize, state: Across) -> Across
-    requires { ⌜ (i < length (now entries)) × At (now run) (now entries) aside i state ⌝ }
+// One turn of 25 to 33; `twin` is the first entry that has a twin.
+fn across_at(run: &[u8], entries: &[Entry], aside: Aside, twin: usize, i: usize, state: Across) -> Across
+    requires { ⌜ (twin ≡ firstTwin (now entries)) × (i < length (now entries)) × At (now run) (now entries) aside i state ⌝ }
     ensures { λ r. ⌜ At (now (run .entry)) (now (entries .entry)) aside (i + 1) r ⌝ }
 {
     let e = entries::entry_at(entries, i);
@@ -99,22 +101,19 @@ fn across_at(run: &[u8], entries: &[Entry], aside: Aside, i: usize, state: Acros
     let p = owner_at(entries, e, limit, spot);
     let c = entries::entry_at(entries, p);
     let owner = across::owner_of(run, aside, c, p, limit, state);
-    let twin = across::twin_of(e);
-    let upto = across::twin_limit(e, i, state);
-    let t = entries::find(entries, twin, 0, upto);
-    across::settle(run, e, c, i, p, t, owner, state)
+    across::settle(run, e, c, i, p, twin, owner, state)
 }
 
 // 25 to 33, of all entries.
-fn across_turns(run: &[u8], entries: &[Entry], aside: Aside, state: Across) -> Across
-    requires { ⌜ At (now run) (now entries) aside 0 state ⌝ }
+fn across_turns(run: &[u8], entries: &[Entry], aside: Aside, twin: usize, state: Across) -> Across
+    requires { ⌜ (twin ≡ firstTwin (now entries)) × At (now run) (now entries) aside 0 state ⌝ }
     ensures { λ r. ⌜ At (now (run .entry)) (now (entries .entry)) aside (length (now (entries .entry))) r ⌝ }
 {
     let n = entries::entry_count(entries);
     let mut i = 0;
     let mut after = state;
     while i < n {
-        after = across_at(run, entries, aside, i, after);
+        after = across_at(run, entries, aside, twin, i, after);
         i = i + 1;
     }
     after
@@ -130,7 +129,8 @@ pub fn questions(run: &[u8], entries: &[Entry], aside: Aside) -> Restored
     let bounded = turns(run, entries, aside, question::BOUNDS, ordered);
     let read = turns(run, entries, aside, question::VERSION, bounded);
     let state = across::begin(read);
-    let end = across_turns(run, entries, aside, state);
+    let twin = twins::first_twin(entries);
+    let end = across_turns(run, entries, aside, twin, state);
     answer(end)
 }
 

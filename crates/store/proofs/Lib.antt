@@ -13,10 +13,8 @@ pub mod Unused
 pub mod Opened
 pub mod Lasting
 pub mod Written
-pub mod Pairs
-pub mod Lookup
-pub mod Keeps
-pub mod Walk
+pub mod Searches
+pub mod Twins
 pub mod Slots
 pub mod LeftAside
 pub mod Proved

@@ -11,6 +11,7 @@ use Rattle.rows.proofs.Proved.{proved}
 use Rattle.store.specs.declared.Entry.{Entry}
 use Rattle.store.specs.declared.Asked.{Asked}
 use Rattle.store.specs.declared.Asked.the-variants.{Going, Refused}
+use Rattle.store.specs.Kinds.{CONTACT, COURIER}
 use Rattle.store.specs.Store.{Store, asked, seen, Found, found, granted, refused, outcome, restore}
 use Rattle.store.specs.Accepted.{Accepted, FirstNo}
 use Rattle.store.specs.Veiled.{blanked}
@@ -26,7 +27,7 @@ use Rattle.store.proofs.Opened.{just-opened, opened-alike}
 use Rattle.store.proofs.Lasting.{opened-lasts}
 use Rattle.store.proofs.Written.{alike-long, alike-outside}
 use Rattle.store.proofs.Slots.{slots-above, slots-one}
-use Rattle.store.proofs.Walk.{walked, slots-kept}
+use Rattle.store.proofs.Twins.{kind-new, queued-new}
 
 -- ---- an outcome says what was asked
 granted-going : (a : Asked) (f : Found) → outcome a f ≡ granted f → a ≡ Going
@@ -73,5 +74,9 @@ store-laws = record {
     written-long = λ c c′ a by by′. alike-long (rows.contact 3) (proved .contact 3) c c′ (a .valid) (a .valid′) by by′ (a .alike);
     written-alike = λ c c′ a by by′. alike-outside (rows.contact 3) (proved .contact 3) c c′ (a .valid) (a .valid′) by by′ (a .alike);
   };
-  walk = record { walked = λ s n a. walked (s .entries) (seen s) n a; slots-kept = λ s. slots-kept (s .entries) (length (s .entries)) };
+  twins = record {
+    contact-new = λ s i b quiet is. kind-new (s .entries) (seen s) i b quiet CONTACT is refl refl;
+    queued-new = λ s i b quiet is. queued-new (s .entries) (seen s) i b quiet is;
+    slot-new = λ s i b quiet is. kind-new (s .entries) (seen s) i b quiet COURIER is refl refl;
+  };
 }

@@ -13,7 +13,11 @@ use Rattle.store.specs.declared.Wanted.{Wanted}
 abbrev pub isWanted : Wanted → Entry → Bool
 isWanted w e = isOf (w .kind) (w .id) e && (not (eqb (w .kind) QUEUED) || eqb (e .msgno) (w .msgno))
 
+-- the first of n indices from the j-th on that p holds of, or the one behind them
+abbrev pub firstWhere : (ℕ → Bool) → (j n : ℕ) → ℕ
+firstWhere p j zero = j
+firstWhere p j (suc n) = cond (p j) j (firstWhere p (suc j) n)
+
 -- the first of n entries from the j-th on that is wanted, or the place behind them
 abbrev pub firstOf : List Entry → Wanted → (j n : ℕ) → ℕ
-firstOf es w j zero = j
-firstOf es w j (suc n) = cond (isWanted w (entryAt es j)) j (firstOf es w (suc j) n)
+firstOf es w = firstWhere (λ i. isWanted w (entryAt es i))

@@ -5,7 +5,7 @@ pub mod Line
 pub mod Accepted
 pub mod Veiled
 pub mod Used
-pub mod Walk
 pub mod Find
+pub mod Twins
 pub mod Aside
 pub mod Proved

@@ -2,11 +2,12 @@
 -- Assumes nothing.
 use Prim.Native.Nat.{ℕ, _+_, _≤_, _<_}
 use mathlib.Core.List.{List, map}
+use mathlib.Core.Bool.{not}
 use mathlib.Core.Option.{some}
 use mathlib.Core.Logic.{_⊎_, _↔_}
 use mathlib.Core.Path.{_≡_}
 use lib.ListN.{length}
-use lib.Dec.{T}
+use lib.Dec.{T, ltb}
 use Rattle.layout.specs.Veil.{Outside}
 use Rattle.layout.specs.Layout.{readRow, accepted, print, veiledBytes}
 use Rattle.layout.specs.RowLaws.{Bytes, Valid}
@@ -15,13 +16,13 @@ use Rattle.rows.specs.Rows as rows
 use Rattle.store.specs.declared.Entry.{Entry}
 use Rattle.store.specs.declared.Asked.{Asked}
 use Rattle.store.specs.declared.Asked.the-variants.{Going}
-use Rattle.store.specs.Rounds.{Question, firstNo, turns, FirstIn}
-use Rattle.store.specs.Kinds.{CONTACT, COURIER}
-use Rattle.store.specs.Store.{Store, entryAt, isOf, partOf, storeOf, openedIn, across, asked, seen, found, granted, refused, restore, replacedPasses}
+use Rattle.store.specs.Rounds.{Question, firstNo, FirstIn, Quiet}
+use Rattle.store.specs.Kinds.{CONTACT, QUEUED, COURIER}
+use Rattle.store.specs.Store.{Store, entryAt, isOf, before, queuedBefore, partOf, storeOf, openedIn, across, asked, seen, found, granted, refused, restore, replacedPasses}
 use Rattle.store.specs.Accepted.{Accepted, FirstNo}
 use Rattle.store.specs.Veiled.{VeilEqual, OpenAgree, OutcomesAlike, FieldsAlike, copied, blanked, Apart, Disjoint}
 use Rattle.store.specs.Used.{used}
-use Rattle.store.specs.Walk.{begin, walk, kept}
+use Rattle.store.specs.Twins.{firstTwin}
 
 -- ---- which stores are granted, and which refusal the others get
 pub record AnswerLaws : Type 0 where
@@ -73,14 +74,18 @@ pub record OpenedLaws : Type 0 where
   pub written-alike : (c c′ : Contact) → FieldsAlike c c′ → Bytes (print (rows.contact 3) c) → Bytes (print (rows.contact 3) c′)
       → Outside (veiledBytes (rows.contact 3) (print (rows.contact 3) c)) (print (rows.contact 3) c) (print (rows.contact 3) c′)
 
--- ---- the near linear fold
-pub record WalkLaws : Type 0 where
-  pub walked : (s : Store) (n : ℕ) (a : Asked) → walk (s .entries) (seen s) 0 n a begin ≡ turns (across s) 0 n a
-  pub slots-kept : (s : Store) → kept (s .entries) 0 (length (s .entries)) begin .slots ≡ found s .«next_slot»
+-- ---- 26, 30 and 32 asked of the index alone: while every answer so far was yes, an entry is new exactly where it stands before the first one that has a twin
+pub record TwinLaws : Type 0 where
+  pub contact-new : (s : Store) (i : ℕ) → i < length (s .entries) → Quiet (across s) 0 i → entryAt (s .entries) i .kind ≡ CONTACT
+      → ltb i (firstTwin (s .entries)) ≡ not (before (s .entries) i CONTACT (entryAt (s .entries) i .id))
+  pub queued-new : (s : Store) (i : ℕ) → i < length (s .entries) → Quiet (across s) 0 i → entryAt (s .entries) i .kind ≡ QUEUED
+      → ltb i (firstTwin (s .entries)) ≡ not (queuedBefore (s .entries) i (entryAt (s .entries) i .id) (entryAt (s .entries) i .msgno))
+  pub slot-new : (s : Store) (i : ℕ) → i < length (s .entries) → Quiet (across s) 0 i → entryAt (s .entries) i .kind ≡ COURIER
+      → ltb i (firstTwin (s .entries)) ≡ not (before (s .entries) i COURIER (entryAt (s .entries) i .id))
 
 pub record StoreLaws : Type 0 where
   pub answers : AnswerLaws
   pub slots : SlotLaws
   pub veiled : BlindLaws
   pub opened : OpenedLaws
-  pub walk : WalkLaws
+  pub twins : TwinLaws

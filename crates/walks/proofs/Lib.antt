@@ -1,3 +1,4 @@
 pub mod Walk
 pub mod Held
 pub mod Again
+pub mod Table

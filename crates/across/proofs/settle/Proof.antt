@@ -14,8 +14,8 @@ start s = s .before .before .before
 
 -- the turn of an entry of this kind
 turn : (k : Kind) (s : tie.After-state) (r : Across) → let a = start s .args in
-    kindOf (a .e .kind) ≡ k → r ≡ settledAs k (a .run .now) (a .e) (a .c) (a .i) (a .p) (a .t) (a .owner) (s .state .given .0 .0) → r ≡ settled (a .run .now) (a .e) (a .c) (a .i) (a .p) (a .t) (a .owner) (a .state)
-turn k s r is so = let a = start s .args in settled-as (a .run .now) (a .e) (a .c) (a .i) (a .p) (a .t) (a .owner) k (s .state .given .1) is so
+    kindOf (a .e .kind) ≡ k → r ≡ settledAs k (a .run .now) (a .e) (a .c) (a .i) (a .p) (a .first) (a .owner) (s .state .given .0 .0) → r ≡ settled (a .run .now) (a .e) (a .c) (a .i) (a .p) (a .first) (a .owner) (a .state)
+turn k s r is so = let a = start s .args in settled-as (a .run .now) (a .e) (a .c) (a .i) (a .p) (a .first) (a .owner) k (s .state .given .1) is so
 
 enum-known-state : tie.Need-enum-known-state
 enum-known-state c = search needs

@@ -1,19 +1,16 @@
 -- `across::settle_queued` meets its contract: one case for each first no.
 use mathlib.Core.Bool.{true, false}
 use mathlib.Core.Path.{_≡_, sym, ap, subst, _∙_}
-use mathlib.Core.Logic.{⊎-elim}
 use lib.Dec.{leb, ltb, eqb}
 use borrow.Author.Needs.{needs}
 use borrow.Author.Tests.{lt-ltb, le-ltb, le-leb, lt-leb}
 use Rattle.rows.specs.Checks.{any}
 use Rattle.store.specs.Store.{partOf}
 use Rattle.across.specs.Owner.{unackedAt, Searchable}
-use Rattle.across.specs.Across.{twinBelow}
-use Rattle.across.proofs.Turns.{pair-kept}
 use Rattle.across.proofs.settle_queued.Statement.{statement}
 use Rattle.across.proofs.settle_queued.Tie as tie
 
--- ---- 27 to 30 are a yes
+-- ---- 27 to 29 are a yes
 abbrev start : tie.Else1 → tie.Start
 start c = c .before .before
 
@@ -44,9 +41,6 @@ asked c = c .before .before .before
 acked : (c : tie.Else4) → let a = start (found (above (asked c))) .args in any (eqb (a .e .msgno)) (unackedAt (partOf (a .run .now) (a .c)) (a .owner)) ≡ false
 acked c = searched (c .before) ∙ c .if4 .left
 
-new : (c : tie.Else5) → let a = start (found (above (asked (c .before .before)))) .args in leb (twinBelow (a .e) (a .i) (a .w)) (a .t) ≡ true
-new c = le-leb _ _ (rw (c .before .twin-below .ensures) at (c .if5 .left))
-
 -- ---- what is asked
 returns : tie.Need-returns
 returns c = rw (le-ltb _ _ (c .if1 .taken))
@@ -68,41 +62,17 @@ is-unacked-requires c κs =
 returns-4 : tie.Need-returns-4
 returns-4 c = let s = c .before .before .before in rw (here (found (above s)), one (above s), sent s, searched (c .before) ∙ c .if4 .taken)
 
-twin-below-requires : tie.Need-twin-below-requires
-twin-below-requires c κs = search needs
-
 returns-5 : tie.Need-returns-5
 returns-5 c =
-    let f = c .before .before in
+    let f = c .before in
     let s = asked f in
-    rw (here (found (above s)), one (above s), sent s, acked f, lt-leb _ _ (rw (c .before .twin-below .ensures) at (c .if5 .taken)))
-
-pair-above-requires : tie.Need-pair-above-requires
-pair-above-requires c κs = search needs
+    rw (here (found (above s)), one (above s), sent s, acked f, le-ltb _ _ (c .if5 .taken))
 
 returns-6 : tie.Need-returns-6
 returns-6 c =
-    let n = c .before .before in
-    let f = n .before .before in
+    let f = c .before in
     let s = asked f in
-    let a = start (found (above s)) .args in
-    let is = sym (c .before .pair-above .ensures) in
-    ⊎-elim
-    (λ x. rw (here (found (above s)), one (above s), sent s, acked f, new n, is ∙ x .0 .taken) (pair-kept (a .w) (a .e) (a .p) (a .owner) true (x .1)))
-    (λ x. rw (here (found (above s)), one (above s), sent s, acked f, new n, is ∙ x .0 .left) (pair-kept (a .w) (a .e) (a .p) (a .owner) false (x .1)))
-    (c .if6 .came)
+    rw (here (found (above s)), one (above s), sent s, acked f, lt-ltb _ _ (c .if5 .left))
 
 pub settle-queued-spec : {M : Type 1} → statement M
-settle-queued-spec =
-    tie.close
-    (tie.spec
-    returns
-    returns-2
-    returns-3
-    part-of-requires
-    is-unacked-requires
-    returns-4
-    twin-below-requires
-    returns-5
-    pair-above-requires
-    returns-6)
+settle-queued-spec = tie.close (tie.spec returns returns-2 returns-3 part-of-requires is-unacked-requires returns-4 returns-5 returns-6)

@@ -41,6 +41,8 @@ use denote.Triple.Table.{entered, cited}
 use denote.Triple.Walked.{says, Stays, walkOf, Walks, ends-at, walked, walk-meets}
 use Rattle.walks.proofs.Walk.{untok, retok, gone, rest-of, drops, drops-go}
 use Rattle.walks.proofs.Held.{Held, number, of-struct, vals, Lies, holds, empty, plus, lends, none, calls-held, into, local}
+use Rattle.store.specs.Store.{entryAt}
+use Rattle.store.specs.Find.{isWanted}
 use Rattle.entries.proofs.Looking.{Looking, begins, goes-on, found-at, ends}
 use Rattle.store.specs.declared.Entry.{Entry}
 use Rattle.store.proofs.Entry as EntryT
@@ -95,10 +97,10 @@ module _ {M : Type 1} (𝓤 : URA M) (H : Heap 𝓤) (A : Atoms 𝓤) (W : Given
     record Turn : Type 0 where
       i : ℕ
       in-i : Lies as-w64 i
-      so : Looking (now entries) wanted from upto i
+      so : Looking (λ k. isWanted wanted (entryAt (now entries) k)) from upto i
 
     abbrev first-turn : Turn
-    first-turn = record { i = from; in-i = in-from; so = begins (now entries) wanted from upto }
+    first-turn = record { i = from; in-i = in-from; so = begins (λ k. isWanted wanted (entryAt (now entries) k)) from upto }
 
     abbrev far : Turn → ℕ
     far t = upto - (t .i)
@@ -150,21 +152,24 @@ module _ {M : Type 1} (𝓤 : URA M) (H : Heap 𝓤) (A : Atoms 𝓤) (W : Given
             gone ! 16 refl refl $ gone ! 14 refl refl $ gone ! 12 refl refl $ gone ! 10 refl refl $ gone ! 8 refl refl $ gone ! 6 refl refl $ gone ! 4 refl refl $ gone ! 2 refl refl $
             free0 ! $
             suffices ! _ (ends-at 𝓤 H A this.ended stayed clauses W bound (as-w64 .val (t .i)) (t .i) (tt, (tt, (tt, (tt, tt)))) (tt, (tt, (tt, (tt, tt))))) $
-            says ! (found-at (now entries) wanted from upto (t .i) next (ltb→lt (t .i) upto less) (t .so) told said) $
+            says ! (found-at (λ k. isWanted wanted (entryAt (now entries) k)) from upto (t .i) next (ltb→lt (t .i) upto less) (t .so) told said) $
             keep ! (0 ∷ []) $ retok ! 1 (κ₀, tt) (q₀, tt) $ frame ! $ nothing ! $ none ! $ none ! $ none ! $ none ! $ frame ! $
             owned ! (UInt w64) (Is (UInt w64)) (as-w64 .makes) (t .i) _ (t .in-i) $ done !)
             (λ said. skips ! $ exec ! C Λ En (rest-of (rest-of (rest-of (rest-of steps.turn-1)))) (anyQ (Turned t)) $
             assigns-last ! (bin ! (local ! (look ! 6 refl)) (lit ! tt) (record { fits = fits (ltb→lt (t .i) upto less) })) (into !)
             (store ! 6 refl (tt, record { fits = fits (ltb→lt (t .i) upto less) })) $
-            forget ! 4 refl $ forget ! 2 refl $ again ! Nearer Before t (record
-            { i = (t .i) + 1; in-i = (refl, fits (ltb→lt (t .i) upto less)); so = goes-on (now entries) wanted from upto (t .i) next (ltb→lt (t .i) upto less) (t .so) told said })
-            (add-one-dec upto (t .i) (ltb→lt (t .i) upto less)))))
+            forget ! 4 refl $ forget ! 2 refl $ again ! Nearer Before t (record {
+              i = (t .i) + 1;
+              in-i = (refl, fits (ltb→lt (t .i) upto less));
+              so = goes-on (λ k. isWanted wanted (entryAt (now entries) k)) from upto (t .i) next (ltb→lt (t .i) upto less)
+                  (t .so) told said;
+            }) (add-one-dec upto (t .i) (ltb→lt (t .i) upto less)))))
             (λ over. jumps ! $ exec ! C Λ En steps.t-3 (atRet En (This .post bound)) $
             assigns ! (of-opd ! (local ! (look ! 6 refl))) (into !) (init ! 16 refl (as-w64 .lawful .typed (t .i) _ (t .in-i) .0)) $ returns ! (look ! 16 refl) $
             gone ! 16 refl refl $ gone ! 14 refl refl $ gone ! 12 refl refl $ gone ! 10 refl refl $ gone ! 8 refl refl $ gone ! 6 refl refl $ gone ! 4 refl refl $ move ! (2 ∷ 3 ∷ []) $
             free1 ! $ free0 ! $
             suffices ! _ (ends-at 𝓤 H A this.ended stayed clauses W bound (as-w64 .val (t .i)) (t .i) (tt, (tt, (tt, (tt, tt)))) (tt, (tt, (tt, (tt, tt))))) $
-            says ! (ends (now entries) wanted from upto (t .i) (nltb→le (t .i) upto over) (t .so)) $
+            says ! (ends (λ k. isWanted wanted (entryAt (now entries) k)) from upto (t .i) (nltb→le (t .i) upto over) (t .so)) $
             keep ! (0 ∷ []) $ retok ! 1 (κ₀, tt) (q₀, tt) $ frame ! $ nothing ! $ none ! $ none ! $ none ! $ none ! $ frame ! $
             owned ! (UInt w64) (Is (UInt w64)) (as-w64 .makes) (t .i) _ (t .in-i) $ done !)
           where

@@ -60,6 +60,9 @@ use Rattle.restore.proofs.turns.Met as turns-thm
 use Rattle.across.proofs.begin as across-begin
 use Rattle.across.proofs.begin.Symbol as across-begin-def
 use Rattle.across.proofs.begin.Met as across-begin-thm
+use Rattle.twins.proofs.first_twin as twins-first-twin
+use Rattle.twins.proofs.first_twin.Symbol as twins-first-twin-def
+use Rattle.twins.proofs.first_twin.Met as twins-first-twin-thm
 use Rattle.restore.proofs.across_turns as across-turns
 use Rattle.restore.proofs.across_turns.Symbol as across-turns-def
 use Rattle.restore.proofs.across_turns.Met as across-turns-thm
@@ -107,6 +110,9 @@ module _ {M : Type 1} (𝓤 : URA M) (H : Heap 𝓤) (A : Atoms 𝓤) (W : Given
   abbrev Its-across-begin : Contract 𝓤
   Its-across-begin = tripleOf 𝓤 H A across-begin.signature (across-begin.spec 𝓤 H A mem calling)
 
+  abbrev Its-twins-first-twin : Contract 𝓤
+  Its-twins-first-twin = tripleOf 𝓤 H A twins-first-twin.signature (twins-first-twin.spec 𝓤 H A mem calling)
+
   abbrev Its-across-turns : Contract 𝓤
   Its-across-turns = tripleOf 𝓤 H A across-turns.signature (across-turns.spec 𝓤 H A mem calling)
 
@@ -118,6 +124,7 @@ module _ {M : Type 1} (𝓤 : URA M) (H : Heap 𝓤) (A : Atoms 𝓤) (W : Given
     pub begin : Triple 𝓤 (C begin-def.name) Its-begin
     pub turns : Triple 𝓤 (C turns-def.name) Its-turns
     pub across-begin : Triple 𝓤 (C across-begin-def.name) Its-across-begin
+    pub twins-first-twin : Triple 𝓤 (C twins-first-twin-def.name) Its-twins-first-twin
     pub across-turns : Triple 𝓤 (C across-turns-def.name) Its-across-turns
     pub answer : Triple 𝓤 (C answer-def.name) Its-answer
 
@@ -180,20 +187,23 @@ module _ {M : Type 1} (𝓤 : URA M) (H : Heap 𝓤) (A : Atoms 𝓤) (W : Given
     abbrev to-state : (n : ℕ) → (begun : Asked) → (ordered : Asked) → (bounded : Asked) → (read : Asked) → Its-across-begin .Ghost
     to-state n begun ordered bounded read = ((tt, tt, tt, (read, tt), (vals as-Asked read, tt)), tt)
 
-    abbrev to-end : (n : ℕ) → (begun : Asked) → (ordered : Asked) → (bounded : Asked) → (read : Asked) → (state : Across) → Its-across-turns .Ghost
-    to-end n begun ordered bounded read state = (
+    abbrev to-twin : (n : ℕ) → (begun : Asked) → (ordered : Asked) → (bounded : Asked) → (read : Asked) → (state : Across) → Its-twins-first-twin .Ghost
+    to-twin n begun ordered bounded read state = (((κ₁, tt), (q₁, tt), tt, (entries, tt), (slice-vals entries, tt)), tt)
+
+    abbrev to-end : (n : ℕ) → (begun : Asked) → (ordered : Asked) → (bounded : Asked) → (read : Asked) → (state : Across) → (twin : ℕ) → Its-across-turns .Ghost
+    to-end n begun ordered bounded read state twin = (
       (
         (κ₀, (κ₁, tt)),
         (q₀, (q₁, tt)),
         tt,
-        (run, (entries, (aside, (state, tt)))),
-        (slice-vals run, (slice-vals entries, (vals as-Aside aside, (vals as-Across state, tt)))),
+        (run, (entries, (aside, (twin, (state, tt))))),
+        (slice-vals run, (slice-vals entries, (vals as-Aside aside, (vals as-w64 twin, (vals as-Across state, tt))))),
       ),
       tt,
     )
 
-    abbrev to-r : (n : ℕ) → (begun : Asked) → (ordered : Asked) → (bounded : Asked) → (read : Asked) → (state : Across) → (end : Across) → Its-answer .Ghost
-    to-r n begun ordered bounded read state end = ((tt, tt, tt, (end, tt), (vals as-Across end, tt)), tt)
+    abbrev to-r : (n : ℕ) → (begun : Asked) → (ordered : Asked) → (bounded : Asked) → (read : Asked) → (state : Across) → (twin : ℕ) → (end : Across) → Its-answer .Ghost
+    to-r n begun ordered bounded read state twin end = ((tt, tt, tt, (end, tt), (vals as-Across end, tt)), tt)
 
     module _ (𝓣 : Tables 𝓤 H) (fm : FmC 𝓤 H (W .laws) (𝓣 .C)) (known : Known (𝓣 .C)) where
       abbrev C : Calls 𝓤 H
@@ -208,67 +218,74 @@ module _ {M : Type 1} (𝓤 : URA M) (H : Heap 𝓤) (A : Atoms 𝓤) (W : Given
           qed W (raw (toks 𝓤 A 2 (κ₀, (κ₁, tt)) (q₀, (q₁, tt))) ∷ ‵ (owns (typesAt (this.signature .params) (κ₀, (κ₁, tt))) (bound .0 .3) (bound .0 .4)) ∷ []) ∵
           untok ! 2 (κ₀, (κ₁, tt)) (q₀, (q₁, tt)) $ move ! (2 ∷ []) $ fsplit ! $ move ! (1 ∷ []) $ fsplit ! $ keep ! (3 ∷ 4 ∷ 2 ∷ 0 ∷ []) $ enter ! C Λ code.function (This .args bound) _ $
           alloc1 ! (λ l₀. alloc1 ! (λ l₁. alloc1 ! (λ l₂. alloc1 ! (λ l₃. alloc1 !
-          (λ l₄. alloc1 ! (λ l₅. alloc1 ! (λ l₆. alloc1 ! (λ l₇. alloc1 ! (λ l₈. alloc1 ! (λ l₉. alloc1 ! (λ l₁₀. alloc0 ! $ params1 ! $
-          pass1 ! (init ! 18 refl (shr-slice-lawful 𝓤 H A W (named 0) κ₀ (UInt w8) .typed run (slice-vals run) in-run .0)) $
-          pass1 ! (init ! 16 refl (shr-slice-lawful 𝓤 H A W (named 1) κ₁ EntryT.the-row .typed entries (slice-vals entries) in-entries .0)) $
-          pass1 ! (init ! 14 refl (as-Aside .lawful .typed aside _ in-aside .0)) $
-          pass0 ! $ move ! (22 ∷ 23 ∷ 24 ∷ 25 ∷ []) $
+          (λ l₄. alloc1 ! (λ l₅. alloc1 ! (λ l₆. alloc1 ! (λ l₇. alloc1 ! (λ l₈. alloc1 ! (λ l₉. alloc1 ! (λ l₁₀. alloc1 ! (λ l₁₁. alloc0 ! $ params1 ! $
+          pass1 ! (init ! 20 refl (shr-slice-lawful 𝓤 H A W (named 0) κ₀ (UInt w8) .typed run (slice-vals run) in-run .0)) $
+          pass1 ! (init ! 18 refl (shr-slice-lawful 𝓤 H A W (named 1) κ₁ EntryT.the-row .typed entries (slice-vals entries) in-entries .0)) $
+          pass1 ! (init ! 16 refl (as-Aside .lawful .typed aside _ in-aside .0)) $
+          pass0 ! $ move ! (24 ∷ 25 ∷ 26 ∷ 27 ∷ []) $
           -- n is entries::entry_count(entries)
           nothing ! $ lends ! 3 (named 1) κ₁ EntryT.the-row entries refl $ move ! (2 ∷ 0 ∷ []) $
           calls-held ! fm entries-entry-count.ended (entries-entry-count.clauses 𝓤 H A mem calling) (known .entries-entry-count) to-n (id⊢ 𝓤 _) as-w64 (λ r ws. id⊢ 𝓤 _)
-          (and-then ! (local ! (look ! 20 refl)) (no-more !)) (λ n is-n in-n.
-          land ! (into !) (init ! 16 refl (as-w64 .lawful .typed n _ in-n .0)) $
+          (and-then ! (local ! (look ! 22 refl)) (no-more !)) (λ n is-n in-n.
+          land ! (into !) (init ! 18 refl (as-w64 .lawful .typed n _ in-n .0)) $
           -- begun is restore::begin(n)
           nothing ! $ plus ! as-w64 n in-n $
           calls-held ! fm begin.ended (begin.clauses 𝓤 H A mem calling) (known .begin) (to-begun n) (id⊢ 𝓤 _) as-Asked (λ r ws. id⊢ 𝓤 _)
-          (and-then ! (local ! (look ! 17 refl)) (no-more !)) (λ begun is-begun in-begun.
-          land ! (into !) (init ! 14 refl (as-Asked .lawful .typed begun _ in-begun .0)) $
+          (and-then ! (local ! (look ! 19 refl)) (no-more !)) (λ begun is-begun in-begun.
+          land ! (into !) (init ! 16 refl (as-Asked .lawful .typed begun _ in-begun .0)) $
           -- ordered is restore::turns(run, entries, aside, 1, begun)
           nothing ! $ plus ! as-Asked begun in-begun $ plus ! as-w8 1 (refl, lit< tt) $ plus ! as-Aside aside in-aside $ lends ! 3 (named 1) κ₁ EntryT.the-row entries refl $
           lends ! 2 (named 0) κ₀ (UInt w8) run refl $ move ! (2 ∷ 1 ∷ 0 ∷ []) $
           calls-held ! fm turns.ended (turns.clauses 𝓤 H A mem calling) (known .turns) (to-ordered n begun) (id⊢ 𝓤 _) as-Asked (λ r ws. id⊢ 𝓤 _)
-          (and-then ! (local ! (look ! 21 refl)) (and-then ! (local ! (look ! 19 refl))
-          (and-then ! (local ! (look ! 17 refl)) (and-then ! (lit ! tt) (and-then ! (local ! (look ! 13 refl)) (no-more !)))))) (λ ordered is-ordered in-ordered.
-          land ! (into !) (init ! 12 refl (as-Asked .lawful .typed ordered _ in-ordered .0)) $
+          (and-then ! (local ! (look ! 23 refl)) (and-then ! (local ! (look ! 21 refl))
+          (and-then ! (local ! (look ! 19 refl)) (and-then ! (lit ! tt) (and-then ! (local ! (look ! 15 refl)) (no-more !)))))) (λ ordered is-ordered in-ordered.
+          land ! (into !) (init ! 14 refl (as-Asked .lawful .typed ordered _ in-ordered .0)) $
           -- bounded is restore::turns(run, entries, aside, 2, ordered)
           nothing ! $ plus ! as-Asked ordered in-ordered $ plus ! as-w8 2 (refl, lit< tt) $ plus ! as-Aside aside in-aside $ lends ! 3 (named 1) κ₁ EntryT.the-row entries refl $
           lends ! 2 (named 0) κ₀ (UInt w8) run refl $ move ! (1 ∷ 2 ∷ 0 ∷ []) $
           calls-held ! fm turns.ended (turns.clauses 𝓤 H A mem calling) (known .turns) (to-bounded n begun ordered) (id⊢ 𝓤 _) as-Asked (λ r ws. id⊢ 𝓤 _)
-          (and-then ! (local ! (look ! 21 refl)) (and-then ! (local ! (look ! 19 refl))
-          (and-then ! (local ! (look ! 17 refl)) (and-then ! (lit ! tt) (and-then ! (local ! (look ! 11 refl)) (no-more !)))))) (λ bounded is-bounded in-bounded.
-          land ! (into !) (init ! 10 refl (as-Asked .lawful .typed bounded _ in-bounded .0)) $
+          (and-then ! (local ! (look ! 23 refl)) (and-then ! (local ! (look ! 21 refl))
+          (and-then ! (local ! (look ! 19 refl)) (and-then ! (lit ! tt) (and-then ! (local ! (look ! 13 refl)) (no-more !)))))) (λ bounded is-bounded in-bounded.
+          land ! (into !) (init ! 12 refl (as-Asked .lawful .typed bounded _ in-bounded .0)) $
           -- read is restore::turns(run, entries, aside, 3, bounded)
           nothing ! $ plus ! as-Asked bounded in-bounded $ plus ! as-w8 3 (refl, lit< tt) $ plus ! as-Aside aside in-aside $ lends ! 3 (named 1) κ₁ EntryT.the-row entries refl $
           lends ! 2 (named 0) κ₀ (UInt w8) run refl $ move ! (1 ∷ 2 ∷ 0 ∷ []) $
           calls-held ! fm turns.ended (turns.clauses 𝓤 H A mem calling) (known .turns) (to-read n begun ordered bounded) (id⊢ 𝓤 _) as-Asked (λ r ws. id⊢ 𝓤 _)
-          (and-then ! (local ! (look ! 21 refl)) (and-then ! (local ! (look ! 19 refl))
-          (and-then ! (local ! (look ! 17 refl)) (and-then ! (lit ! tt) (and-then ! (local ! (look ! 9 refl)) (no-more !)))))) (λ read is-read in-read.
-          land ! (into !) (init ! 8 refl (as-Asked .lawful .typed read _ in-read .0)) $
+          (and-then ! (local ! (look ! 23 refl)) (and-then ! (local ! (look ! 21 refl))
+          (and-then ! (local ! (look ! 19 refl)) (and-then ! (lit ! tt) (and-then ! (local ! (look ! 11 refl)) (no-more !)))))) (λ read is-read in-read.
+          land ! (into !) (init ! 10 refl (as-Asked .lawful .typed read _ in-read .0)) $
           -- state is across::begin(read)
           nothing ! $ plus ! as-Asked read in-read $
           calls-held ! fm across-begin.ended (across-begin.clauses 𝓤 H A mem calling) (known .across-begin) (to-state n begun ordered bounded read) (id⊢ 𝓤 _) as-Across (λ r ws. id⊢ 𝓤 _)
-          (and-then ! (local ! (look ! 9 refl)) (no-more !)) (λ state is-state in-state.
-          land ! (into !) (init ! 6 refl (as-Across .lawful .typed state _ in-state .0)) $
-          -- end is restore::across_turns(run, entries, aside, state)
-          nothing ! $ plus ! as-Across state in-state $ plus ! as-Aside aside in-aside $ lends ! 3 (named 1) κ₁ EntryT.the-row entries refl $ lends ! 2 (named 0) κ₀ (UInt w8) run refl $
-          move ! (1 ∷ 2 ∷ 0 ∷ []) $
-          calls-held ! fm across-turns.ended (across-turns.clauses 𝓤 H A mem calling) (known .across-turns) (to-end n begun ordered bounded read state)
-          (factI 𝓤 _ (emp 𝓤) (begins-at (now run) (now entries) aside n begun ordered bounded read state is-n is-begun is-ordered is-bounded is-read is-state)) as-Across (λ r ws. id⊢ 𝓤 _)
-          (and-then ! (local ! (look ! 21 refl)) (and-then ! (local ! (look ! 19 refl)) (and-then ! (local ! (look ! 17 refl)) (and-then ! (local ! (look ! 5 refl)) (no-more !)))))
-          (λ end is-end in-end.
+          (and-then ! (local ! (look ! 11 refl)) (no-more !)) (λ state is-state in-state.
+          land ! (into !) (init ! 8 refl (as-Across .lawful .typed state _ in-state .0)) $
+          -- twin is twins::first_twin(entries)
+          nothing ! $ lends ! 3 (named 1) κ₁ EntryT.the-row entries refl $ move ! (2 ∷ 0 ∷ []) $
+          calls-held ! fm twins-first-twin.ended (twins-first-twin.clauses 𝓤 H A mem calling) (known .twins-first-twin) (to-twin n begun ordered bounded read state) (id⊢ 𝓤 _) as-w64
+          (λ r ws. id⊢ 𝓤 _)
+          (and-then ! (local ! (look ! 22 refl)) (no-more !)) (λ twin is-twin in-twin.
+          land ! (into !) (init ! 6 refl (as-w64 .lawful .typed twin _ in-twin .0)) $
+          -- end is restore::across_turns(run, entries, aside, twin, state)
+          nothing ! $ plus ! as-Across state in-state $ plus ! as-w64 twin in-twin $ plus ! as-Aside aside in-aside $ lends ! 3 (named 1) κ₁ EntryT.the-row entries refl $
+          lends ! 2 (named 0) κ₀ (UInt w8) run refl $ move ! (2 ∷ 1 ∷ 0 ∷ []) $
+          calls-held ! fm across-turns.ended (across-turns.clauses 𝓤 H A mem calling) (known .across-turns) (to-end n begun ordered bounded read state twin)
+          (factI 𝓤 _ (emp 𝓤) (is-twin, begins-at (now run) (now entries) aside n begun ordered bounded read state is-n is-begun is-ordered is-bounded is-read is-state)) as-Across
+          (λ r ws. id⊢ 𝓤 _)
+          (and-then ! (local ! (look ! 23 refl)) (and-then ! (local ! (look ! 21 refl))
+          (and-then ! (local ! (look ! 19 refl)) (and-then ! (local ! (look ! 5 refl)) (and-then ! (local ! (look ! 7 refl)) (no-more !)))))) (λ end is-end in-end.
           land ! (into !) (init ! 4 refl (as-Across .lawful .typed end _ in-end .0)) $
           -- r is restore::answer(end)
           nothing ! $ plus ! as-Across end in-end $
-          calls-held ! fm answer.ended (answer.clauses 𝓤 H A mem calling) (known .answer) (to-r n begun ordered bounded read state end) (id⊢ 𝓤 _) as-Restored (λ r ws. id⊢ 𝓤 _)
+          calls-held ! fm answer.ended (answer.clauses 𝓤 H A mem calling) (known .answer) (to-r n begun ordered bounded read state twin end) (id⊢ 𝓤 _) as-Restored (λ r ws. id⊢ 𝓤 _)
           (and-then ! (local ! (look ! 5 refl)) (no-more !)) (λ r is-r in-r.
-          land ! (into !) (init ! 24 refl (as-Restored .lawful .typed r _ in-r .0)) $
-          returns ! (look ! 24 refl) $
-          gone ! 24 refl refl $ gone ! 22 refl refl $ gone ! 20 refl refl $ gone ! 18 refl refl $ gone ! 16 refl refl $ gone ! 14 refl refl $ gone ! 12 refl refl $ gone ! 10 refl refl $
-          gone ! 8 refl refl $ gone ! 6 refl refl $ gone ! 4 refl refl $ free0 ! $
+          land ! (into !) (init ! 26 refl (as-Restored .lawful .typed r _ in-r .0)) $
+          returns ! (look ! 26 refl) $
+          gone ! 26 refl refl $ gone ! 24 refl refl $ gone ! 22 refl refl $ gone ! 20 refl refl $ gone ! 18 refl refl $ gone ! 16 refl refl $ gone ! 14 refl refl $ gone ! 12 refl refl $
+          gone ! 10 refl refl $ gone ! 8 refl refl $ gone ! 6 refl refl $ gone ! 4 refl refl $ free0 ! $
           suffices ! _ (ends-at 𝓤 H A this.ended stayed clauses W bound (as-Restored .val r) r (tt, (tt, (tt, tt))) (tt, (tt, (tt, tt)))) $
           says ! (answers (now run) (now entries) aside end r is-end is-r) $
           keep ! (0 ∷ 1 ∷ []) $ retok ! 2 (κ₀, (κ₁, tt)) (q₀, (q₁, tt)) $ frame ! $ nothing ! $ none ! $ none ! $ none ! $ frame ! $
-          owned ! RestoredT.the-row (Is RestoredT.the-row) (as-Restored .makes) r _ in-r $ done !)))))))))))))))))))
+          owned ! RestoredT.the-row (Is RestoredT.the-row) (as-Restored .makes) r _ in-r $ done !)))))))))))))))))))))
 
   module _ (𝓣 : Tables 𝓤 H) (known : Known (𝓣 .C)) where
     walks : Walks 𝓤 H A this.ended stayed (WpFn 𝓤 H (𝓣 .C) (𝓣 .Λ) code.function) clauses
@@ -298,6 +315,8 @@ questions-spec 𝓤 H 𝓜 𝓖 𝓡 =
           turns-def.name turns-def.routine code.calls-restore·turns (turns-thm.met 𝓤 H 𝓜 𝓖 𝓡);
       across-begin = cited 𝓤 H (Its-across-begin 𝓤 H (𝓖 .A) W (𝓜 .mem) (𝓡 .run)) 𝓜 𝓡 code.env
           across-begin-def.name across-begin-def.routine code.calls-across·begin (across-begin-thm.met 𝓤 H 𝓜 𝓖 𝓡);
+      twins-first-twin = cited 𝓤 H (Its-twins-first-twin 𝓤 H (𝓖 .A) W (𝓜 .mem) (𝓡 .run)) 𝓜 𝓡 code.env
+          twins-first-twin-def.name twins-first-twin-def.routine code.calls-twins·first-twin (twins-first-twin-thm.met 𝓤 H 𝓜 𝓖 𝓡);
       across-turns = cited 𝓤 H (Its-across-turns 𝓤 H (𝓖 .A) W (𝓜 .mem) (𝓡 .run)) 𝓜 𝓡 code.env
           across-turns-def.name across-turns-def.routine code.calls-restore·across-turns (across-turns-thm.met 𝓤 H 𝓜 𝓖 𝓡);
       answer = cited 𝓤 H (Its-answer 𝓤 H (𝓖 .A) W (𝓜 .mem) (𝓡 .run)) 𝓜 𝓡 code.env

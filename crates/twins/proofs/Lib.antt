@@ -1,0 +1,5 @@
+pub mod Filter
+pub mod Keys
+pub mod Above
+pub mod Passes
+pub mod Parts

@@ -1,0 +1,154 @@
+-- All passes together find the first entry of all that has a twin, since each entry is of one part; and where all entries rise, there is none.
+-- Assumes nothing.
+use Prim.Native.Nat.{ℕ, _+_, _-_, _/_, _≤_, _<_}
+use mathlib.Core.List.{List}
+use mathlib.Core.Bool.{Bool, true, false, cond}
+use mathlib.Core.Path.{_≡_, refl, sym, ap, _∙_, subst}
+use native.Mathlib.Omega.{arith}
+use native.Mathlib.Decide.{decLe}
+use lib.Bits.{and-le-r}
+use lib.Dec.{leb, ltb, T, leb→le, ltb→lt, lt→ltb, eqb→eq}
+use lib.ListN.{length}
+use Rattle.store.specs.declared.Entry.{Entry}
+use Rattle.store.specs.Store.{entryAt}
+use Rattle.store.specs.Find.{firstWhere}
+use Rattle.store.specs.Twins.{hasTwin, firstTwin}
+use Rattle.store.proofs.Tests.{truth, both, pair, eq→eqb}
+use Rattle.store.proofs.Searches.{FirstAt, first-at, first-is}
+use Rattle.twins.specs.Above.{stopsAt}
+use Rattle.twins.specs.Filter.{hashOf}
+use Rattle.twins.specs.Parts.{FEW, partOf, inPart, twinIn, twinsBelow, fewParts, partsFor, manyParts}
+use Rattle.twins.proofs.Above.{none-twice}
+
+module _ (es : List Entry) where
+  abbrev its : (last i : ℕ) → ℕ
+  its last i = partOf last (hashOf (entryAt es i))
+
+  -- ---- one more part
+  -- before the pass of a part: the first that has a twin, of the parts before it
+  pub record SoFar (last best parts part first : ℕ) : Type 0 where
+    pub upto : part ≤ parts
+    pub same : first ≡ firstWhere (twinsBelow es last part) 0 best
+
+  none-below : (last i : ℕ) → T (twinsBelow es last 0 i) → ⊥
+  none-below last i t = let l = ltb→lt (its last i) 0 (both (hasTwin es i) (ltb (its last i) 0) t .1) in omega arith
+
+  pub none-yet : (last best parts : ℕ) → SoFar last best parts 0 best
+  none-yet last best parts = record {
+    upto = omega arith;
+    same = first-is (twinsBelow es last 0) 0 best best (record { from = omega arith; upto = omega arith; hit = λ l. absurd (omega arith); misses = λ m a b. none-below last m });
+  }
+
+  -- an entry of the parts below the next one is of this part or of one below it
+  module _ (last part i : ℕ) where
+    one-part : T (twinIn es last part i) → T (twinsBelow es last (part + 1) i)
+    one-part t =
+        let so = both (hasTwin es i) (inPart last part (hashOf (entryAt es i))) t in
+        pair (hasTwin es i) (ltb (its last i) (part + 1)) (so .0) (lt→ltb (its last i) (part + 1) (omega (arith, eqb→eq (its last i) part (so .1))))
+
+    more-parts : T (twinsBelow es last part i) → T (twinsBelow es last (part + 1) i)
+    more-parts t =
+        let so = both (hasTwin es i) (ltb (its last i) part) t in
+        pair (hasTwin es i) (ltb (its last i) (part + 1)) (so .0) (lt→ltb (its last i) (part + 1) (omega (arith, ltb→lt (its last i) part (so .1))))
+
+    of-parts : T (twinsBelow es last (part + 1) i) → (T (twinIn es last part i) → ⊥) → (T (twinsBelow es last part i) → ⊥) → ⊥
+    of-parts t this below = go (decLe part (its last i))
+      where
+        so : T (hasTwin es i) × T (ltb (its last i) (part + 1))
+        so = both (hasTwin es i) (ltb (its last i) (part + 1)) t
+
+        low : its last i < part + 1
+        low = ltb→lt (its last i) (part + 1) (so .1)
+
+        go : Dec (part ≤ its last i) → ⊥
+        go (yes a) = let same : its last i ≡ part = omega (arith, low) in this (pair (hasTwin es i) (inPart last part (hashOf (entryAt es i))) (so .0) (eq→eqb (its last i) part same))
+        go (no a) = below (pair (hasTwin es i) (ltb (its last i) part) (so .0) (lt→ltb (its last i) part (omega arith)))
+
+  pub next-part : (last best parts part first next : ℕ) → part < parts → SoFar last best parts part first → next ≡ firstWhere (twinIn es last part) 0 first → SoFar last best parts (part + 1) next
+  next-part last best parts part first next l so told = record { upto = omega arith; same = first-is (twinsBelow es last (part + 1)) 0 best next (subst (FirstAt (twinsBelow es last (part + 1)) 0 best) (sym told) go) }
+    where
+      this : FirstAt (twinIn es last part) 0 first (firstWhere (twinIn es last part) 0 first)
+      this = first-at (twinIn es last part) 0 first
+
+      below : FirstAt (twinsBelow es last part) 0 best first
+      below = subst (FirstAt (twinsBelow es last part) 0 best) (sym (so .same)) (first-at (twinsBelow es last part) 0 best)
+
+      hits : Dec (first ≤ firstWhere (twinIn es last part) 0 first) → firstWhere (twinIn es last part) 0 first < best → T (twinsBelow es last (part + 1) (firstWhere (twinIn es last part) 0 first))
+      hits (yes a) l =
+          let same : firstWhere (twinIn es last part) 0 first ≡ first = omega (arith, this .upto) in
+          rw same (more-parts last part first (below .hit (omega arith)))
+      hits (no a) l = one-part last part (firstWhere (twinIn es last part) 0 first) (this .hit (omega arith))
+
+      go : FirstAt (twinsBelow es last (part + 1)) 0 best (firstWhere (twinIn es last part) 0 first)
+      go = record {
+        from = omega arith;
+        upto = omega (arith, this .upto, below .upto);
+        hit = λ l. hits (decLe first (firstWhere (twinIn es last part) 0 first)) (omega arith);
+        misses = λ m a b t. of-parts last part m t (this .misses m a b) (below .misses m a (omega (arith, this .upto)));
+      }
+
+  pub all-below : (last best parts part first : ℕ) → parts ≤ part → SoFar last best parts part first → first ≡ firstWhere (twinsBelow es last parts) 0 best
+  all-below last best parts part first over so = let same : part ≡ parts = omega (arith, so .upto) in so .same ∙ ap (λ (k : ℕ). firstWhere (twinsBelow es last k) 0 best) same
+
+  -- ---- all parts
+  abbrev whole : ℕ
+  whole = length es
+
+  all-parts : (last parts best : ℕ) → last < parts → firstWhere (twinsBelow es last parts) 0 best ≡ firstWhere (hasTwin es) 0 best
+  all-parts last parts best l = first-is (hasTwin es) 0 best (firstWhere (twinsBelow es last parts) 0 best) (record {
+    from = omega arith;
+    upto = below .upto;
+    hit = λ b. both (hasTwin es found) (ltb (its last found) parts) (below .hit b) .0;
+    misses = λ m a b t. below .misses m a b (pair (hasTwin es m) (ltb (its last m) parts) t (lt→ltb (its last m) parts (omega (arith, and-le-r (hashOf (entryAt es m) / 274877906944) last))));
+  })
+    where
+      found : ℕ
+      found = firstWhere (twinsBelow es last parts) 0 best
+
+      below : FirstAt (twinsBelow es last parts) 0 best found
+      below = first-at (twinsBelow es last parts) 0 best
+
+  no-parts : (last best : ℕ) → firstWhere (twinsBelow es last 0) 0 best ≡ best
+  no-parts last best = sym (none-yet last best 0 .same)
+
+  -- ---- entries that rise
+  all-rise : whole ≤ firstWhere (stopsAt es) 0 whole → whole ≡ firstTwin es
+  all-rise over = first-is (hasTwin es) 0 whole whole (record {
+    from = omega arith;
+    upto = omega arith;
+    hit = λ l. absurd (omega arith);
+    misses = λ m a b. none-twice es whole (λ k l. first-at (stopsAt es) 0 whole .misses k (omega arith) (omega arith)) m b;
+  })
+
+  -- ---- none, few or many
+  some-parts : (n : ℕ) → 0 < partsFor n
+  some-parts n = go (leb n 32768) (leb n 131072) (leb n 524288) (leb n 2097152)
+    where
+      go : (a b c d : Bool) → 0 < cond a 1 (cond b 4 (cond c 16 (cond d 64 256)))
+      go true b c d = omega arith
+      go false true c d = omega arith
+      go false false true d = omega arith
+      go false false false true = omega arith
+      go false false false false = omega arith
+
+  -- the first of so many parts, and the first of so many others
+  abbrev found : (few many : ℕ) → ℕ
+  found few many = firstWhere (twinsBelow es (many - 1) many) 0 (firstWhere (twinsBelow es 0 few) 0 whole)
+
+  found-first : (up : ℕ) → up ≡ firstWhere (stopsAt es) 0 whole → found (fewParts whole up) (manyParts whole up) ≡ firstTwin es
+  found-first up is-up = go (leb whole up) (ltb whole FEW) refl
+    where
+      go : (rise few : Bool) → leb whole up ≡ rise → found (cond rise 0 (cond few 1 0)) (cond rise 0 (cond few 0 (partsFor whole))) ≡ firstTwin es
+      go true few is = no-parts (0 - 1) (firstWhere (twinsBelow es 0 0) 0 whole) ∙ no-parts 0 whole ∙ all-rise (rw is-up at (leb→le whole up (truth (leb whole up) is)))
+      go false true is = no-parts (0 - 1) (firstWhere (twinsBelow es 0 1) 0 whole) ∙ all-parts 0 1 whole (omega arith)
+      go false false is =
+          ap (firstWhere (twinsBelow es (partsFor whole - 1) (partsFor whole)) 0) (no-parts 0 whole) ∙ all-parts (partsFor whole - 1) (partsFor whole) whole (omega (arith, some-parts whole))
+
+  pub of-all : (n up few first many last r : ℕ) → n ≡ whole → up ≡ firstWhere (stopsAt es) 0 whole → few ≡ fewParts n up → first ≡ firstWhere (twinsBelow es 0 few) 0 n
+      → many ≡ manyParts n up → last ≡ many - 1 → r ≡ firstWhere (twinsBelow es last many) 0 first → r ≡ firstTwin es
+  of-all n up few first many last r is-n is-up is-few is-first is-many is-last is-r =
+      let few-is : few ≡ fewParts whole up = is-few ∙ ap (λ (m : ℕ). fewParts m up) is-n in
+      let many-is : many ≡ manyParts whole up = is-many ∙ ap (λ (m : ℕ). manyParts m up) is-n in
+      is-r
+      ∙ (λ k. firstWhere (twinsBelow es ((is-last ∙ ap (λ (m : ℕ). m - 1) many-is) k) (many-is k)) 0 ((is-first ∙ (λ j. firstWhere (twinsBelow es 0 (few-is j)) 0 (is-n j))) k))
+      ∙ found-first up is-up
