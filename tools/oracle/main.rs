@@ -130,7 +130,7 @@ const USAGE: &str =
        oracle samples DIR
        oracle store-cases|sheet-cases DIR
        oracle program-samples DIR
-       oracle speed|restore-speed
+       oracle speed|restore-speed [large]
        oracle scripts|transcript|scripts-rust|sheets|sheets-rust SEED TIMES
        oracle scripts-check|sheets-check SEED TIMES PROGRAM [WORD..]
        oracle sheets-speed|calls-speed PROGRAM [WORD..]
@@ -163,6 +163,10 @@ fn run(words: &[&str]) -> Result<bool, Box<dyn std::error::Error>> {
         }
         ["restore-speed"] => {
             restore_speed::run();
+            Ok(true)
+        }
+        ["restore-speed", "large"] => {
+            restore_speed::run_large();
             Ok(true)
         }
         [name] => compare::run(name, 1, 1),

@@ -46,26 +46,24 @@ const TWICE: Counts = Counts {
     queued: 20_000,
     courier: 20_000,
 };
+const FIVE_TIMES: Counts = Counts {
+    contacts: 5_000,
+    queued: 50_000,
+    courier: 50_000,
+};
+const MILLION: Counts = Counts {
+    contacts: 47_619,
+    queued: 476_190,
+    courier: 476_190,
+};
 
 pub fn run() {
     let mut random = Random::new(1);
-    if cfg!(no_rattle) {
-        println!("no Rattle library: its side is the model");
-    }
-    println!("| Contacts | Queued | Courier | Order | Bytes | Rattle, µs | Rust, µs | Ratio |");
-    println!("|---|---|---|---|---|---|---|---|");
-    for counts in [ONE, SMALL] {
-        let plan = ascending(&mut random, counts);
-        line(&mut random, &plan, "ascending");
-    }
-    let [once, twice] = [LARGE, TWICE].map(|counts| {
-        let mut plan = ascending(&mut random, counts);
-        let ascending = line(&mut random, &plan, "ascending");
-        shuffle(&mut random, &mut plan.contacts);
-        shuffle(&mut random, &mut plan.queued);
-        shuffle(&mut random, &mut plan.courier);
-        [ascending, line(&mut random, &plan, "shuffled")]
-    });
+    head();
+    let plan = ascending(&mut random, ONE);
+    line(&mut random, &plan, "ascending");
+    both_orders(&mut random, SMALL);
+    let [once, twice] = [LARGE, TWICE].map(|counts| both_orders(&mut random, counts));
     for (order, at) in [("ascending", 0), ("shuffled", 1)] {
         println!(
             "twice the rows, {order}: {:.1} times the Rattle's time, {:.1} times the Rust's",
@@ -73,6 +71,33 @@ pub fn run() {
             twice[at].1 / once[at].1
         );
     }
+}
+
+/// The same of larger stores; the last takes a gigabyte.
+pub fn run_large() {
+    let mut random = Random::new(1);
+    head();
+    for counts in [FIVE_TIMES, MILLION] {
+        both_orders(&mut random, counts);
+    }
+}
+
+fn head() {
+    if cfg!(no_rattle) {
+        println!("no Rattle library: its side is the model");
+    }
+    println!("| Contacts | Queued | Courier | Order | Bytes | Rattle, µs | Rust, µs | Ratio |");
+    println!("|---|---|---|---|---|---|---|---|");
+}
+
+/// A line for the rows in ascending order, and one for the same, shuffled within each kind.
+fn both_orders(random: &mut Random, counts: Counts) -> [(f64, f64); 2] {
+    let mut plan = ascending(random, counts);
+    let ascending = line(random, &plan, "ascending");
+    shuffle(random, &mut plan.contacts);
+    shuffle(random, &mut plan.queued);
+    shuffle(random, &mut plan.courier);
+    [ascending, line(random, &plan, "shuffled")]
 }
 
 /// One line of the table: microseconds for one restore, and how many times the Rattle's the Rust's are. The run has the rows

@@ -39,12 +39,23 @@ contactOf e = record { id = e .id; msgno = 0; kind = CONTACT }
 abbrev pub earlier : ℕ → ℕ → ℕ
 earlier a b = cond (leb a b) a b
 
--- how far to look from the start: not at all where it was found, or where nothing is left out
-abbrev pub farLimit : (p near upto : ℕ) → ℕ
-farLimit p near upto = cond (ltb p upto) 0 near
+-- the place of c, if that is below upto and c is the contact; else the other
+abbrev pub placeOr : (e c : Entry) → (place upto other : ℕ) → ℕ
+placeOr e c place upto other = cond (ltb place upto) (cond (isOf CONTACT (e .id) c) place other) other
 
-abbrev pub chosen : (p far-found far upto : ℕ) → ℕ
-chosen p o far upto = cond (ltb p upto) p (cond (ltb o far) o upto)
+-- at `spot`, where a stands, or at `hint`, where b does, if that is below upto; else upto
+abbrev pub tried : (e a : Entry) → (spot : ℕ) → (b : Entry) → (hint upto : ℕ) → ℕ
+tried e a spot b hint upto = placeOr e a spot upto (placeOr e b hint upto upto)
+
+-- it was found at p below upto; or it is looked for from `near` on, and found at q; or from the start up to `far`, and found at o
+abbrev pub nearLimit : (p spot upto : ℕ) → ℕ
+nearLimit p spot upto = cond (ltb p upto) upto (earlier spot upto)
+
+abbrev pub farLimit : (p q near upto : ℕ) → ℕ
+farLimit p q near upto = cond (ltb p upto) 0 (cond (ltb q upto) 0 near)
+
+abbrev pub chosen : (p q o far upto : ℕ) → ℕ
+chosen p q o far upto = cond (ltb p upto) p (cond (ltb q upto) q (cond (ltb o far) o upto))
 
 -- p is where it stands, if that is below upto; else none stands there
 pub record OwnerAt (es : List Entry) (e : Entry) (upto p : ℕ) : Type 0 where

@@ -13,9 +13,10 @@ use store::Wanted;
 ghost use mathlib.Core.Path.{_≡_};
 ghost use lib.Dec.{eqb};
 ghost use Rattle.rows.specs.Checks.{any};
-ghost use Rattle.store.specs.Store.{partOf};
+ghost use Rattle.store.specs.Kinds.{CONTACT};
+ghost use Rattle.store.specs.Store.{isOf, partOf};
 ghost use Rattle.across.specs.Owner.{noOwner, contactSeen, ownerIn, ownerSeen, ownerAside, ownerFrom, ownerFound, unackedAt, Searchable, OwnerStands};
-ghost use Rattle.across.specs.Across.{begunFrom, contactOf, earlier, farLimit, chosen, ownerLimit, spotOf, ownerFor, Reusable};
+ghost use Rattle.across.specs.Across.{begunFrom, contactOf, earlier, placeOr, tried, nearLimit, farLimit, chosen, ownerLimit, spotOf, ownerFor, Reusable};
 ghost use Rattle.across.specs.Across.{lowIn, nextContactIn, depositorIn, deviceTurn, contactTurn, queuedTurn, courierTurn, settled};
 
 // What is asked of a queued row's contact: sent_msgno, and where in its row the unacked numbers start and how many they are.
@@ -169,23 +170,71 @@ pub fn contact_of(e: Entry) -> Wanted
     }
 }
 
-pub fn earlier(a: usize, b: usize) -> usize
+fn earlier(a: usize, b: usize) -> usize
     ensures { λ r. ⌜ r ≡ earlier a b ⌝ }
 {
     if a <= b { a } else { b }
 }
 
-pub fn far_limit(p: usize, near: usize, upto: usize) -> usize
-    ensures { λ r. ⌜ r ≡ farLimit p near upto ⌝ }
+// Whether c is the contact of the queued row e.
+fn is_its(c: Entry, e: Entry) -> bool
+    ensures { λ r. ⌜ r ≡ isOf CONTACT (e .id) c ⌝ }
 {
-    if p < upto { 0 } else { near }
+    if c.kind == store::CONTACT {
+        return c.id == e.id;
+    }
+    false
 }
 
-pub fn chosen(p: usize, o: usize, far: usize, upto: usize) -> usize
-    ensures { λ r. ⌜ r ≡ chosen p o far upto ⌝ }
+// The place of c, if that is below `upto` and c is the contact of e; else the other place.
+fn place_or(e: Entry, c: Entry, place: usize, upto: usize, other: usize) -> usize
+    ensures { λ r. ⌜ r ≡ placeOr e c place upto other ⌝ }
+{
+    if place < upto {
+        if is_its(c, e) {
+            return place;
+        }
+        return other;
+    }
+    other
+}
+
+// Where the contact of e is thought to stand: at `spot`, where a stands, or at `hint`, where b does; `upto` where it stands at neither of them, below `upto`.
+pub fn tried(e: Entry, a: Entry, spot: usize, b: Entry, hint: usize, upto: usize) -> usize
+    ensures { λ r. ⌜ r ≡ tried e a spot b hint upto ⌝ }
+{
+    let other = place_or(e, b, hint, upto, upto);
+    place_or(e, a, spot, upto, other)
+}
+
+// From where on it is looked for: from no place where it was found at p, else from `spot`.
+pub fn near_limit(p: usize, spot: usize, upto: usize) -> usize
+    ensures { λ r. ⌜ r ≡ nearLimit p spot upto ⌝ }
+{
+    if p < upto {
+        return upto;
+    }
+    earlier(spot, upto)
+}
+
+// How far it is looked for from the start: not at all where it was found.
+pub fn far_limit(p: usize, q: usize, near: usize, upto: usize) -> usize
+    ensures { λ r. ⌜ r ≡ farLimit p q near upto ⌝ }
+{
+    if p < upto {
+        return 0;
+    }
+    if q < upto { 0 } else { near }
+}
+
+pub fn chosen(p: usize, q: usize, o: usize, far: usize, upto: usize) -> usize
+    ensures { λ r. ⌜ r ≡ chosen p q o far upto ⌝ }
 {
     if p < upto {
         return p;
+    }
+    if q < upto {
+        return q;
     }
     if o < far { o } else { upto }
 }

@@ -1,4 +1,4 @@
--- Where a queued row's contact is found: what the searches answer, together.
+-- Where a queued row's contact is found: what is compared and what the searches answer, together.
 -- Assumes nothing.
 use Prim.Native.Nat.{ℕ, _+_, _-_, _≤_, _<_}
 use native.Mathlib.Nat.{sub-zero}
@@ -15,7 +15,7 @@ use Rattle.store.specs.Store.{entryAt, isOf}
 use Rattle.store.specs.Find.{isWanted, firstOf}
 use Rattle.store.proofs.Tests.{truth, false-not, both, pair}
 use Rattle.store.proofs.Searches.{FirstAt, first-at}
-use Rattle.across.specs.Across.{contactOf, earlier, farLimit, chosen, OwnerAt}
+use Rattle.across.specs.Across.{contactOf, earlier, placeOr, tried, nearLimit, farLimit, chosen, OwnerAt}
 
 earlier-low : (a b : ℕ) → earlier a b ≤ b
 earlier-low a b = go (leb a b) refl
@@ -38,9 +38,9 @@ module _ (es : List Entry) (e : Entry) where
   wants m t = pair (isIts m) true t tt
 
   -- from `near` on, and else from the start
-  chosen-at : (upto near : ℕ) → near ≤ upto
-      → (let p = firstOf es (contactOf e) near (upto - near) in let far = farLimit p near upto in OwnerAt es e upto (chosen p (firstOf es (contactOf e) 0 far) far upto))
-  chosen-at upto near low = go (ltb p upto) refl
+  searched : (upto near : ℕ) → near ≤ upto
+      → (let p = firstOf es (contactOf e) near (upto - near) in let far = cond (ltb p upto) 0 near in let o = firstOf es (contactOf e) 0 far in OwnerAt es e upto (cond (ltb p upto) p (cond (ltb o far) o upto)))
+  searched upto near low = go (ltb p upto) refl
     where
       p : ℕ
       p = firstOf es (contactOf e) near (upto - near)
@@ -72,10 +72,33 @@ module _ (es : List Entry) (e : Entry) where
       go true is = behind (ltb→lt p upto (truth (ltb p upto) is))
       go false is = before (nltb→le p upto (false-not (ltb p upto) is)) (ltb (firstOf es (contactOf e) 0 near) near) refl
 
-  pub owner-is : (upto spot near p far o r : ℕ) (w : Wanted) → w ≡ contactOf e → near ≡ earlier spot upto → p ≡ firstOf es w near (upto - near) → far ≡ farLimit p near upto
-      → o ≡ firstOf es w 0 (far - 0) → r ≡ chosen p o far upto → OwnerAt es e upto r
-  owner-is upto spot near p far o r w is-w is-near is-p is-far is-o is-r =
-      let p′ : p ≡ firstOf es (contactOf e) (earlier spot upto) (upto - earlier spot upto) = is-p ∙ (λ k. firstOf es (is-w k) (is-near k) (upto - is-near k)) in
-      let far′ : far ≡ farLimit (firstOf es (contactOf e) (earlier spot upto) (upto - earlier spot upto)) (earlier spot upto) upto = is-far ∙ (λ k. farLimit (p′ k) (is-near k) upto) in
+  -- at a place where it is thought to stand, or else by a search
+  found-at : (upto spot p : ℕ) → (p < upto → T (isIts p))
+      → (let near = nearLimit p spot upto in let q = firstOf es (contactOf e) near (upto - near) in let far = farLimit p q near upto in OwnerAt es e upto (chosen p q (firstOf es (contactOf e) 0 far) far upto))
+  found-at upto spot p hit = go (ltb p upto) refl
+    where
+      go : (t : Bool) → ltb p upto ≡ t → (let near = cond t upto (earlier spot upto) in let q = firstOf es (contactOf e) near (upto - near) in let far = cond t 0 (cond (ltb q upto) 0 near) in
+          let o = firstOf es (contactOf e) 0 far in OwnerAt es e upto (cond t p (cond (ltb q upto) q (cond (ltb o far) o upto))))
+      go true is = let l = ltb→lt p upto (truth (ltb p upto) is) in record { hit = hit; misses = λ over. absurd (omega arith) }
+      go false is = searched upto (earlier spot upto) (earlier-low spot upto)
+
+  -- what is compared is the contact
+  place-hit : (place upto other : ℕ) → (other < upto → T (isIts other)) → placeOr e (entryAt es place) place upto other < upto → T (isIts (placeOr e (entryAt es place) place upto other))
+  place-hit place upto other hit = go (ltb place upto) (isIts place) refl
+    where
+      go : (l t : Bool) → isIts place ≡ t → cond l (cond t place other) other < upto → T (isIts (cond l (cond t place other) other))
+      go true true is low = truth (isIts place) is
+      go true false is low = hit low
+      go false t is low = hit low
+
+  tried-hit : (spot hint upto : ℕ) → (let p = tried e (entryAt es spot) spot (entryAt es hint) hint upto in p < upto → T (isIts p))
+  tried-hit spot hint upto = place-hit spot upto (placeOr e (entryAt es hint) hint upto upto) (place-hit hint upto upto (λ l. absurd (omega arith)))
+
+  pub owner-is : (upto spot hint : ℕ) (a b : Entry) (p near q far o r : ℕ) (w : Wanted) → w ≡ contactOf e → a ≡ entryAt es spot → b ≡ entryAt es hint → p ≡ tried e a spot b hint upto
+      → near ≡ nearLimit p spot upto → q ≡ firstOf es w near (upto - near) → far ≡ farLimit p q near upto → o ≡ firstOf es w 0 (far - 0) → r ≡ chosen p q o far upto → OwnerAt es e upto r
+  owner-is upto spot hint a b p near q far o r w is-w is-a is-b is-p is-near is-q is-far is-o is-r =
+      let hit : p < upto → T (isIts p) = subst (λ (x : ℕ). x < upto → T (isIts x)) (sym (is-p ∙ (λ k. tried e (is-a k) spot (is-b k) hint upto))) (tried-hit spot hint upto) in
+      let q′ : q ≡ firstOf es (contactOf e) (nearLimit p spot upto) (upto - nearLimit p spot upto) = is-q ∙ (λ k. firstOf es (is-w k) (is-near k) (upto - is-near k)) in
+      let far′ : far ≡ farLimit p (firstOf es (contactOf e) (nearLimit p spot upto) (upto - nearLimit p spot upto)) (nearLimit p spot upto) upto = is-far ∙ (λ k. farLimit p (q′ k) (is-near k) upto) in
       let o′ = is-o ∙ (ap (firstOf es w 0) (sub-zero far) ∙ (λ j. firstOf es (is-w j) 0 (far′ j))) in
-      subst (OwnerAt es e upto) (sym (is-r ∙ (λ k. chosen (p′ k) (o′ k) (far′ k) upto))) (chosen-at upto (earlier spot upto) (earlier-low spot upto))
+      subst (OwnerAt es e upto) (sym (is-r ∙ (λ k. chosen p (q′ k) (o′ k) (far′ k) upto))) (found-at upto spot p hit)

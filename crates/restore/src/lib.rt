@@ -5,7 +5,7 @@ use store::Aside;
 use store::Asked;
 use store::Entry;
 ghost use mathlib.Core.Path.{_≡_};
-ghost use Prim.Native.Nat.{_+_, _-_, _<_};
+ghost use Prim.Native.Nat.{_+_, _-_, _≤_, _<_};
 ghost use lib.ListN.{length};
 ghost use Rattle.store.specs.Rounds.{turn, turns};
 ghost use Rattle.store.specs.Store.{storeOf, restore};
@@ -14,6 +14,7 @@ ghost use Rattle.rounds.specs.Rounds.{roundOf};
 ghost use Rattle.across.specs.Across.{OwnerAt};
 ghost use Rattle.across.specs.At.{At};
 ghost use Rattle.store.specs.declared.Aside.the-variants.{Nothing};
+ghost use Rattle.restore.specs.Index.{hintIn, turnsDone};
 ghost use Rattle.restore.specs.Restored.{begunWith, ended, answered, questioned};
 
 // next_contact and next_slot; or the number of the question whose answer is no, and the entry's index.
@@ -21,6 +22,12 @@ pub enum Restored {
     Granted(u64, u64),
     Refused(u8, usize),
 }
+
+// How many entries are few: for these a small index is enough.
+const FEW: usize = 1024;
+
+// The highest number of 32 bits.
+const HIGHEST_32: usize = 0xFFFFFFFF;
 
 // No entries: 1 at 0.
 fn begin(n: usize) -> Asked
@@ -78,34 +85,117 @@ fn turns(run: &[u8], entries: &[Entry], aside: Aside, round: u8, asked: Asked) -
     a
 }
 
-// Where the contact of a queued row stands, below `upto`: from the kept spot on, then from the start. `upto` where there is none.
-fn owner_at(entries: &[Entry], e: Entry, upto: usize, spot: usize) -> usize
+// ---- an index of contacts: at an id's place where a contact with such an id may stand. Nothing is known of what it holds, so what it says is compared
+
+fn no_place() -> u32
+    ensures { λ r. ⌜ r ≡ 0 ⌝ }
+{
+    0
+}
+
+// Notes where a contact stands, and answers how many places the index has.
+fn note(index: &mut [u32], e: Entry, i: usize) -> usize
+    ensures { λ r. ⌜ r ≡ length (now (index .exit)) ⌝ }
+{
+    let n = index.len();
+    if e.kind != store::CONTACT {
+        return n;
+    }
+    if n == 0 {
+        return n;
+    }
+    if HIGHEST_32 < i {
+        return n;
+    }
+    let at = e.id as usize & (n - 1);
+    index[at] = i as u32;
+    n
+}
+
+fn note_at(entries: &[Entry], index: &mut [u32], i: usize) -> usize
+    ensures { λ r. ⌜ r ≡ length (now (index .exit)) ⌝ }
+{
+    let e = entries::entry_at(entries, i);
+    note(index, e, i)
+}
+
+// Notes every contact, and answers how many places may be lent.
+fn note_all(entries: &[Entry], index: &mut [u32]) -> usize
+    ensures { λ r. ⌜ r ≤ length (now (index .exit)) ⌝ }
+{
+    let n = entries::entry_count(entries);
+    let mut i = 0;
+    let mut count = 0;
+    while i < n {
+        count = note_at(entries, index, i);
+        i = i + 1;
+    }
+    count
+}
+
+fn in_full(place: u32) -> usize
+    ensures { λ r. ⌜ r ≡ place ⌝ }
+{
+    place as usize
+}
+
+// Where the contact of a queued row may stand; 0 where `upto` is, since nothing is looked for then.
+fn hint_of(index: &[u32], e: Entry, upto: usize) -> usize
+    ensures { λ r. ⌜ r ≡ hintIn (now (index .entry)) e upto ⌝ }
+{
+    if upto == 0 {
+        return 0;
+    }
+    let n = index.len();
+    if n == 0 {
+        return 0;
+    }
+    let at = e.id as usize & (n - 1);
+    in_full(index[at])
+}
+
+// Where the contact of a queued row stands, below `upto`: at the kept spot, or where the index says; else from the kept spot on, and then from the start. `upto`
+// where there is none.
+fn owner_at(entries: &[Entry], index: &[u32], e: Entry, upto: usize, spot: usize) -> usize
     ensures { λ r. ⌜ OwnerAt (now (entries .entry)) e upto r ⌝ }
 {
     let wanted = across::contact_of(e);
-    let near = across::earlier(spot, upto);
-    let p = entries::find(entries, wanted, near, upto);
-    let far = across::far_limit(p, near, upto);
+    let hint = hint_of(index, e, upto);
+    let a = entries::entry_at(entries, spot);
+    let b = entries::entry_at(entries, hint);
+    let p = across::tried(e, a, spot, b, hint, upto);
+    let near = across::near_limit(p, spot, upto);
+    let q = entries::find(entries, wanted, near, upto);
+    let far = across::far_limit(p, q, near, upto);
     let o = entries::find(entries, wanted, 0, far);
-    across::chosen(p, o, far, upto)
+    across::chosen(p, q, o, far, upto)
 }
 
-// One turn of 25 to 33; `twin` is the first entry that has a twin.
-fn across_at(run: &[u8], entries: &[Entry], aside: Aside, twin: usize, i: usize, state: Across) -> Across
+// ---- 25 to 33; `twin` is the first entry that has a twin
+
+fn across_at(
+    run: &[u8],
+    entries: &[Entry],
+    index: &[u32],
+    aside: Aside,
+    twin: usize,
+    i: usize,
+    state: Across,
+) -> Across
     requires { ⌜ (twin ≡ firstTwin (now entries)) × (i < length (now entries)) × At (now run) (now entries) aside i state ⌝ }
     ensures { λ r. ⌜ At (now (run .entry)) (now (entries .entry)) aside (i + 1) r ⌝ }
 {
     let e = entries::entry_at(entries, i);
     let limit = across::owner_limit(e, i, state);
     let spot = across::spot_of(state);
-    let p = owner_at(entries, e, limit, spot);
+    let p = owner_at(entries, index, e, limit, spot);
     let c = entries::entry_at(entries, p);
     let owner = across::owner_of(run, aside, c, p, limit, state);
     across::settle(run, e, c, i, p, twin, owner, state)
 }
 
-// 25 to 33, of all entries.
-fn across_turns(run: &[u8], entries: &[Entry], aside: Aside, twin: usize, state: Across) -> Across
+// Of all entries.
+fn across_turns(run: &[u8], entries: &[Entry], index: &[u32], aside: Aside, twin: usize, state: Across) -> Across
     requires { ⌜ (twin ≡ firstTwin (now entries)) × At (now run) (now entries) aside 0 state ⌝ }
     ensures { λ r. ⌜ At (now (run .entry)) (now (entries .entry)) aside (length (now (entries .entry))) r ⌝ }
 {
@@ -113,8 +203,69 @@ fn across_turns(run: &[u8], entries: &[Entry], aside: Aside, twin: usize, state:
     let mut i = 0;
     let mut after = state;
     while i < n {
-        after = across_at(run, entries, aside, twin, i, after);
+        after = across_at(run, entries, index, aside, twin, i, after);
         i = i + 1;
+    }
+    after
+}
+
+// With an index of 1 KB, and with one of 256 KB.
+fn few_turns(run: &[u8], entries: &[Entry], aside: Aside, twin: usize, state: Across) -> Across
+    requires { ⌜ (twin ≡ firstTwin (now entries)) × At (now run) (now entries) aside 0 state ⌝ }
+    ensures { λ r. ⌜ At (now (run .entry)) (now (entries .entry)) aside (length (now (entries .entry))) r ⌝ }
+{
+    let place = no_place();
+    let mut index = [place; 256];
+    let count = note_all(entries, &mut index[..]);
+    across_turns(run, entries, &index[..count], aside, twin, state)
+}
+
+fn many_turns(run: &[u8], entries: &[Entry], aside: Aside, twin: usize, state: Across) -> Across
+    requires { ⌜ (twin ≡ firstTwin (now entries)) × At (now run) (now entries) aside 0 state ⌝ }
+    ensures { λ r. ⌜ At (now (run .entry)) (now (entries .entry)) aside (length (now (entries .entry))) r ⌝ }
+{
+    let place = no_place();
+    let mut index = [place; 65536];
+    let count = note_all(entries, &mut index[..]);
+    across_turns(run, entries, &index[..count], aside, twin, state)
+}
+
+// How often the turns go with the small index: once for few entries, and else not.
+fn few_times(n: usize) -> usize
+    ensures { λ r. ⌜ r ≤ 1 ⌝ }
+{
+    if n < FEW { 1 } else { 0 }
+}
+
+// ... and with the large one.
+fn many_times(few: usize) -> usize
+    ensures { λ r. ⌜ r ≡ 1 - few ⌝ }
+{
+    if few == 0 { 1 } else { 0 }
+}
+
+fn few_if(run: &[u8], entries: &[Entry], aside: Aside, twin: usize, times: usize, state: Across) -> Across
+    requires { ⌜ (twin ≡ firstTwin (now entries)) × (times ≤ 1) × At (now run) (now entries) aside 0 state ⌝ }
+    ensures { λ r. ⌜ At (now (run .entry)) (now (entries .entry)) aside (turnsDone times (length (now (entries .entry)))) r ⌝ }
+{
+    let mut time = 0;
+    let mut after = state;
+    while time < times {
+        after = few_turns(run, entries, aside, twin, after);
+        time = time + 1;
+    }
+    after
+}
+
+fn many_if(run: &[u8], entries: &[Entry], aside: Aside, twin: usize, times: usize, state: Across) -> Across
+    requires { ⌜ (twin ≡ firstTwin (now entries)) × (times ≤ 1) × At (now run) (now entries) aside (turnsDone (1 - times) (length (now entries))) state ⌝ }
+    ensures { λ r. ⌜ At (now (run .entry)) (now (entries .entry)) aside (length (now (entries .entry))) r ⌝ }
+{
+    let mut time = 0;
+    let mut after = state;
+    while time < times {
+        after = many_turns(run, entries, aside, twin, after);
+        time = time + 1;
     }
     after
 }
@@ -130,7 +281,10 @@ pub fn questions(run: &[u8], entries: &[Entry], aside: Aside) -> Restored
     let read = turns(run, entries, aside, question::VERSION, bounded);
     let state = across::begin(read);
     let twin = twins::first_twin(entries);
-    let end = across_turns(run, entries, aside, twin, state);
+    let few = few_times(n);
+    let some = few_if(run, entries, aside, twin, few, state);
+    let many = many_times(few);
+    let end = many_if(run, entries, aside, twin, many, some);
     answer(end)
 }
 

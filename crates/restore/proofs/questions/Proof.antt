@@ -35,6 +35,7 @@ use denote.Triple.Walked.{says, Stays, walkOf, Walks, ends-at, walked, walk-meet
 use Rattle.walks.proofs.Walk.{untok, retok, gone, drops, drops-go}
 use Rattle.walks.proofs.Held.{Held, number, of-enum, vals, Lies, plus, lends, none, calls-held, into, local}
 use Rattle.restore.proofs.Ends.{begins-at, answers}
+use Rattle.restore.proofs.Index.{other-times, other-left}
 use Rattle.restore.proofs.Restored as RestoredT
 use Rattle.restore.proofs.Restored.Laws as RestoredL
 use Rattle.store.specs.declared.Entry.{Entry}
@@ -63,9 +64,18 @@ use Rattle.across.proofs.begin.Met as across-begin-thm
 use Rattle.twins.proofs.first_twin as twins-first-twin
 use Rattle.twins.proofs.first_twin.Symbol as twins-first-twin-def
 use Rattle.twins.proofs.first_twin.Met as twins-first-twin-thm
-use Rattle.restore.proofs.across_turns as across-turns
-use Rattle.restore.proofs.across_turns.Symbol as across-turns-def
-use Rattle.restore.proofs.across_turns.Met as across-turns-thm
+use Rattle.restore.proofs.few_times as few-times
+use Rattle.restore.proofs.few_times.Symbol as few-times-def
+use Rattle.restore.proofs.few_times.Met as few-times-thm
+use Rattle.restore.proofs.few_if as few-if
+use Rattle.restore.proofs.few_if.Symbol as few-if-def
+use Rattle.restore.proofs.few_if.Met as few-if-thm
+use Rattle.restore.proofs.many_times as many-times
+use Rattle.restore.proofs.many_times.Symbol as many-times-def
+use Rattle.restore.proofs.many_times.Met as many-times-thm
+use Rattle.restore.proofs.many_if as many-if
+use Rattle.restore.proofs.many_if.Symbol as many-if-def
+use Rattle.restore.proofs.many_if.Met as many-if-thm
 use Rattle.restore.proofs.answer as answer
 use Rattle.restore.proofs.answer.Symbol as answer-def
 use Rattle.restore.proofs.answer.Met as answer-thm
@@ -113,8 +123,17 @@ module _ {M : Type 1} (𝓤 : URA M) (H : Heap 𝓤) (A : Atoms 𝓤) (W : Given
   abbrev Its-twins-first-twin : Contract 𝓤
   Its-twins-first-twin = tripleOf 𝓤 H A twins-first-twin.signature (twins-first-twin.spec 𝓤 H A mem calling)
 
-  abbrev Its-across-turns : Contract 𝓤
-  Its-across-turns = tripleOf 𝓤 H A across-turns.signature (across-turns.spec 𝓤 H A mem calling)
+  abbrev Its-few-times : Contract 𝓤
+  Its-few-times = tripleOf 𝓤 H A few-times.signature (few-times.spec 𝓤 H A mem calling)
+
+  abbrev Its-few-if : Contract 𝓤
+  Its-few-if = tripleOf 𝓤 H A few-if.signature (few-if.spec 𝓤 H A mem calling)
+
+  abbrev Its-many-times : Contract 𝓤
+  Its-many-times = tripleOf 𝓤 H A many-times.signature (many-times.spec 𝓤 H A mem calling)
+
+  abbrev Its-many-if : Contract 𝓤
+  Its-many-if = tripleOf 𝓤 H A many-if.signature (many-if.spec 𝓤 H A mem calling)
 
   abbrev Its-answer : Contract 𝓤
   Its-answer = tripleOf 𝓤 H A answer.signature (answer.spec 𝓤 H A mem calling)
@@ -125,7 +144,10 @@ module _ {M : Type 1} (𝓤 : URA M) (H : Heap 𝓤) (A : Atoms 𝓤) (W : Given
     pub turns : Triple 𝓤 (C turns-def.name) Its-turns
     pub across-begin : Triple 𝓤 (C across-begin-def.name) Its-across-begin
     pub twins-first-twin : Triple 𝓤 (C twins-first-twin-def.name) Its-twins-first-twin
-    pub across-turns : Triple 𝓤 (C across-turns-def.name) Its-across-turns
+    pub few-times : Triple 𝓤 (C few-times-def.name) Its-few-times
+    pub few-if : Triple 𝓤 (C few-if-def.name) Its-few-if
+    pub many-times : Triple 𝓤 (C many-times-def.name) Its-many-times
+    pub many-if : Triple 𝓤 (C many-if-def.name) Its-many-if
     pub answer : Triple 𝓤 (C answer-def.name) Its-answer
 
   abbrev clauses : Clauses 𝓤 this.ended
@@ -190,20 +212,40 @@ module _ {M : Type 1} (𝓤 : URA M) (H : Heap 𝓤) (A : Atoms 𝓤) (W : Given
     abbrev to-twin : (n : ℕ) → (begun : Asked) → (ordered : Asked) → (bounded : Asked) → (read : Asked) → (state : Across) → Its-twins-first-twin .Ghost
     to-twin n begun ordered bounded read state = (((κ₁, tt), (q₁, tt), tt, (entries, tt), (slice-vals entries, tt)), tt)
 
-    abbrev to-end : (n : ℕ) → (begun : Asked) → (ordered : Asked) → (bounded : Asked) → (read : Asked) → (state : Across) → (twin : ℕ) → Its-across-turns .Ghost
-    to-end n begun ordered bounded read state twin = (
+    abbrev to-few : (n : ℕ) → (begun : Asked) → (ordered : Asked) → (bounded : Asked) → (read : Asked) → (state : Across) → (twin : ℕ) → Its-few-times .Ghost
+    to-few n begun ordered bounded read state twin = ((tt, tt, tt, (n, tt), (vals as-w64 n, tt)), tt)
+
+    abbrev to-some : (n : ℕ) → (begun : Asked) → (ordered : Asked) → (bounded : Asked) → (read : Asked) → (state : Across) → (twin : ℕ) → (few : ℕ) → Its-few-if .Ghost
+    to-some n begun ordered bounded read state twin few = (
       (
         (κ₀, (κ₁, tt)),
         (q₀, (q₁, tt)),
         tt,
-        (run, (entries, (aside, (twin, (state, tt))))),
-        (slice-vals run, (slice-vals entries, (vals as-Aside aside, (vals as-w64 twin, (vals as-Across state, tt))))),
+        (run, (entries, (aside, (twin, (few, (state, tt)))))),
+        (slice-vals run, (slice-vals entries, (vals as-Aside aside, (vals as-w64 twin, (vals as-w64 few, (vals as-Across state, tt)))))),
       ),
       tt,
     )
 
-    abbrev to-r : (n : ℕ) → (begun : Asked) → (ordered : Asked) → (bounded : Asked) → (read : Asked) → (state : Across) → (twin : ℕ) → (end : Across) → Its-answer .Ghost
-    to-r n begun ordered bounded read state twin end = ((tt, tt, tt, (end, tt), (vals as-Across end, tt)), tt)
+    abbrev to-many : (n : ℕ) → (begun : Asked) → (ordered : Asked) → (bounded : Asked) → (read : Asked) → (state : Across) → (twin : ℕ) → (few : ℕ) → (some : Across) → Its-many-times .Ghost
+    to-many n begun ordered bounded read state twin few some = ((tt, tt, tt, (few, tt), (vals as-w64 few, tt)), tt)
+
+    abbrev to-end : (n : ℕ) → (begun : Asked) → (ordered : Asked) → (bounded : Asked) → (read : Asked) → (state : Across) → (twin : ℕ) → (few : ℕ) → (some : Across) → (many : ℕ) →
+        Its-many-if .Ghost
+    to-end n begun ordered bounded read state twin few some many = (
+      (
+        (κ₀, (κ₁, tt)),
+        (q₀, (q₁, tt)),
+        tt,
+        (run, (entries, (aside, (twin, (many, (some, tt)))))),
+        (slice-vals run, (slice-vals entries, (vals as-Aside aside, (vals as-w64 twin, (vals as-w64 many, (vals as-Across some, tt)))))),
+      ),
+      tt,
+    )
+
+    abbrev to-r : (n : ℕ) → (begun : Asked) → (ordered : Asked) → (bounded : Asked) → (read : Asked) → (state : Across) → (twin : ℕ) → (few : ℕ) → (some : Across) → (many : ℕ) →
+        (end : Across) → Its-answer .Ghost
+    to-r n begun ordered bounded read state twin few some many end = ((tt, tt, tt, (end, tt), (vals as-Across end, tt)), tt)
 
     module _ (𝓣 : Tables 𝓤 H) (fm : FmC 𝓤 H (W .laws) (𝓣 .C)) (known : Known (𝓣 .C)) where
       abbrev C : Calls 𝓤 H
@@ -218,74 +260,97 @@ module _ {M : Type 1} (𝓤 : URA M) (H : Heap 𝓤) (A : Atoms 𝓤) (W : Given
           qed W (raw (toks 𝓤 A 2 (κ₀, (κ₁, tt)) (q₀, (q₁, tt))) ∷ ‵ (owns (typesAt (this.signature .params) (κ₀, (κ₁, tt))) (bound .0 .3) (bound .0 .4)) ∷ []) ∵
           untok ! 2 (κ₀, (κ₁, tt)) (q₀, (q₁, tt)) $ move ! (2 ∷ []) $ fsplit ! $ move ! (1 ∷ []) $ fsplit ! $ keep ! (3 ∷ 4 ∷ 2 ∷ 0 ∷ []) $ enter ! C Λ code.function (This .args bound) _ $
           alloc1 ! (λ l₀. alloc1 ! (λ l₁. alloc1 ! (λ l₂. alloc1 ! (λ l₃. alloc1 !
-          (λ l₄. alloc1 ! (λ l₅. alloc1 ! (λ l₆. alloc1 ! (λ l₇. alloc1 ! (λ l₈. alloc1 ! (λ l₉. alloc1 ! (λ l₁₀. alloc1 ! (λ l₁₁. alloc0 ! $ params1 ! $
-          pass1 ! (init ! 20 refl (shr-slice-lawful 𝓤 H A W (named 0) κ₀ (UInt w8) .typed run (slice-vals run) in-run .0)) $
-          pass1 ! (init ! 18 refl (shr-slice-lawful 𝓤 H A W (named 1) κ₁ EntryT.the-row .typed entries (slice-vals entries) in-entries .0)) $
-          pass1 ! (init ! 16 refl (as-Aside .lawful .typed aside _ in-aside .0)) $
-          pass0 ! $ move ! (24 ∷ 25 ∷ 26 ∷ 27 ∷ []) $
+          (λ l₄. alloc1 ! (λ l₅. alloc1 ! (λ l₆. alloc1 ! (λ l₇. alloc1 ! (λ l₈. alloc1 !
+          (λ l₉. alloc1 ! (λ l₁₀. alloc1 ! (λ l₁₁. alloc1 ! (λ l₁₂. alloc1 ! (λ l₁₃. alloc1 ! (λ l₁₄. alloc0 ! $ params1 ! $
+          pass1 ! (init ! 26 refl (shr-slice-lawful 𝓤 H A W (named 0) κ₀ (UInt w8) .typed run (slice-vals run) in-run .0)) $
+          pass1 ! (init ! 24 refl (shr-slice-lawful 𝓤 H A W (named 1) κ₁ EntryT.the-row .typed entries (slice-vals entries) in-entries .0)) $
+          pass1 ! (init ! 22 refl (as-Aside .lawful .typed aside _ in-aside .0)) $
+          pass0 ! $ move ! (30 ∷ 31 ∷ 32 ∷ 33 ∷ []) $
           -- n is entries::entry_count(entries)
           nothing ! $ lends ! 3 (named 1) κ₁ EntryT.the-row entries refl $ move ! (2 ∷ 0 ∷ []) $
           calls-held ! fm entries-entry-count.ended (entries-entry-count.clauses 𝓤 H A mem calling) (known .entries-entry-count) to-n (id⊢ 𝓤 _) as-w64 (λ r ws. id⊢ 𝓤 _)
-          (and-then ! (local ! (look ! 22 refl)) (no-more !)) (λ n is-n in-n.
-          land ! (into !) (init ! 18 refl (as-w64 .lawful .typed n _ in-n .0)) $
+          (and-then ! (local ! (look ! 28 refl)) (no-more !)) (λ n is-n in-n.
+          land ! (into !) (init ! 24 refl (as-w64 .lawful .typed n _ in-n .0)) $
           -- begun is restore::begin(n)
           nothing ! $ plus ! as-w64 n in-n $
           calls-held ! fm begin.ended (begin.clauses 𝓤 H A mem calling) (known .begin) (to-begun n) (id⊢ 𝓤 _) as-Asked (λ r ws. id⊢ 𝓤 _)
-          (and-then ! (local ! (look ! 19 refl)) (no-more !)) (λ begun is-begun in-begun.
-          land ! (into !) (init ! 16 refl (as-Asked .lawful .typed begun _ in-begun .0)) $
+          (and-then ! (local ! (look ! 25 refl)) (no-more !)) (λ begun is-begun in-begun.
+          land ! (into !) (init ! 22 refl (as-Asked .lawful .typed begun _ in-begun .0)) $
           -- ordered is restore::turns(run, entries, aside, 1, begun)
           nothing ! $ plus ! as-Asked begun in-begun $ plus ! as-w8 1 (refl, lit< tt) $ plus ! as-Aside aside in-aside $ lends ! 3 (named 1) κ₁ EntryT.the-row entries refl $
           lends ! 2 (named 0) κ₀ (UInt w8) run refl $ move ! (2 ∷ 1 ∷ 0 ∷ []) $
           calls-held ! fm turns.ended (turns.clauses 𝓤 H A mem calling) (known .turns) (to-ordered n begun) (id⊢ 𝓤 _) as-Asked (λ r ws. id⊢ 𝓤 _)
-          (and-then ! (local ! (look ! 23 refl)) (and-then ! (local ! (look ! 21 refl))
-          (and-then ! (local ! (look ! 19 refl)) (and-then ! (lit ! tt) (and-then ! (local ! (look ! 15 refl)) (no-more !)))))) (λ ordered is-ordered in-ordered.
-          land ! (into !) (init ! 14 refl (as-Asked .lawful .typed ordered _ in-ordered .0)) $
+          (and-then ! (local ! (look ! 29 refl)) (and-then ! (local ! (look ! 27 refl))
+          (and-then ! (local ! (look ! 25 refl)) (and-then ! (lit ! tt) (and-then ! (local ! (look ! 21 refl)) (no-more !)))))) (λ ordered is-ordered in-ordered.
+          land ! (into !) (init ! 20 refl (as-Asked .lawful .typed ordered _ in-ordered .0)) $
           -- bounded is restore::turns(run, entries, aside, 2, ordered)
           nothing ! $ plus ! as-Asked ordered in-ordered $ plus ! as-w8 2 (refl, lit< tt) $ plus ! as-Aside aside in-aside $ lends ! 3 (named 1) κ₁ EntryT.the-row entries refl $
           lends ! 2 (named 0) κ₀ (UInt w8) run refl $ move ! (1 ∷ 2 ∷ 0 ∷ []) $
           calls-held ! fm turns.ended (turns.clauses 𝓤 H A mem calling) (known .turns) (to-bounded n begun ordered) (id⊢ 𝓤 _) as-Asked (λ r ws. id⊢ 𝓤 _)
-          (and-then ! (local ! (look ! 23 refl)) (and-then ! (local ! (look ! 21 refl))
-          (and-then ! (local ! (look ! 19 refl)) (and-then ! (lit ! tt) (and-then ! (local ! (look ! 13 refl)) (no-more !)))))) (λ bounded is-bounded in-bounded.
-          land ! (into !) (init ! 12 refl (as-Asked .lawful .typed bounded _ in-bounded .0)) $
+          (and-then ! (local ! (look ! 29 refl)) (and-then ! (local ! (look ! 27 refl))
+          (and-then ! (local ! (look ! 25 refl)) (and-then ! (lit ! tt) (and-then ! (local ! (look ! 19 refl)) (no-more !)))))) (λ bounded is-bounded in-bounded.
+          land ! (into !) (init ! 18 refl (as-Asked .lawful .typed bounded _ in-bounded .0)) $
           -- read is restore::turns(run, entries, aside, 3, bounded)
           nothing ! $ plus ! as-Asked bounded in-bounded $ plus ! as-w8 3 (refl, lit< tt) $ plus ! as-Aside aside in-aside $ lends ! 3 (named 1) κ₁ EntryT.the-row entries refl $
           lends ! 2 (named 0) κ₀ (UInt w8) run refl $ move ! (1 ∷ 2 ∷ 0 ∷ []) $
           calls-held ! fm turns.ended (turns.clauses 𝓤 H A mem calling) (known .turns) (to-read n begun ordered bounded) (id⊢ 𝓤 _) as-Asked (λ r ws. id⊢ 𝓤 _)
-          (and-then ! (local ! (look ! 23 refl)) (and-then ! (local ! (look ! 21 refl))
-          (and-then ! (local ! (look ! 19 refl)) (and-then ! (lit ! tt) (and-then ! (local ! (look ! 11 refl)) (no-more !)))))) (λ read is-read in-read.
-          land ! (into !) (init ! 10 refl (as-Asked .lawful .typed read _ in-read .0)) $
+          (and-then ! (local ! (look ! 29 refl)) (and-then ! (local ! (look ! 27 refl))
+          (and-then ! (local ! (look ! 25 refl)) (and-then ! (lit ! tt) (and-then ! (local ! (look ! 17 refl)) (no-more !)))))) (λ read is-read in-read.
+          land ! (into !) (init ! 16 refl (as-Asked .lawful .typed read _ in-read .0)) $
           -- state is across::begin(read)
           nothing ! $ plus ! as-Asked read in-read $
           calls-held ! fm across-begin.ended (across-begin.clauses 𝓤 H A mem calling) (known .across-begin) (to-state n begun ordered bounded read) (id⊢ 𝓤 _) as-Across (λ r ws. id⊢ 𝓤 _)
-          (and-then ! (local ! (look ! 11 refl)) (no-more !)) (λ state is-state in-state.
-          land ! (into !) (init ! 8 refl (as-Across .lawful .typed state _ in-state .0)) $
+          (and-then ! (local ! (look ! 17 refl)) (no-more !)) (λ state is-state in-state.
+          land ! (into !) (init ! 14 refl (as-Across .lawful .typed state _ in-state .0)) $
           -- twin is twins::first_twin(entries)
           nothing ! $ lends ! 3 (named 1) κ₁ EntryT.the-row entries refl $ move ! (2 ∷ 0 ∷ []) $
           calls-held ! fm twins-first-twin.ended (twins-first-twin.clauses 𝓤 H A mem calling) (known .twins-first-twin) (to-twin n begun ordered bounded read state) (id⊢ 𝓤 _) as-w64
           (λ r ws. id⊢ 𝓤 _)
-          (and-then ! (local ! (look ! 22 refl)) (no-more !)) (λ twin is-twin in-twin.
-          land ! (into !) (init ! 6 refl (as-w64 .lawful .typed twin _ in-twin .0)) $
-          -- end is restore::across_turns(run, entries, aside, twin, state)
-          nothing ! $ plus ! as-Across state in-state $ plus ! as-w64 twin in-twin $ plus ! as-Aside aside in-aside $ lends ! 3 (named 1) κ₁ EntryT.the-row entries refl $
-          lends ! 2 (named 0) κ₀ (UInt w8) run refl $ move ! (2 ∷ 1 ∷ 0 ∷ []) $
-          calls-held ! fm across-turns.ended (across-turns.clauses 𝓤 H A mem calling) (known .across-turns) (to-end n begun ordered bounded read state twin)
-          (factI 𝓤 _ (emp 𝓤) (is-twin, begins-at (now run) (now entries) aside n begun ordered bounded read state is-n is-begun is-ordered is-bounded is-read is-state)) as-Across
+          (and-then ! (local ! (look ! 28 refl)) (no-more !)) (λ twin is-twin in-twin.
+          land ! (into !) (init ! 12 refl (as-w64 .lawful .typed twin _ in-twin .0)) $
+          -- few is restore::few_times(n)
+          nothing ! $ plus ! as-w64 n in-n $
+          calls-held ! fm few-times.ended (few-times.clauses 𝓤 H A mem calling) (known .few-times) (to-few n begun ordered bounded read state twin) (id⊢ 𝓤 _) as-w64 (λ r ws. id⊢ 𝓤 _)
+          (and-then ! (local ! (look ! 25 refl)) (no-more !)) (λ few is-few in-few.
+          land ! (into !) (init ! 10 refl (as-w64 .lawful .typed few _ in-few .0)) $
+          -- some is restore::few_if(run, entries, aside, twin, few, state)
+          nothing ! $ plus ! as-Across state in-state $ plus ! as-w64 few in-few $ plus ! as-w64 twin in-twin $ plus ! as-Aside aside in-aside $
+          lends ! 3 (named 1) κ₁ EntryT.the-row entries refl $ lends ! 2 (named 0) κ₀ (UInt w8) run refl $ move ! (2 ∷ 1 ∷ 0 ∷ []) $
+          calls-held ! fm few-if.ended (few-if.clauses 𝓤 H A mem calling) (known .few-if) (to-some n begun ordered bounded read state twin few)
+          (factI 𝓤 _ (emp 𝓤) (is-twin, is-few, begins-at (now run) (now entries) aside n begun ordered bounded read state is-n is-begun is-ordered is-bounded is-read is-state)) as-Across
           (λ r ws. id⊢ 𝓤 _)
-          (and-then ! (local ! (look ! 23 refl)) (and-then ! (local ! (look ! 21 refl))
-          (and-then ! (local ! (look ! 19 refl)) (and-then ! (local ! (look ! 5 refl)) (and-then ! (local ! (look ! 7 refl)) (no-more !)))))) (λ end is-end in-end.
+          (and-then ! (local ! (look ! 29 refl)) (and-then ! (local ! (look ! 27 refl))
+          (and-then ! (local ! (look ! 25 refl)) (and-then ! (local ! (look ! 11 refl)) (and-then ! (local ! (look ! 9 refl)) (and-then ! (local ! (look ! 13 refl)) (no-more !)))))))
+          (λ some is-some in-some.
+          land ! (into !) (init ! 8 refl (as-Across .lawful .typed some _ in-some .0)) $
+          -- many is restore::many_times(few)
+          nothing ! $ plus ! as-w64 few in-few $
+          calls-held ! fm many-times.ended (many-times.clauses 𝓤 H A mem calling) (known .many-times) (to-many n begun ordered bounded read state twin few some) (id⊢ 𝓤 _) as-w64
+          (λ r ws. id⊢ 𝓤 _)
+          (and-then ! (local ! (look ! 11 refl)) (no-more !)) (λ many is-many in-many.
+          land ! (into !) (init ! 6 refl (as-w64 .lawful .typed many _ in-many .0)) $
+          -- end is restore::many_if(run, entries, aside, twin, many, some)
+          nothing ! $ plus ! as-Across some in-some $ plus ! as-w64 many in-many $ plus ! as-w64 twin in-twin $ plus ! as-Aside aside in-aside $
+          lends ! 3 (named 1) κ₁ EntryT.the-row entries refl $ lends ! 2 (named 0) κ₀ (UInt w8) run refl $ move ! (1 ∷ 2 ∷ 0 ∷ []) $
+          calls-held ! fm many-if.ended (many-if.clauses 𝓤 H A mem calling) (known .many-if) (to-end n begun ordered bounded read state twin few some many)
+          (factI 𝓤 _ (emp 𝓤) (is-twin, other-times few many is-few is-many .0, other-left (now run) (now entries) aside few many some is-few is-many is-some)) as-Across (λ r ws. id⊢ 𝓤 _)
+          (and-then ! (local ! (look ! 29 refl)) (and-then ! (local ! (look ! 27 refl))
+          (and-then ! (local ! (look ! 25 refl)) (and-then ! (local ! (look ! 11 refl)) (and-then ! (local ! (look ! 5 refl)) (and-then ! (local ! (look ! 7 refl)) (no-more !)))))))
+          (λ end is-end in-end.
           land ! (into !) (init ! 4 refl (as-Across .lawful .typed end _ in-end .0)) $
           -- r is restore::answer(end)
           nothing ! $ plus ! as-Across end in-end $
-          calls-held ! fm answer.ended (answer.clauses 𝓤 H A mem calling) (known .answer) (to-r n begun ordered bounded read state twin end) (id⊢ 𝓤 _) as-Restored (λ r ws. id⊢ 𝓤 _)
+          calls-held ! fm answer.ended (answer.clauses 𝓤 H A mem calling) (known .answer) (to-r n begun ordered bounded read state twin few some many end) (id⊢ 𝓤 _) as-Restored
+          (λ r ws. id⊢ 𝓤 _)
           (and-then ! (local ! (look ! 5 refl)) (no-more !)) (λ r is-r in-r.
-          land ! (into !) (init ! 26 refl (as-Restored .lawful .typed r _ in-r .0)) $
-          returns ! (look ! 26 refl) $
-          gone ! 26 refl refl $ gone ! 24 refl refl $ gone ! 22 refl refl $ gone ! 20 refl refl $ gone ! 18 refl refl $ gone ! 16 refl refl $ gone ! 14 refl refl $ gone ! 12 refl refl $
-          gone ! 10 refl refl $ gone ! 8 refl refl $ gone ! 6 refl refl $ gone ! 4 refl refl $ free0 ! $
+          land ! (into !) (init ! 32 refl (as-Restored .lawful .typed r _ in-r .0)) $
+          returns ! (look ! 32 refl) $
+          gone ! 32 refl refl $ gone ! 30 refl refl $ gone ! 28 refl refl $ gone ! 26 refl refl $ gone ! 24 refl refl $ gone ! 22 refl refl $ gone ! 20 refl refl $ gone ! 18 refl refl $
+          gone ! 16 refl refl $ gone ! 14 refl refl $ gone ! 12 refl refl $ gone ! 10 refl refl $ gone ! 8 refl refl $ gone ! 6 refl refl $ gone ! 4 refl refl $ free0 ! $
           suffices ! _ (ends-at 𝓤 H A this.ended stayed clauses W bound (as-Restored .val r) r (tt, (tt, (tt, tt))) (tt, (tt, (tt, tt)))) $
           says ! (answers (now run) (now entries) aside end r is-end is-r) $
           keep ! (0 ∷ 1 ∷ []) $ retok ! 2 (κ₀, (κ₁, tt)) (q₀, (q₁, tt)) $ frame ! $ nothing ! $ none ! $ none ! $ none ! $ frame ! $
-          owned ! RestoredT.the-row (Is RestoredT.the-row) (as-Restored .makes) r _ in-r $ done !)))))))))))))))))))))
+          owned ! RestoredT.the-row (Is RestoredT.the-row) (as-Restored .makes) r _ in-r $ done !)))))))))))))))))))))))))))
 
   module _ (𝓣 : Tables 𝓤 H) (known : Known (𝓣 .C)) where
     walks : Walks 𝓤 H A this.ended stayed (WpFn 𝓤 H (𝓣 .C) (𝓣 .Λ) code.function) clauses
@@ -317,8 +382,14 @@ questions-spec 𝓤 H 𝓜 𝓖 𝓡 =
           across-begin-def.name across-begin-def.routine code.calls-across·begin (across-begin-thm.met 𝓤 H 𝓜 𝓖 𝓡);
       twins-first-twin = cited 𝓤 H (Its-twins-first-twin 𝓤 H (𝓖 .A) W (𝓜 .mem) (𝓡 .run)) 𝓜 𝓡 code.env
           twins-first-twin-def.name twins-first-twin-def.routine code.calls-twins·first-twin (twins-first-twin-thm.met 𝓤 H 𝓜 𝓖 𝓡);
-      across-turns = cited 𝓤 H (Its-across-turns 𝓤 H (𝓖 .A) W (𝓜 .mem) (𝓡 .run)) 𝓜 𝓡 code.env
-          across-turns-def.name across-turns-def.routine code.calls-restore·across-turns (across-turns-thm.met 𝓤 H 𝓜 𝓖 𝓡);
+      few-times = cited 𝓤 H (Its-few-times 𝓤 H (𝓖 .A) W (𝓜 .mem) (𝓡 .run)) 𝓜 𝓡 code.env
+          few-times-def.name few-times-def.routine code.calls-restore·few-times (few-times-thm.met 𝓤 H 𝓜 𝓖 𝓡);
+      few-if = cited 𝓤 H (Its-few-if 𝓤 H (𝓖 .A) W (𝓜 .mem) (𝓡 .run)) 𝓜 𝓡 code.env
+          few-if-def.name few-if-def.routine code.calls-restore·few-if (few-if-thm.met 𝓤 H 𝓜 𝓖 𝓡);
+      many-times = cited 𝓤 H (Its-many-times 𝓤 H (𝓖 .A) W (𝓜 .mem) (𝓡 .run)) 𝓜 𝓡 code.env
+          many-times-def.name many-times-def.routine code.calls-restore·many-times (many-times-thm.met 𝓤 H 𝓜 𝓖 𝓡);
+      many-if = cited 𝓤 H (Its-many-if 𝓤 H (𝓖 .A) W (𝓜 .mem) (𝓡 .run)) 𝓜 𝓡 code.env
+          many-if-def.name many-if-def.routine code.calls-restore·many-if (many-if-thm.met 𝓤 H 𝓜 𝓖 𝓡);
       answer = cited 𝓤 H (Its-answer 𝓤 H (𝓖 .A) W (𝓜 .mem) (𝓡 .run)) 𝓜 𝓡 code.env
           answer-def.name answer-def.routine code.calls-restore·answer (answer-thm.met 𝓤 H 𝓜 𝓖 𝓡);
     }))

@@ -1,0 +1,7 @@
+crate = "restore"
+fn = "note_all"
+invariant = "{s} ≤ length {index}"
+start = "zero-le"
+next = "all-noted {next_index} {next} {told}"
+ends = "{so}"
+uses = ["use Prim.Native.Nat.{zero-le}", "use Rattle.restore.proofs.Index.{all-noted}"]

@@ -1,0 +1,4 @@
+crate = "restore"
+fn = "note_at"
+ends = "is-r"
+uses = []
