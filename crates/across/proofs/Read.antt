@@ -20,10 +20,12 @@ use Rattle.rows.proofs.Proved.{proved}
 use Rattle.lists.specs.Lists as lists
 use Rattle.lists.proofs.Ends.{none-left}
 use Rattle.store.specs.Kinds.{contact, Seen, seenOf}
-use Rattle.contact.specs.Check.{checked, contactFrom, Places}
+use Rattle.contact.specs.Check.{contactAt, checked, sentChecked, contactFrom, Places}
 use Rattle.contact.specs.declared.ContactAt.{ContactAt}
-use Rattle.contact.specs.declared.ContactCheck.{ContactCheck}
-use Rattle.contact.specs.declared.ContactCheck.the-variants.{Fields, Refused}
+use Rattle.contact.specs.declared.ContactCheck.the-variants.{Fields}
+use Rattle.contact.specs.declared.SentCheck.{SentCheck}
+use Rattle.contact.specs.declared.SentCheck.the-variants as sent
+use Rattle.contact.proofs.Placed.{check-says, check-placed}
 use Rattle.store.specs.declared.Aside.{Aside}
 use Rattle.store.specs.declared.Aside.the-variants as left
 use Rattle.store.specs.Aside.{asideSeen}
@@ -57,18 +59,11 @@ module _ {A : Type 0} (q : ℕ) where
   said-yes (ask p false k) v e = absurd (let z : _≡_ {A = ℕ} 0 1 = cc in omega arith)
 
 -- ---- a contact that was accepted, and its unacked numbers
-abbrev checkOwner : ContactCheck → Owner
-checkOwner (Fields at) = ownerAt at
-checkOwner (Refused q) = noOwner
+abbrev sentOwner : SentCheck → Owner
+sentOwner (sent.Fields at) = record { unacked = at .unacked .first; count = at .unacked .count; «sent_msgno» = at .«sent_msgno» }
+sentOwner (sent.Refused q) = noOwner
 
-checked-owner : (version : ℕ) (a : Answer Contact) → checkOwner (checked version a) ≡ ownerRead version a
-checked-owner version (accepted v) = refl
-checked-owner version (refusedBy q) = refl
-
-pub owner-read : (version : ℕ) (row : List ℕ) {answer is : ContactCheck} → answer ≡ checked version (readRow (rows.contact version) row) → answer ≡ is → checkOwner is ≡ ownerIn version row
-owner-read version row said known = ap checkOwner (sym known ∙ said) ∙ checked-owner version (readRow (rows.contact version) row)
-
-pub found : (version : ℕ) (row : List ℕ) (at : ContactAt) → Bytes row
+found : (version : ℕ) (row : List ℕ) (at : ContactAt) → Bytes row
     → readRow (rows.contact version) row ≡ accepted (contactFrom row at) → Places row at → OwnerStands (contactSeen version row) row (ownerAt at)
 found version row at by e p = (
   sym (ap (seenOf contact) e),
@@ -92,8 +87,21 @@ bare row sent = (
 )
 
 -- of a contact that was refused
-pub refused : (version : ℕ) (row : List ℕ) {q : ℕ} → readRow (rows.contact version) row ≡ refusedBy q → OwnerStands (contactSeen version row) row noOwner
+refused : (version : ℕ) (row : List ℕ) {q : ℕ} → readRow (rows.contact version) row ≡ refusedBy q → OwnerStands (contactSeen version row) row noOwner
 refused version row e = subst (λ (x : Seen). OwnerStands x row noOwner) (sym (ap (seenOf contact) e)) (bare row 0)
+
+-- what is read of it is what is seen of it
+abbrev pub Reads : (version : ℕ) → (row : List ℕ) → SentCheck → Type 0
+Reads version row r = (sentOwner r ≡ ownerIn version row) × OwnerStands (contactSeen version row) row (sentOwner r)
+
+reads : (version : ℕ) (row : List ℕ) → Bytes row → (a : Answer Contact) → readRow (rows.contact version) row ≡ a → Reads version row (sentChecked (checked version a))
+reads version row by (accepted v) e =
+    let answer : Fields (contactAt version v) ≡ checked version (readRow (rows.contact version) row) = ap (checked version) (sym e) in
+    (ap (ownerRead version) (sym e), found version row (contactAt version v) by (sym (check-says row by version answer)) (check-placed row by version answer))
+reads version row by (refusedBy q) e = (ap (ownerRead version) (sym e), refused version row e)
+
+pub owner-read : (version : ℕ) (row : List ℕ) → Bytes row → {r known : SentCheck} → r ≡ sentChecked (checked version (readRow (rows.contact version) row)) → r ≡ known → Reads version row known
+owner-read version row by said known = subst (Reads version row) (sym said ∙ known) (reads version row by (readRow (rows.contact version) row) refl)
 
 -- ... and of the one aside
 pub left-aside : (aside : Aside) (row : List ℕ) → OwnerStands (asideSeen aside) row (ownerAside aside)

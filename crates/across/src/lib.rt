@@ -1,6 +1,6 @@
 // Questions 25 to 33, across the rows: of each entry in turn, against those before it. The first entry that has a twin before it is known in advance, so that
 // an entry is new by its index; a queued row's contact is looked for from where the last one was found on, and what is asked of that contact is kept.
-use contact::ContactCheck;
+use contact::SentCheck;
 use courier::CourierCheck;
 use courier::HeldAt;
 use device::DeviceCheck;
@@ -98,14 +98,14 @@ fn owner_in(version: u32, row: &[u8]) -> Owner
     ensures { λ r. ⌜ r ≡ ownerIn version (now (row .entry)) ⌝ }
     ensures { λ r. ⌜ OwnerStands (contactSeen version (now (row .entry))) (now (row .entry)) r ⌝ }
 {
-    let ContactCheck::Fields(at) = contact::check_contact(version, row) else {
+    let SentCheck::Fields(at) = contact::check_sent(version, row) else {
         return no_owner();
     };
-    let unacked = at.numbers.unacked;
+    let unacked = at.unacked;
     Owner {
         unacked: unacked.first,
         count: unacked.count,
-        sent_msgno: at.keys.sent_msgno,
+        sent_msgno: at.sent_msgno,
     }
 }
 

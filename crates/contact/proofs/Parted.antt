@@ -11,7 +11,7 @@ use lib.Dec.{ltb}
 use Rattle.layout.specs.Questions.{«ROW_END»}
 use Rattle.layout.specs.Read.{Read, refused, said}
 use Rattle.layout.specs.Field.{readAt}
-use Rattle.layout.specs.Layout.{parse, print, group, Answer, answer, readRow, refusedBy}
+use Rattle.layout.specs.Layout.{parse, print, group, answer, readRow, refusedBy}
 use Rattle.layout.specs.RowLaws.{Bytes}
 use Rattle.layout.proofs.At.{took, took-next, refused-at}
 use Rattle.layout.proofs.Steps.{Came, end-no}
@@ -38,9 +38,7 @@ use Rattle.parts.specs.declared.NumbersField.the-variants as numbersField
 use Rattle.parts.proofs.Parts.{embed, afterPaired, afterKeys, afterChained, consistent, begun, part-yes, part-no}
 use Rattle.parts.proofs.Placed.{paired-part, paired-refused, keys-part, keys-refused, chained-part, chained-refused, numbers-part, numbers-refused}
 use Rattle.parts.proofs.Lawful.{paired-lawful, keys-lawful, chained-lawful, numbers-lawful}
-use Rattle.rows.specs.Answers.{verdictOf}
 use Rattle.rows.specs.declared.Verdict.{Verdict}
-use Rattle.rows.specs.declared.Verdict.the-variants as verdict
 use Rattle.contact.specs.Consistent.{inconsistency, refusalIn}
 use Rattle.contact.specs.Check.{contactAt, contactFrom, Places}
 use Rattle.contact.specs.declared.ContactAt.{ContactAt}
@@ -180,10 +178,3 @@ module _ {version : ℕ} {row : List ℕ} {at : ContactAt} (w : Whole version ro
       w .says
       ∙ ap (λ (o : Option ℕ). answer (said o (contactFrom row at) (w .behind))) (sym asked)
       ∙ ap (λ (x : Verdict). answer (said (refusalIn x) (contactFrom row at) (w .behind))) e
-
-  pub verdict-is : r ≡ verdictOf (readRow (contact version) row)
-  verdict-is = says r ∙ sym (ap (λ (a : Answer value.Contact). verdictOf a) (asked-last refl))
-    where
-      says : (x : Verdict) → x ≡ verdictOf (answer (said (refusalIn x) (contactFrom row at) (w .behind)))
-      says verdict.Accepted = refl
-      says (verdict.Refused q) = refl
