@@ -5,3 +5,5 @@ pub mod Pairs
 pub mod ReadBack
 pub mod Parts
 pub mod Words
+mod LastDigits
+mod Fields

@@ -1,7 +1,8 @@
-// Text in ASCII, read and written once for all: words between marks, decimals, and bytes in hexadecimal.
+// Text in ASCII, read and written once for all: words between marks, decimals and lines of them, and bytes in hexadecimal.
 use layout::question;
 use rows::Written;
 ghost use mathlib.Core.Path.{_≡_};
+ghost use mathlib.Core.List.{_∷_};
 ghost use mathlib.Core.Bool.{true, cond};
 ghost use Prim.Native.Nat.{suc, _+_, _*_, _/_, _≤_, _<_};
 ghost use lib.ListN.{length, getD, take, drop};
@@ -9,12 +10,16 @@ ghost use lib.Dec.{eqb};
 ghost use Rattle.layout.specs.Write.{stored};
 ghost use Rattle.rows.specs.Answers.{leaves};
 ghost use Rattle.rows.specs.Checks.{all};
-ghost use Rattle.numbers.specs.Decimal.{isDigit};
+ghost use Rattle.numbers.specs.Decimal.{COMMA, isDigit, decimal, fieldsText};
 ghost use Rattle.put.specs.Put.{Wrote};
 ghost use Rattle.ascii.specs.Decimal.{decimalIn, withDigit, saysFrom};
 ghost use Rattle.ascii.specs.Hex.{isHex, hexValue, unpaired, hexPairs, hexDigit, pairsOf, hexOf, dashOf, bytesOf, keeps};
 ghost use Rattle.ascii.specs.Words.{SPACE, before, behind, parted, wordAt, numberAt};
 ghost use Rattle.ascii.specs.Says.{decimalSays};
+
+const LF: u8 = b'\n';
+
+const COMMA: u8 = b',';
 
 // What a text says.
 pub enum Said {
@@ -348,4 +353,81 @@ pub fn hex(bytes: &[u8], out: &mut [u8]) -> Written
         return Written::Refused(question::OUTPUT);
     }
     Written::Length(put_pairs(out, 0, bytes))
+}
+
+// ---- decimals and lines of numbers written; no decimal has a leading zero but 0 itself
+
+// How many digits a number has.
+pub fn decimal_len(n: u64) -> usize
+    ensures { λ r. ⌜ (r ≡ length (decimal n)) × (r ≤ 20) ⌝ }
+{
+    let mut rest = n;
+    let mut digits: usize = 1;
+    while rest >= 10 {
+        rest /= 10;
+        digits += 1;
+    }
+    digits
+}
+
+// Writes a number from a position on, its last digit first, and answers the position behind it. A part of writers, which see to the room (`decimal_len`).
+pub fn put_decimal(out: &mut [u8], at: usize, n: u64) -> usize
+    requires { ⌜ at + length (decimal n) ≤ length (now out) ⌝ }
+    ensures { λ r. ⌜ (r ≡ at + length (decimal n)) × Wrote (now (out .entry)) at (decimal n) (now (out .exit)) r ⌝ }
+{
+    let digits = decimal_len(n);
+    let mut i = digits;
+    let mut rest = n;
+    while 0 < i {
+        i -= 1;
+        out[at + i] = (0x30 + rest % 10) as u8;
+        rest = rest / 10;
+    }
+    at + digits
+}
+
+// A comma and a number.
+fn put_field(out: &mut [u8], at: usize, n: u64) -> usize
+    requires { ⌜ at + (1 + length (decimal n)) ≤ length (now out) ⌝ }
+    ensures { λ r. ⌜ (r ≡ at + (1 + length (decimal n))) × Wrote (now (out .entry)) at (COMMA ∷ decimal n) (now (out .exit)) r ⌝ }
+{
+    let number_at = put::put_byte(out, at, COMMA);
+    put_decimal(out, number_at, n)
+}
+
+// The length of the first `count` numbers, a comma before each, and LF.
+pub fn fields_len(fields: [u64; 7], count: usize) -> usize
+    requires { ⌜ count ≤ 7 ⌝ }
+    ensures { λ r. ⌜ (r ≡ length (fieldsText (take count fields))) × (r ≤ 148) ⌝ }
+{
+    let mut i = 0;
+    let mut n: usize = 1;
+    while i < count {
+        n += 1 + decimal_len(fields[i]);
+        i += 1;
+    }
+    n
+}
+
+// The first `count` numbers, a comma before each, and LF.
+fn put_fields(out: &mut [u8], at: usize, fields: [u64; 7], count: usize) -> usize
+    requires { ⌜ (count ≤ 7) × (at + length (fieldsText (take count fields)) ≤ length (now out)) ⌝ }
+    ensures { λ r. ⌜ (r ≡ at + length (fieldsText (take count fields))) × Wrote (now (out .entry)) at (fieldsText (take count fields)) (now (out .exit)) r ⌝ }
+{
+    let mut i = 0;
+    let mut here = at;
+    while i < count {
+        here = put_field(out, here, fields[i]);
+        i += 1;
+    }
+    put::put_byte(out, here, LF)
+}
+
+// Writes a letter and the first `count` numbers from a position on, and answers the position behind them. A part of writers, which see to the room (`fields_len`).
+pub fn put_line(out: &mut [u8], at: usize, letter: u8, fields: [u64; 7], count: usize) -> usize
+    requires { ⌜ (count ≤ 7) × (at + (1 + length (fieldsText (take count fields))) ≤ length (now out)) ⌝ }
+    ensures { λ r. ⌜ (r ≡ at + (1 + length (fieldsText (take count fields)))) × Wrote (now (out .entry)) at (letter ∷ fieldsText (take count fields)) (now (out .exit)) r ⌝ }
+{
+    let fields_at = put::put_byte(out, at, letter);
+    put_fields(out, fields_at, fields, count)
 }

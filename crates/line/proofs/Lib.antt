@@ -1,5 +1,3 @@
-pub mod Decimal
 pub mod Text
-mod Fields
 pub mod Numbers
 mod Samples

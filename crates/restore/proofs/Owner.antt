@@ -1,13 +1,13 @@
 -- Where a queued row's contact is found: what is compared and what the searches answer, together.
 -- Assumes nothing.
-use Prim.Native.Nat.{ℕ, _+_, _-_, _≤_, _<_}
+use Prim.Native.Nat.{ℕ, _-_, _≤_, _<_}
 use native.Mathlib.Nat.{sub-zero}
 use native.Mathlib.Omega.{arith}
 use native.Mathlib.Decide.{decLe}
 use mathlib.Core.List.{List}
 use mathlib.Core.Bool.{Bool, true, false, cond}
 use mathlib.Core.Path.{_≡_, refl, sym, _∙_, ap, subst}
-use lib.Dec.{leb, ltb, T, leb→le, nleb→lt, ltb→lt, nltb→le}
+use lib.Dec.{leb, ltb, T, leb→le, ltb→lt, nltb→le}
 use Rattle.store.specs.declared.Entry.{Entry}
 use Rattle.store.specs.declared.Wanted.{Wanted}
 use Rattle.store.specs.Kinds.{CONTACT}

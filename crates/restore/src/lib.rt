@@ -195,7 +195,14 @@ fn across_at(
 }
 
 // Of all entries.
-fn across_turns(run: &[u8], entries: &[Entry], index: &[u32], aside: Aside, twin: usize, state: Across) -> Across
+fn across_turns(
+    run: &[u8],
+    entries: &[Entry],
+    index: &[u32],
+    aside: Aside,
+    twin: usize,
+    state: Across,
+) -> Across
     requires { ⌜ (twin ≡ firstTwin (now entries)) × At (now run) (now entries) aside 0 state ⌝ }
     ensures { λ r. ⌜ At (now (run .entry)) (now (entries .entry)) aside (length (now (entries .entry))) r ⌝ }
 {
@@ -244,7 +251,14 @@ fn many_times(few: usize) -> usize
     if few == 0 { 1 } else { 0 }
 }
 
-fn few_if(run: &[u8], entries: &[Entry], aside: Aside, twin: usize, times: usize, state: Across) -> Across
+fn few_if(
+    run: &[u8],
+    entries: &[Entry],
+    aside: Aside,
+    twin: usize,
+    times: usize,
+    state: Across,
+) -> Across
     requires { ⌜ (twin ≡ firstTwin (now entries)) × (times ≤ 1) × At (now run) (now entries) aside 0 state ⌝ }
     ensures { λ r. ⌜ At (now (run .entry)) (now (entries .entry)) aside (turnsDone times (length (now (entries .entry)))) r ⌝ }
 {
@@ -257,7 +271,14 @@ fn few_if(run: &[u8], entries: &[Entry], aside: Aside, twin: usize, times: usize
     after
 }
 
-fn many_if(run: &[u8], entries: &[Entry], aside: Aside, twin: usize, times: usize, state: Across) -> Across
+fn many_if(
+    run: &[u8],
+    entries: &[Entry],
+    aside: Aside,
+    twin: usize,
+    times: usize,
+    state: Across,
+) -> Across
     requires { ⌜ (twin ≡ firstTwin (now entries)) × (times ≤ 1) × At (now run) (now entries) aside (turnsDone (1 - times) (length (now entries))) state ⌝ }
     ensures { λ r. ⌜ At (now (run .entry)) (now (entries .entry)) aside (length (now (entries .entry))) r ⌝ }
 {

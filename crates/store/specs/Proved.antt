@@ -14,11 +14,10 @@ use Rattle.layout.specs.RowLaws.{Bytes, Valid}
 use Rattle.rows.specs.Values.{Contact}
 use Rattle.rows.specs.Rows as rows
 use Rattle.store.specs.declared.Entry.{Entry}
-use Rattle.store.specs.declared.Asked.{Asked}
 use Rattle.store.specs.declared.Asked.the-variants.{Going}
 use Rattle.store.specs.Rounds.{Question, firstNo, FirstIn, Quiet}
 use Rattle.store.specs.Kinds.{CONTACT, QUEUED, COURIER}
-use Rattle.store.specs.Store.{Store, entryAt, isOf, before, queuedBefore, partOf, storeOf, openedIn, across, asked, seen, found, granted, refused, restore, replacedPasses}
+use Rattle.store.specs.Store.{Store, entryAt, isOf, before, queuedBefore, partOf, storeOf, openedIn, across, asked, found, granted, refused, restore, replacedPasses}
 use Rattle.store.specs.Accepted.{Accepted, FirstNo}
 use Rattle.store.specs.Veiled.{VeilEqual, OpenAgree, OutcomesAlike, FieldsAlike, copied, blanked, Apart, Disjoint}
 use Rattle.store.specs.Used.{used}

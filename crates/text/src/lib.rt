@@ -167,7 +167,7 @@ fn line_len(line: Line) -> usize
 {
     if line.held {
         let fields = line.fields;
-        return 1 + line::fields_len(fields, line::FIELDS);
+        return 1 + ascii::fields_len(fields, line::FIELDS);
     }
     0
 }
@@ -178,7 +178,7 @@ fn put_entry(out: &mut [u8], at: usize, line: Line) -> usize
 {
     if line.held {
         let fields = line.fields;
-        return line::put_line(out, at, line::LETTER_S, fields, line::FIELDS);
+        return ascii::put_line(out, at, line::LETTER_S, fields, line::FIELDS);
     }
     at
 }
@@ -247,12 +247,12 @@ pub fn write_granted(
     let queued = how_many(places, n, store::QUEUED);
     let held = how_many(places, n, store::COURIER);
     let fields = [measured.contacts, queued, held, next_slot, 0, 0, 0];
-    let len = measured.len + 1 + line::fields_len(fields, LAST_FIELDS);
+    let len = measured.len + 1 + ascii::fields_len(fields, LAST_FIELDS);
     if out.len() < len {
         return Written::Refused(question::OUTPUT);
     }
     let at = put_lines(run, places, n, out);
-    line::put_line(out, at, LETTER_T, fields, LAST_FIELDS);
+    ascii::put_line(out, at, LETTER_T, fields, LAST_FIELDS);
     Written::Length(len)
 }
 
@@ -262,10 +262,10 @@ pub fn write_refused(letter: u8, number: u64, place: u64, out: &mut [u8]) -> Wri
     ensures { λ r. ⌜ length (letter ∷ fieldsOf (number ∷ place ∷ []) 2) ≤ «TEXT_BYTES» ⌝ }
 {
     let fields = [number, place, 0, 0, 0, 0, 0];
-    let len = 1 + line::fields_len(fields, 2);
+    let len = 1 + ascii::fields_len(fields, 2);
     if out.len() < len {
         return Written::Refused(question::OUTPUT);
     }
-    line::put_line(out, 0, letter, fields, 2);
+    ascii::put_line(out, 0, letter, fields, 2);
     Written::Length(len)
 }

@@ -63,7 +63,7 @@ pub fn text_line(text: &[u8], out: &mut [u8]) -> Written
 pub fn number_line(word: &[u8], n: u64, out: &mut [u8]) -> Written
     ensures { λ r. ⌜ leaves r (now (out .exit)) ≡ stored (lineOf (now (word .entry) ++ decimal n)) (now (out .entry)) ⌝ }
 {
-    let fixed = line::decimal_len(n) + AROUND;
+    let fixed = ascii::decimal_len(n) + AROUND;
     if out.len() < fixed {
         return Written::Refused(question::OUTPUT);
     }
@@ -72,7 +72,7 @@ pub fn number_line(word: &[u8], n: u64, out: &mut [u8]) -> Written
     }
     let at = begin(out);
     let number_at = put::put_run(out, at, word, 0, word.len());
-    let end = line::put_decimal(out, number_at, n);
+    let end = ascii::put_decimal(out, number_at, n);
     Written::Length(put::put_byte(out, end, LF))
 }
 
@@ -80,15 +80,15 @@ pub fn number_line(word: &[u8], n: u64, out: &mut [u8]) -> Written
 pub fn place_line(number: u64, place: u64, out: &mut [u8]) -> Written
     ensures { λ r. ⌜ leaves r (now (out .exit)) ≡ stored (lineOf (placeText number place)) (now (out .entry)) ⌝ }
 {
-    let len = line::decimal_len(number) + line::decimal_len(place) + 4 + AROUND;
+    let len = ascii::decimal_len(number) + ascii::decimal_len(place) + 4 + AROUND;
     if out.len() < len {
         return Written::Refused(question::OUTPUT);
     }
     let at = begin(out);
     let number_at = put::put_run(out, at, b"no ", 0, 3);
-    let space_at = line::put_decimal(out, number_at, number);
+    let space_at = ascii::put_decimal(out, number_at, number);
     let place_at = put::put_byte(out, space_at, SPACE);
-    let end = line::put_decimal(out, place_at, place);
+    let end = ascii::put_decimal(out, place_at, place);
     Written::Length(put::put_byte(out, end, LF))
 }
 
@@ -164,7 +164,7 @@ pub fn answer_line(tag: u64, a: u64, b: u64, bytes: &[u8], out: &mut [u8]) -> Wr
 fn range_len(from: u64, to: u64) -> usize
     ensures { λ r. ⌜ (r ≡ length (SPACE ∷ rangeText (range from to))) × (r ≤ 42) ⌝ }
 {
-    line::decimal_len(from) + line::decimal_len(to) + 2
+    ascii::decimal_len(from) + ascii::decimal_len(to) + 2
 }
 
 // Whether there is room for the text of some ranges.
@@ -202,9 +202,9 @@ fn put_range(out: &mut [u8], at: usize, mark: u8, from: u64, to: u64) -> usize
     ensures { λ r. ⌜ (r ≡ at + length (mark ∷ rangeText (range from to))) × Wrote (now (out .entry)) at (mark ∷ rangeText (range from to)) (now (out .exit)) r ⌝ }
 {
     let from_at = put::put_byte(out, at, mark);
-    let dash_at = line::put_decimal(out, from_at, from);
+    let dash_at = ascii::put_decimal(out, from_at, from);
     let to_at = put::put_byte(out, dash_at, DASH);
-    line::put_decimal(out, to_at, to)
+    ascii::put_decimal(out, to_at, to)
 }
 
 fn put_listed(out: &mut [u8], at: usize, above: &[u32], count: usize) -> usize
@@ -240,7 +240,7 @@ fn write_state(id: ContactId, row: &[u8], above: &[u32], count: usize, out: &mut
     ensures { λ r. ⌜ leaves r (now (out .exit)) ≡ stored (lineOf (stateText (id .0) (now (row .entry)) (pairs count (now (above .entry))))) (now (out .entry)) ⌝ }
 {
     let at = begin(out);
-    let space_at = line::put_decimal(out, at, id.0);
+    let space_at = ascii::put_decimal(out, at, id.0);
     let row_at = put::put_byte(out, space_at, SPACE);
     let ranges_at = ascii::put_pairs(out, row_at, row);
     let end = put_ranges(out, ranges_at, above, count);
@@ -251,7 +251,7 @@ fn opened_line(id: ContactId, row: &[u8], above: &[u32], count: usize, out: &mut
     requires { ⌜ 2 * count ≤ length (now above) ⌝ }
     ensures { λ r. ⌜ leaves r (now (out .exit)) ≡ stored (lineOf (stateText (id .0) (now (row .entry)) (pairs count (now (above .entry))))) (now (out .entry)) ⌝ }
 {
-    let fixed = line::decimal_len(id.0) + 1 + AROUND;
+    let fixed = ascii::decimal_len(id.0) + 1 + AROUND;
     if out.len() < fixed {
         return Written::Refused(question::OUTPUT);
     }

@@ -2,9 +2,9 @@
 -- Assumes nothing.
 use Prim.Native.Nat.{ℕ, zero, suc, _-_, _≤_, _<_}
 use mathlib.Core.List.{List}
-use mathlib.Core.Bool.{Bool, true, false, cond, not}
+use mathlib.Core.Bool.{Bool, true, false, cond}
 use mathlib.Core.Logic.{_⊎_, inl, inr}
-use mathlib.Core.Path.{_≡_, refl, sym, ap, _∙_}
+use mathlib.Core.Path.{_≡_, refl, _∙_}
 use native.Mathlib.Omega.{arith}
 use native.Mathlib.Decide.{decLe}
 use lib.Dec.{ltb, eqb, T, ltb→lt, eqb→eq, eqb·suc-zero}
@@ -13,7 +13,7 @@ use Rattle.store.specs.Kinds.{kindOf}
 use Rattle.store.specs.Store.{entryAt, anyBelow}
 use Rattle.store.specs.Find.{isWanted}
 use Rattle.store.specs.Twins.{twinOf, asksNew, hasTwin}
-use Rattle.store.proofs.Tests.{truth, holds, both, any-found}
+use Rattle.store.proofs.Tests.{truth, both, any-found}
 use Rattle.twins.specs.Above.{msgnoOf, isAbove, stopsAt}
 use Rattle.twins.proofs.Keys.{twin-key}
 

@@ -16,7 +16,7 @@ use Rattle.store.specs.Store.{entryAt, anyBelow}
 use Rattle.store.specs.Find.{isWanted, firstWhere, firstOf}
 use Rattle.store.specs.Twins.{twinOf, asksNew, hasTwin}
 use Rattle.store.proofs.Tests.{truth, false-not, both, pair, any-found, found-any}
-use Rattle.store.proofs.Searches.{FirstAt, first-at, first-is}
+use Rattle.store.proofs.Searches.{first-at, first-is}
 use Rattle.twins.specs.Filter.{hashOf, isSet, marked}
 use Rattle.twins.specs.Parts.{inPart, noted, reachOf, settledOn, turnedTo, twinIn}
 use Rattle.twins.proofs.Filter.{set-known, stays-known}
@@ -28,7 +28,7 @@ pub turn-is : (es : List Entry) (bits : List ℕ) (last part i first : ℕ) (e :
 turn-is es bits last part i first e upto wanted t r is-e is-upto is-wanted is-t is-r =
     let reached : upto ≡ reachOf bits last part (entryAt es i) i = is-upto ∙ ap (λ (x : Entry). reachOf bits last part x i) is-e in
     let twin : t ≡ firstOf es (twinOf (entryAt es i)) 0 (reachOf bits last part (entryAt es i) i) =
-        is-t ∙ ap (firstOf es wanted 0) (sub-zero upto) ∙ (λ k. firstOf es ((is-wanted ∙ ap twinOf is-e) k) 0 (reached k)) in
+    is-t ∙ ap (firstOf es wanted 0) (sub-zero upto) ∙ (λ k. firstOf es ((is-wanted ∙ ap twinOf is-e) k) 0 (reached k)) in
     is-r ∙ (λ k. settledOn i (twin k) (reached k) first)
 
 -- ---- one pass
@@ -71,10 +71,13 @@ module _ (es : List Entry) (last part : ℕ) where
           let l = ltb→lt (firstOf es (twinOf (entryAt es i)) 0 i) i (truth (ltb (firstOf es (twinOf (entryAt es i)) 0 i) i) is) in
           let hit = first-at (isTwin i) 0 i .hit (omega arith) in
           inl (refl, pair (hasTwin es i) (inPart last part (hashAt i)) (pair (asks i) (anyBelow i (isTwin i)) asked (found-any i (isTwin i) (firstOf es (twinOf (entryAt es i)) 0 i) l hit)) in-it)
-      searched asked in-it false is = inr (refl, λ t.
-          let over = nltb→le (firstOf es (twinOf (entryAt es i)) 0 i) i (false-not (ltb (firstOf es (twinOf (entryAt es i)) 0 i) i) is) in
-          let found = any-found i (isTwin i) (both (asks i) (anyBelow i (isTwin i)) (its t .0) .1) in
-          first-at (isTwin i) 0 i .misses (found .0) (omega arith) (omega (arith, found .1)) (found .2))
+      searched asked in-it false is = inr (
+        refl,
+        λ t.
+            let over = nltb→le (firstOf es (twinOf (entryAt es i)) 0 i) i (false-not (ltb (firstOf es (twinOf (entryAt es i)) 0 i) i) is) in
+            let found = any-found i (isTwin i) (both (asks i) (anyBelow i (isTwin i)) (its t .0) .1) in
+            first-at (isTwin i) 0 i .misses (found .0) (omega arith) (omega (arith, found .1)) (found .2),
+      )
 
       go : (a p m : Bool) → asks i ≡ a → inPart last part (hashAt i) ≡ p → isSet bits (hashAt i) ≡ m
           → (let upto = cond a (cond p (cond m i 0) 0) 0 in Turned i first (settledOn i (firstOf es (twinOf (entryAt es i)) 0 upto) upto first))

@@ -195,7 +195,14 @@ fn settled_on(i: usize, t: usize, upto: usize, first: usize) -> usize
     if t < upto { i } else { first }
 }
 
-fn twin_at(entries: &[Entry], bits: &mut [u64], last: usize, part: usize, i: usize, best: usize) -> usize
+fn twin_at(
+    entries: &[Entry],
+    bits: &mut [u64],
+    last: usize,
+    part: usize,
+    i: usize,
+    best: usize,
+) -> usize
     ensures { λ r. ⌜ (r ≡ turnedTo (now (entries .entry)) (now (bits .entry)) last part i best)
         × (now (bits .exit) ≡ noted (now (bits .entry)) last part (entryAt (now (entries .entry)) i)) ⌝ }
 {

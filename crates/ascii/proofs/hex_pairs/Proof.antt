@@ -1,7 +1,6 @@
 -- `ascii::hex_pairs` meets its contract. The invariant: the pairs counted, and those behind them, are all. The measure is how many there may still be.
 -- Assumes nothing.
-use Prim.Native.Nat.{ℕ, suc, _+_, _*_, _/_, _-_, _≤_}
-use mathlib.Core.List.{List}
+use Prim.Native.Nat.{_+_, _*_, _/_, _-_, _≤_}
 use mathlib.Core.Bool.{true, false}
 use mathlib.Core.Path.{_≡_, sym, _∙_}
 use native.Mathlib.Omega.{arith}

@@ -46,7 +46,7 @@ use types.Kit.{rewrite}
 use types.Part.{rep}
 use denote.Array.{Array, arrayVal}
 use Rattle.table.proofs.Filled.{as-many, all-lent}
-use Rattle.table.proofs.Table.{of-array, repeated, in-cells, whole-of, lends-whole, whole-back, first-of, lends-first, table-back}
+use Rattle.walks.proofs.Table.{of-array, repeated, in-cells, whole-of, lends-whole, whole-back, first-of, lends-first, table-back}
 use Rattle.calls.proofs.RestoreLeft as RestoreLeftT
 use Rattle.calls.proofs.RestoreLeft.Laws as RestoreLeftL
 use Rattle.calls_step.specs.declared.Mark.{Mark}

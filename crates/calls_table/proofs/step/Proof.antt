@@ -47,7 +47,7 @@ use types.Kit.{rewrite}
 use types.Part.{rep}
 use denote.Array.{Array, arrayVal}
 use Rattle.table.proofs.Filled.{as-many, all-lent}
-use Rattle.table.proofs.Table.{of-array, repeated, in-cells, whole-of, lends-whole, whole-back, first-of, lends-first, table-back}
+use Rattle.walks.proofs.Table.{of-array, repeated, in-cells, whole-of, lends-whole, whole-back, first-of, lends-first, table-back}
 use Rattle.opened.proofs.Left as LeftT
 use Rattle.opened.proofs.Left.Laws as LeftL
 use Rattle.dispatch.specs.declared.Call.{Call}

@@ -1,4 +1,4 @@
--- `line::put_decimal` meets its contract. The invariant: the digits still to be stored, stored into the buffer as it is, give the whole. The measure is how many they are.
+-- `ascii::put_decimal` meets its contract. The invariant: the digits still to be stored, stored into the buffer as it is, give the whole. The measure is how many they are.
 -- Assumes nothing.
 use Prim.Native.Nat.{_≤_}
 use mathlib.Core.Path.{_≡_, refl, _∙_}
@@ -8,10 +8,10 @@ use borrow.Author.Needs.{needs}
 use Rattle.put.specs.Put as storing
 use Rattle.put.specs.Put.{put}
 use Rattle.numbers.specs.Decimal.{decimal}
-use Rattle.line.proofs.Decimal as text
-use Rattle.line.proofs.Decimal.{lastDigits, all-last, digit-turn}
-use Rattle.line.proofs.put_decimal.Statement.{statement}
-use Rattle.line.proofs.put_decimal.Tie as tie
+use Rattle.ascii.proofs.LastDigits as text
+use Rattle.ascii.proofs.LastDigits.{lastDigits, all-last, digit-turn}
+use Rattle.ascii.proofs.put_decimal.Statement.{statement}
+use Rattle.ascii.proofs.put_decimal.Tie as tie
 
 abbrev Inv-loop : tie.InvT-loop
 Inv-loop out₀ at n digits i₀ rest₀ out i rest = (i ≤ digits) × (length out ≡ length out₀) × (put out at (lastDigits i rest) ≡ put out₀ at (decimal n))

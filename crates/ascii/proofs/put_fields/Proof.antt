@@ -1,4 +1,4 @@
--- `line::put_fields` meets its contract. The invariant: the text from the i-th number on, written from here on, gives the whole.
+-- `ascii::put_fields` meets its contract. The invariant: the text from the i-th number on, written from here on, gives the whole.
 -- Assumes nothing.
 use Prim.Native.Nat.{ℕ, _-_, _≤_}
 use mathlib.Core.List.{List}
@@ -8,10 +8,10 @@ use lib.ListN.{length, drop, take}
 use borrow.Author.Needs.{needs}
 use Rattle.put.proofs.Put.{Writing, writing-start}
 use Rattle.numbers.specs.Decimal.{fieldsText}
-use Rattle.line.proofs.Text.{field-turn, field-room, fields-end, end-room}
-use Rattle.line.proofs.Fields.{first-many, first-at}
-use Rattle.line.proofs.put_fields.Statement.{statement}
-use Rattle.line.proofs.put_fields.Tie as tie
+use Rattle.ascii.proofs.Fields.{field-turn, field-room, fields-end, end-room}
+use Rattle.ascii.proofs.Fields.{first-many, first-at}
+use Rattle.ascii.proofs.put_fields.Statement.{statement}
+use Rattle.ascii.proofs.put_fields.Tie as tie
 
 abbrev Inv-loop : tie.InvT-loop
 Inv-loop out₀ at count fields i₀ here₀ out i here = (i ≤ count) × Writing out₀ at (fieldsText (take count fields)) out here (fieldsText (drop i (take count fields)))

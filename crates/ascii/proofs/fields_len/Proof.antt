@@ -1,4 +1,4 @@
--- `line::fields_len` meets its contract. The invariant: what is counted, and the text of the numbers from the i-th on, are one more than the text of all: LF.
+-- `ascii::fields_len` meets its contract. The invariant: what is counted, and the text of the numbers from the i-th on, are one more than the text of all: LF.
 -- Assumes nothing.
 use Prim.Native.Nat.{ℕ, _+_, _-_, _*_, _≤_}
 use mathlib.Core.List.{List}
@@ -7,10 +7,10 @@ use native.Mathlib.Omega.{arith}
 use lib.ListN.{length, drop, take}
 use borrow.Author.Needs.{needs}
 use Rattle.numbers.specs.Decimal.{fieldsText, decimal}
-use Rattle.line.proofs.Text.{field-length, last-text}
-use Rattle.line.proofs.Fields.{first-many, first-at}
-use Rattle.line.proofs.fields_len.Statement.{statement}
-use Rattle.line.proofs.fields_len.Tie as tie
+use Rattle.ascii.proofs.Fields.{field-length, last-text}
+use Rattle.ascii.proofs.Fields.{first-many, first-at}
+use Rattle.ascii.proofs.fields_len.Statement.{statement}
+use Rattle.ascii.proofs.fields_len.Tie as tie
 
 abbrev Inv-loop : tie.InvT-loop
 Inv-loop count fields i₀ n₀ i n = (i ≤ count) × (n ≤ 1 + 21 * i) × (n + length (fieldsText (drop i (take count fields))) ≡ length (fieldsText (take count fields)) + 1)

@@ -1,4 +1,4 @@
--- `line::decimal_len` meets its contract. The invariant: the digits counted and those of what is left are one more than those of the whole. The measure is what is left.
+-- `ascii::decimal_len` meets its contract. The invariant: the digits counted and those of what is left are one more than those of the whole. The measure is what is left.
 -- Assumes nothing.
 use Prim.Native.Nat.{_+_}
 use mathlib.Core.Path.{_≡_}
@@ -7,9 +7,9 @@ use lib.ListN.{length}
 use borrow.Author.Needs.{needs}
 use Rattle.numbers.specs.Decimal.{decimal}
 use Rattle.numbers.proofs.Decimal.{some-digits, digits-64}
-use Rattle.line.proofs.Decimal.{count-turn, count-end}
-use Rattle.line.proofs.decimal_len.Statement.{statement}
-use Rattle.line.proofs.decimal_len.Tie as tie
+use Rattle.ascii.proofs.LastDigits.{count-turn, count-end}
+use Rattle.ascii.proofs.decimal_len.Statement.{statement}
+use Rattle.ascii.proofs.decimal_len.Tie as tie
 
 abbrev Inv-loop : tie.InvT-loop
 Inv-loop n rest₀ digits₀ rest digits = digits + length (decimal rest) ≡ length (decimal n) + 1

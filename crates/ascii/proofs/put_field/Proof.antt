@@ -1,10 +1,10 @@
--- `line::put_field` meets its contract: a comma, and the number behind it.
+-- `ascii::put_field` meets its contract: a comma, and the number behind it.
 use native.Mathlib.Omega.{arith}
 use borrow.Author.Needs.{needs}
 use Rattle.put.proofs.Put.{_then_}
 use borrow.Author.Needs.{needs}
-use Rattle.line.proofs.put_field.Statement.{statement}
-use Rattle.line.proofs.put_field.Tie as tie
+use Rattle.ascii.proofs.put_field.Statement.{statement}
+use Rattle.ascii.proofs.put_field.Tie as tie
 
 put-byte-requires : tie.Need-put-byte-requires
 put-byte-requires c κs = search needs

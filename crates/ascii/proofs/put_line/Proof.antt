@@ -1,10 +1,10 @@
--- `line::put_line` meets its contract: the letter, and the numbers behind it.
+-- `ascii::put_line` meets its contract: the letter, and the numbers behind it.
 -- Assumes nothing.
 use native.Mathlib.Omega.{arith}
 use borrow.Author.Needs.{needs}
 use Rattle.put.proofs.Put.{_then_}
-use Rattle.line.proofs.put_line.Statement.{statement}
-use Rattle.line.proofs.put_line.Tie as tie
+use Rattle.ascii.proofs.put_line.Statement.{statement}
+use Rattle.ascii.proofs.put_line.Tie as tie
 
 put-byte-requires : tie.Need-put-byte-requires
 put-byte-requires c κs = search needs
