@@ -3,7 +3,6 @@
 // is looked for. The filter holds so many keys; of more entries those of one part are noted, and then those of the next, by a hash of their keys.
 use store::Entry;
 use store::Wanted;
-use width::wide;
 ghost use mathlib.Core.Path.{_≡_};
 ghost use Prim.Native.Nat.{_-_};
 ghost use lib.ListN.{length};
@@ -58,8 +57,8 @@ fn twin_of(e: Entry) -> Wanted
 fn hash_of(e: Entry) -> u64
     ensures { λ r. ⌜ r ≡ hashOf e ⌝ }
 {
-    let kind = wide(e.kind);
-    let msgno = wide(msgno_of(e));
+    let kind = width::wide(e.kind);
+    let msgno = width::wide(msgno_of(e));
     let low = std::num::wrapping_add_u64((e.id % HALF) * 2654435769, (e.id / HALF) * 668265263);
     let high = std::num::wrapping_add_u64(msgno * 2246822519, kind * 3266489917);
     let sum = std::num::wrapping_add_u64(low, high);
