@@ -147,14 +147,13 @@ pub fn with_digit(n: u64, b: u8, highest: u64) -> Said
 {
     if is_digit(b) {
         let d = width::wide_byte(b - b'0');
-        if highest / 10 < n {
+        if highest < d {
             return Said::Nothing;
         }
-        let tens = n * 10;
-        if highest - tens < d {
+        if (highest - d) / 10 < n {
             return Said::Nothing;
         }
-        let m = tens + d;
+        let m = n * 10 + d;
         return Said::Number(m);
     }
     Said::Nothing

@@ -1,4 +1,4 @@
--- `ascii::with_digit` meets its contract. That ten times the number and the digit are within the highest is asked of a tenth and then of the rest, so that nothing overflows.
+-- `ascii::with_digit` meets its contract. That ten times the number and the digit are within the highest is asked by a quotient, so that nothing overflows.
 -- Assumes nothing.
 use Prim.Native.Nat.{_+_, _-_, _*_, _≤_, _<_}
 use mathlib.Core.Path.{sym, _∙_}
@@ -29,18 +29,15 @@ returns c =
     let over : a .highest < a .n * 10 + (a .b - 0x30) = omega (arith, is i .0) in
     rw (sym (i .before .is-digit .ensures) ∙ i .if1 .taken, lt-leb _ _ over)
 
-mul-tens : tie.Need-mul-tens
-mul-tens c = search needs
-
-sub-if3 : tie.Need-sub-if3
-sub-if3 c = search needs
-
 returns-2 : tie.Need-returns-2
 returns-2 c =
     let i = c .before .before .before in
     let a = i .before .before .args in
     let over : a .highest < a .n * 10 + (a .b - 0x30) = omega (arith, is i .0) in
     rw (sym (i .before .is-digit .ensures) ∙ i .if1 .taken, lt-leb _ _ over)
+
+mul-m : tie.Need-mul-m
+mul-m c = search needs
 
 add-m : tie.Need-add-m
 add-m c = search needs
@@ -63,9 +60,8 @@ with-digit-spec =
     sub-wide-byte
     wide-byte-requires
     returns
-    mul-tens
-    sub-if3
     returns-2
+    mul-m
     add-m
     returns-3
     returns-4)
