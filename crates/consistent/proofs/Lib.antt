@@ -4,3 +4,4 @@ pub mod Fields
 pub mod Distinct
 pub mod Chains
 pub mod Callers
+mod Behind

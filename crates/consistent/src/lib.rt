@@ -14,6 +14,9 @@ ghost use Rattle.received.specs.Lent.{pairs};
 ghost use Rattle.consistent.specs.Asked.{Placed, chainsAsked};
 ghost use Rattle.consistent.specs.Cells.{chainWidth, supersededAt, gens, supersededs, oneCurrent, ChainsStand, placeNumber, placeNumbers, PlacesStand, ascending};
 
+// How many places are few.
+const FEW: usize = 256;
+
 // What is asked of the chains: 17 and 18.
 pub struct ChainsAsked {
     pub one_current: bool,
@@ -159,26 +162,43 @@ fn comes_again(bytes: &[u8], first: usize, count: usize, place: u64) -> bool
     false
 }
 
-// Whether no place comes again behind itself.
-fn places_differ(bytes: &[u8], first: usize, count: usize) -> bool
+// Whether no place comes again behind itself, from the last on. The filter has those behind, so a place that is new by it is looked for nowhere.
+fn places_differ(bytes: &[u8], first: usize, count: usize, bits: &mut [u64]) -> bool
     requires { ⌜ PlacesStand count (drop first (now bytes)) ⌝ }
     ensures { λ r. ⌜ r ≡ distinct eqb (placeNumbers count (drop first (now (bytes .entry)))) ⌝ }
 {
-    let mut p = first;
-    let mut i: usize = 0;
-    while i < count {
+    let mut left = count;
+    while 0 < left {
+        left -= 1;
+        let p = first + 46 * left;
         let place = place_at(bytes, p);
-        p += 46;
-        i += 1;
-        if comes_again(bytes, p, count - i, place) {
-            return false;
+        if filter::add(bits, filter::mix(place)) {
+            if comes_again(bytes, p + 46, count - left - 1, place) {
+                return false;
+            }
         }
     }
     true
 }
 
-// 19, of skipped keys of a row, or of a lent list, whose places are a row's bytes. Keys in rising order are seen in one pass; those in
-// another order are compared in pairs, and since 19 is asked before 20 that may be 65,535 of them: some two thousand million comparisons.
+// The same with a filter of 512 bytes for few places, and of 64 KB for many.
+fn few_differ(bytes: &[u8], first: usize, count: usize) -> bool
+    requires { ⌜ PlacesStand count (drop first (now bytes)) ⌝ }
+    ensures { λ r. ⌜ r ≡ distinct eqb (placeNumbers count (drop first (now (bytes .entry)))) ⌝ }
+{
+    let mut bits: [u64; 64] = [0; 64];
+    places_differ(bytes, first, count, &mut bits)
+}
+
+fn many_differ(bytes: &[u8], first: usize, count: usize) -> bool
+    requires { ⌜ PlacesStand count (drop first (now bytes)) ⌝ }
+    ensures { λ r. ⌜ r ≡ distinct eqb (placeNumbers count (drop first (now (bytes .entry)))) ⌝ }
+{
+    let mut bits: [u64; 8192] = [0; 8192];
+    places_differ(bytes, first, count, &mut bits)
+}
+
+// 19, of skipped keys of a row, or of a lent list, whose places are a row's bytes. Keys in rising order are seen in one pass.
 pub fn skipped_distinct(bytes: &[u8], first: usize, count: usize) -> bool
     requires { ⌜ Stands (group skipped) (now bytes) first count ⌝ }
     ensures { λ r. ⌜ r ≡ placesDistinct (items (group skipped) count (drop first (now (bytes .entry)))) ⌝ }
@@ -186,7 +206,10 @@ pub fn skipped_distinct(bytes: &[u8], first: usize, count: usize) -> bool
     if places_rise(bytes, first, count) {
         return true;
     }
-    places_differ(bytes, first, count)
+    if count < FEW {
+        return few_differ(bytes, first, count);
+    }
+    many_differ(bytes, first, count)
 }
 
 // 22, of numbers of a row.

@@ -1,69 +1,135 @@
--- `consistent::places_differ` meets its contract. The invariant: the places from the i-th on answer as all of them.
-use Prim.Native.Nat.{ℕ, _+_, _-_, _≤_}
-use mathlib.Core.List.{List, _∷_}
-use mathlib.Core.Path.{_≡_, refl}
+-- `consistent::places_differ` meets its contract. The invariant: the places behind are distinct, and the filter has them. The measure is how many are to come.
+use Prim.Native.Nat.{_+_, _-_, _*_, _≤_}
+use mathlib.Core.Bool.{true, false}
+use mathlib.Core.Path.{_≡_, refl, sym, ap, _∙_}
 use native.Mathlib.Omega.{arith}
-use native.Mathlib.Nat.{sub-zero}
-use lib.ListN.{drop}
+use lib.ListN.{length, drop}
 use borrow.Author.Needs.{needs}
 use lib.Dec.{eqb}
-use Rattle.rows.specs.Checks.{distinct}
-use Rattle.consistent.specs.Cells.{placeNumber, placeNumbers, PlacesStand}
-use Rattle.consistent.proofs.Turns.{Differ, differ-not, differ-on, differ-end}
-use Rattle.consistent.proofs.Cells.{Turn, turn, none-left}
+use Rattle.rows.specs.Checks.{any, distinct}
+use Rattle.consistent.specs.Cells.{placeNumbers}
+use Rattle.consistent.proofs.Behind.{Has, none-behind, inside, here, behind-stand, behind, not-distinct, is-new, goes-on}
 use Rattle.consistent.proofs.places_differ.Statement.{statement}
 use Rattle.consistent.proofs.places_differ.Tie as tie
 
 abbrev Inv-loop : tie.InvT-loop
-Inv-loop bytes first count p₀ i₀ p i =
-    (i ≤ count) × PlacesStand (count - i) (drop p bytes) × Differ (placeNumbers (count - i) (drop p bytes)) (distinct eqb (placeNumbers count (drop first bytes)))
+Inv-loop bytes first count bits₀ left₀ bits left =
+    let ns = placeNumbers count (drop first bytes) in
+    (left ≤ count) × (distinct eqb (drop left ns) ≡ true) × Has bits (drop left ns) × (length bits ≡ length bits₀)
 
 abbrev μ-loop : tie.MeasureT-loop
-μ-loop bytes first count p₀ i₀ p i = count - i
+μ-loop bytes first count bits₀ left₀ bits left = left
 
-abbrev bytes : tie.At-loop Inv-loop μ-loop → List ℕ
-bytes l = l .before .before .args .bytes .now
+abbrev start : tie.At-loop Inv-loop μ-loop → tie.Start Inv-loop μ-loop
+start l = l .before .before .before
 
-abbrev count : tie.At-loop Inv-loop μ-loop → ℕ
-count l = l .before .before .args .count
+-- the place before those that the filter has
+inside-of : (c : tie.In-loop Inv-loop μ-loop) → let l = c .before in start l .args .first + 46 * (l .loop .left - 1) + 46 ≤ length (start l .args .bytes .now)
+inside-of c = let l = c .before in let a = start l .args in inside (a .bytes .now) (a .first) (a .count) (start l .pre) (l .loop .left) (c .loop-test .taken) (l .loop .inv .0)
 
--- the i-th place, and those behind it
-turned : (c : tie.In-loop Inv-loop μ-loop) → let l = c .before in Turn (λ l. 46) placeNumber (bytes l) (count l) (l .loop .i) (l .loop .p)
-turned c = let l = c .before in turn (λ l. 46) placeNumber (bytes l) (count l) (l .loop .i) (l .loop .p) (c .loop-test .taken) (l .loop .inv .1)
+abbrev body : tie.Then1 Inv-loop μ-loop → tie.In-loop Inv-loop μ-loop
+body c = c .before .before .before .before .before .before .before
 
-here : (c : tie.After-place-at Inv-loop μ-loop) → let l = c .before .before in
-    placeNumbers (count l - l .loop .i) (drop (l .loop .p) (bytes l)) ≡ c .place-at .result ∷ placeNumbers (count l - (l .loop .i + 1)) (drop (l .loop .p + 46) (bytes l))
-here c = rw (c .place-at .ensures .0) (turned (c .before) .here)
+-- it is among those behind it, or not
+asked : (c : tie.After-comes-again Inv-loop μ-loop) → let i = body (c .before) in let l = i .before in let a = start l .args in
+    c .comes-again .result ≡ any (eqb (c .before .before .before .before .before .before .before .place-at .result)) (drop (l .loop .left) (placeNumbers (a .count) (drop (a .first) (a .bytes .now))))
+asked c =
+    let i = body (c .before) in
+    let l = i .before in
+    let a = start l .args in
+    c .comes-again .ensures ∙ ap (any (eqb (c .before .before .before .before .before .before .before .place-at .result))) (behind (a .bytes .now) (a .first) (a .count) (start l .pre) (l .loop .left) (i .loop-test .taken) (l .loop .inv .0))
+
+abbrev added-at : tie.Then1 Inv-loop μ-loop → tie.After-add Inv-loop μ-loop
+added-at c = c .before .before .before
+
+-- one that is not among those behind it
+one-more : (x : tie.After-add Inv-loop μ-loop) → let p = x .before .before .before in let i = p .before in let l = i .before in let a = start l .args in
+    let ns = placeNumbers (a .count) (drop (a .first) (a .bytes .now)) in
+    any (eqb (p .place-at .result)) (drop (l .loop .left) ns) ≡ false
+    → (distinct eqb (drop (l .loop .left - 1) ns) ≡ true) × Has (x .add .last .0) (drop (l .loop .left - 1) ns)
+one-more x new =
+    let p = x .before .before .before in
+    let i = p .before in
+    let l = i .before in
+    let a = start l .args in
+    let at = here (a .bytes .now) (a .first) (a .count) (start l .pre) (l .loop .left) (i .loop-test .taken) (l .loop .inv .0) in
+    rw (x .add .ensures .1, x .before .mix .ensures)
+    (goes-on (l .loop .bits) (p .place-at .result) (drop (l .loop .left) (placeNumbers (a .count) (drop (a .first) (a .bytes .now)))) (rw (← p .place-at .ensures .0) at at) new (l .loop .inv .1) (l .loop .inv .2))
 
 loop-holds : tie.Need-loop-holds Inv-loop μ-loop
-loop-holds c = rw sub-zero (omega arith, c .before .pre, record { so = refl })
+loop-holds c = let a = c .before .before .args in rw (none-behind (a .bytes .now) (a .first) (a .count) (c .before .before .pre)) (omega arith, refl, tt, search needs)
 
-place-at-requires : tie.Need-place-at-requires Inv-loop μ-loop
-place-at-requires c κs = omega (arith, turned c .fits)
+sub-left : tie.Need-sub-left Inv-loop μ-loop
+sub-left c = search needs
+
+mul-p : tie.Need-mul-p Inv-loop μ-loop
+mul-p c = omega (arith, inside-of c)
 
 add-p : tie.Need-add-p Inv-loop μ-loop
-add-p c = omega (arith, turned (c .before) .fits)
+add-p c = omega (arith, inside-of c)
 
-add-i : tie.Need-add-i Inv-loop μ-loop
-add-i c = search needs
+place-at-requires : tie.Need-place-at-requires Inv-loop μ-loop
+place-at-requires c κs = inside-of c
+
+mix-requires : tie.Need-mix-requires Inv-loop μ-loop
+mix-requires c κs = search needs
+
+add-requires : tie.Need-add-requires Inv-loop μ-loop
+add-requires c κs = search needs
+
+add-comes-again : tie.Need-add-comes-again Inv-loop μ-loop
+add-comes-again c = omega (arith, inside-of (c .before .before .before .before .before .before .before))
 
 sub-comes-again : tie.Need-sub-comes-again Inv-loop μ-loop
 sub-comes-again c = search needs
 
+sub-comes-again-2 : tie.Need-sub-comes-again-2 Inv-loop μ-loop
+sub-comes-again-2 c = search needs
+
 comes-again-requires : tie.Need-comes-again-requires Inv-loop μ-loop
-comes-again-requires c κs = turned (c .before) .rooms
+comes-again-requires c κs =
+    let l = body c .before in
+    let a = start l .args in
+    behind-stand (a .bytes .now) (a .first) (a .count) (start l .pre) (l .loop .left) (body c .loop-test .taken) (l .loop .inv .0)
+
+same-length : tie.Need-same-length Inv-loop μ-loop
+same-length c = search needs
 
 returns : tie.Need-returns Inv-loop μ-loop
-returns c = let u = c .before .before in differ-not (u .before .before .loop .inv .2) (here u) (c .before .comes-again .ensures) (c .if1 .taken)
+returns c =
+    let i = body (c .before .before) in
+    let l = i .before in
+    let a = start l .args in
+    let p = c .before .before .before .before .before .before .before .before in
+    sym (not-distinct (a .bytes .now) (a .first) (a .count) (start l .pre) (l .loop .left) (i .loop-test .taken) (l .loop .inv .0) (p .place-at .result) (p .place-at .ensures .0) (sym (asked (c .before)) ∙ c .if2 .taken))
 
 loop-less : tie.Need-loop-less Inv-loop μ-loop
 loop-less c = search needs
 
 loop-again : tie.Need-loop-again Inv-loop μ-loop
-loop-again c = let u = c .before .before in (omega arith, turned (u .before) .rooms, differ-on (u .before .before .loop .inv .2) (here u) (c .before .comes-again .ensures) (c .if1 .left))
+loop-again c =
+    let u = c .before .before in
+    let on = one-more (added-at u) (sym (asked (c .before)) ∙ c .if2 .left) in
+    (omega arith, on .0, on .1, search needs)
+
+loop-less-2 : tie.Need-loop-less-2 Inv-loop μ-loop
+loop-less-2 c = search needs
+
+loop-again-2 : tie.Need-loop-again-2 Inv-loop μ-loop
+loop-again-2 c =
+    let x = c .before .before .before in
+    let i = c .before .before .before .before .before .before .before in
+    let l = i .before in
+    let a = start l .args in
+    let clear = rw (x .before .mix .ensures) at (sym (x .add .ensures .0) ∙ c .if1 .left) in
+    let on = one-more x (is-new (l .loop .bits) (x .before .before .before .place-at .result) (drop (l .loop .left) (placeNumbers (a .count) (drop (a .first) (a .bytes .now)))) clear (l .loop .inv .2)) in
+    (omega arith, on .0, on .1, search needs)
+
+same-length-2 : tie.Need-same-length-2 Inv-loop μ-loop
+same-length-2 c = search needs
 
 returns-2 : tie.Need-returns-2 Inv-loop μ-loop
-returns-2 c = let l = c .before in differ-end (l .loop .inv .2) (none-left (λ l. 46) placeNumber (bytes l) (count l) (l .loop .i) (l .loop .p) (c .loop-test .left))
+returns-2 c = let l = c .before in let none : l .loop .left ≡ 0 = omega arith in sym (rw none at (l .loop .inv .1))
 
 pub places-differ-spec : {M : Type 1} → statement M
 places-differ-spec =
@@ -72,12 +138,21 @@ places-differ-spec =
     Inv-loop
     μ-loop
     loop-holds
-    place-at-requires
+    sub-left
+    mul-p
     add-p
-    add-i
+    place-at-requires
+    mix-requires
+    add-requires
+    add-comes-again
     sub-comes-again
+    sub-comes-again-2
     comes-again-requires
+    same-length
     returns
     loop-less
     loop-again
+    loop-less-2
+    loop-again-2
+    same-length-2
     returns-2)

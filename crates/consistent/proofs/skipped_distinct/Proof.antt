@@ -34,12 +34,18 @@ places-rise-requires c κs = keys c .rooms
 returns : tie.Need-returns
 returns c = let s = c .before .before in sym (ascending-distinct 0 (placeNumbers (s .before .args .count) (part s)) (sym (c .before .places-rise .ensures) ∙ c .if1 .taken)) ∙ asked s
 
-places-differ-requires : tie.Need-places-differ-requires
-places-differ-requires c κs = keys (c .before .before) .rooms
+few-differ-requires : tie.Need-few-differ-requires
+few-differ-requires c κs = keys (c .before .before .before) .rooms
 
 returns-2 : tie.Need-returns-2
-returns-2 c = c .places-differ .ensures ∙ asked (c .before .before .before)
+returns-2 c = c .few-differ .ensures ∙ asked (c .before .before .before .before)
+
+many-differ-requires : tie.Need-many-differ-requires
+many-differ-requires c κs = keys (c .before .before .before) .rooms
+
+returns-3 : tie.Need-returns-3
+returns-3 c = c .many-differ .ensures ∙ asked (c .before .before .before .before)
 
 pub skipped-distinct-spec : {M : Type 1} → statement M
 skipped-distinct-spec =
-    tie.close (tie.spec places-rise-requires returns places-differ-requires returns-2)
+    tie.close (tie.spec places-rise-requires returns few-differ-requires returns-2 many-differ-requires returns-3)
