@@ -1,13 +1,13 @@
 crate = "restore"
 fn = "few_if"
-TURNS = "(now run) (now entries) aside times"
-invariant = f"Few {TURNS} {{i}} {{s}}"
-start = f"few-starts {TURNS} state (asks .2)"
-requires = f"(asks .0, few-first {TURNS} {{i}} {{s}} (asks .1) {{less}} {{so}})"
-next = f"few-next {TURNS} {{i}} {{next}} {{less}} {{told}}"
-ends = f"few-ends {TURNS} {{i}} {{s}} {{over}} {{so}}"
+TURNS = "(now run) (now entries) aside often times"
+invariant = f"Made {TURNS} {{i}} {{s}}"
+start = f"none-made {TURNS} state (asks .1)"
+requires = f"first-made {TURNS} {{i}} {{s}} (asks .0) {{less}} {{so}}"
+next = f"one-made {TURNS} {{i}} {{next}} {{less}} {{told}}"
+ends = f"all-made {TURNS} {{i}} {{s}} {{over}} {{so}}"
 uses = [
-    "use Rattle.store.specs.Twins.{firstTwin}",
     "use Rattle.across.specs.At.{At}",
-    "use Rattle.restore.proofs.Index.{Few, few-starts, few-first, few-next, few-ends}",
+    "use Rattle.restore.specs.Index.{turnsDone}",
+    "use Rattle.restore.proofs.Index.{Made, none-made, first-made, one-made, all-made}",
 ]

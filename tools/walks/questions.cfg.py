@@ -1,10 +1,15 @@
 crate = "restore"
 fn = "questions"
 BEGINS = "begins-at (now run) (now entries) aside n begun ordered bounded read state is-n is-begun is-ordered is-bounded is-read is-state"
-TIMES = "few many is-few is-many"
+TIMES = "(now run) (now entries) aside few many often most is-few is-many is-often is-most"
 requires = {
-    "some": f"(is-twin, is-few, {BEGINS})",
-    "end": f"(is-twin, other-times {TIMES} .0, other-left (now run) (now entries) aside few many some is-few is-many is-some)",
+    "some": f"(is-few, {BEGINS})",
+    "more": "not-few (now run) (now entries) aside few many (few + many) (1 - (few + many)) is-few is-many refl refl some is-some",
+    "often": "(is-few, is-many)",
+    "end": f"not-many {TIMES} more is-more",
 }
-ends = "answers (now run) (now entries) aside end r is-end is-r"
-uses = ["use Rattle.restore.proofs.Ends.{begins-at, answers}", "use Rattle.restore.proofs.Index.{other-times, other-left}"]
+ends = f"answers (now run) (now entries) aside end r (made {TIMES} end is-end) is-r"
+uses = [
+    "use Rattle.restore.proofs.Ends.{begins-at, answers}",
+    "use Rattle.restore.proofs.Index.{not-few, not-many, made}",
+]

@@ -1,4 +1,4 @@
--- An index of contacts, and the turns that are made with a small one or a large one, each once at most.
+-- An index of contacts, and the turns that are made once, with a small one or a large one.
 -- Assumes nothing.
 use Prim.Native.Nat.{ℕ, zero, suc, _+_, _-_, _≤_, _<_, min}
 use native.Mathlib.Omega.{arith}
@@ -22,54 +22,45 @@ pub all-noted : (index : List ℕ) (count : ℕ) → count ≡ length index → 
 all-noted index count is = omega (arith, is)
 
 -- ---- turns that are made once or not at all
-done-next : (time n : ℕ) → turnsDone (time + 1) n ≡ n
-done-next time n = ap (λ (t : ℕ). turnsDone t n) (add-one time) ∙ rw (eqb·suc-zero time)
+done-once : (time n : ℕ) → turnsDone (time + 1) n ≡ n
+done-once time n = ap (λ (t : ℕ). turnsDone t n) (add-one time) ∙ rw (eqb·suc-zero time)
 
-module _ (run : List ℕ) (es : List Entry) (aside : Aside) (times : ℕ) where
-  -- with the small index
-  pub record Few (time : ℕ) (s : Across) : Type 0 where
-    pub upto : time ≤ times
-    pub at : At run es aside (turnsDone time (length es)) s
+module _ (run : List ℕ) (es : List Entry) (aside : Aside) where
+  -- after so many times
+  abbrev After : (times : ℕ) → Across → Type 0
+  After times s = At run es aside (turnsDone times (length es)) s
 
-  pub few-starts : (s : Across) → At run es aside 0 s → Few 0 s
-  few-starts s at = record { upto = omega arith; at = at }
+  after-as : (a b : ℕ) (s : Across) → a ≡ b → After a s → After b s
+  after-as a b s same at = subst (λ (t : ℕ). After t s) same at
 
-  pub few-first : (time : ℕ) (s : Across) → times ≤ 1 → time < times → Few time s → At run es aside 0 s
-  few-first time s once l so = let same : time ≡ 0 = omega arith in subst (λ (t : ℕ). At run es aside (turnsDone t (length es)) s) same (so .at)
+  module _ (done times : ℕ) where
+    pub record Made (time : ℕ) (s : Across) : Type 0 where
+      pub upto : time ≤ times
+      pub at : After (done + time) s
 
-  pub few-next : (time : ℕ) (next : Across) → time < times → At run es aside (length es) next → Few (time + 1) next
-  few-next time next l at = record { upto = omega arith; at = subst (λ (n : ℕ). At run es aside n next) (sym (done-next time (length es))) at }
+    pub none-made : (s : Across) → After done s → Made 0 s
+    none-made s at = record { upto = omega arith; at = after-as done (done + 0) s (omega arith) at }
 
-  pub few-ends : (time : ℕ) (s : Across) → times ≤ time → Few time s → At run es aside (turnsDone times (length es)) s
-  few-ends time s over so = let same : time ≡ times = omega (arith, so .upto) in subst (λ (t : ℕ). At run es aside (turnsDone t (length es)) s) same (so .at)
+    -- none was made before this one
+    pub first-made : (time : ℕ) (s : Across) → times ≤ 1 - done → time < times → Made time s → At run es aside 0 s
+    first-made time s once l so = after-as (done + time) 0 s (omega arith) (so .at)
 
-  -- with the large one, where the small one was not used
-  abbrev left : (time : ℕ) → ℕ
-  left time = turnsDone (1 - times + time) (length es)
+    pub one-made : (time : ℕ) (next : Across) → time < times → At run es aside (length es) next → Made (time + 1) next
+    one-made time next l at = record {
+      upto = omega arith;
+      at = after-as (done + time + 1) (done + (time + 1)) next (omega arith) (subst (λ (n : ℕ). At run es aside n next) (sym (done-once (done + time) (length es))) at);
+    }
 
-  pub record Many (time : ℕ) (s : Across) : Type 0 where
-    pub upto : time ≤ times
-    pub at : At run es aside (left time) s
+    pub all-made : (time : ℕ) (s : Across) → times ≤ time → Made time s → After (done + times) s
+    all-made time s over so = after-as (done + time) (done + times) s (omega (arith, so .upto)) (so .at)
 
-  pub many-starts : (s : Across) → At run es aside (turnsDone (1 - times) (length es)) s → Many 0 s
-  many-starts s at = let same : 1 - times ≡ 1 - times + 0 = omega arith in record { upto = omega arith; at = subst (λ (t : ℕ). At run es aside (turnsDone t (length es)) s) same at }
+  -- of few entries, of many or of most
+  module _ (few many done most : ℕ) (is-few : few ≤ 1) (is-many : many ≤ 1 - few) (is-done : done ≡ few + many) (is-most : most ≡ 1 - done) where
+    pub not-few : (s : Across) → After (0 + few) s → (many ≤ 1 - few) × After few s
+    not-few s at = (is-many, after-as (0 + few) few s (omega arith) at)
 
-  pub many-first : (time : ℕ) (s : Across) → times ≤ 1 → time < times → Many time s → At run es aside 0 s
-  many-first time s once l so = let same : 1 - times + time ≡ 0 = omega arith in subst (λ (t : ℕ). At run es aside (turnsDone t (length es)) s) same (so .at)
+    pub not-many : (s : Across) → After (few + many) s → (most ≤ 1 - done) × After done s
+    not-many s at = (omega arith, after-as (few + many) done s (sym is-done) at)
 
-  pub many-next : (time : ℕ) (next : Across) → time < times → At run es aside (length es) next → Many (time + 1) next
-  many-next time next l at =
-      let same : 1 - times + time + 1 ≡ 1 - times + (time + 1) = omega arith in
-      record { upto = omega arith; at = subst (λ (t : ℕ). At run es aside (turnsDone t (length es)) next) same (subst (λ (n : ℕ). At run es aside n next) (sym (done-next (1 - times + time) (length es))) at) }
-
-  pub many-ends : (time : ℕ) (s : Across) → times ≤ 1 → times ≤ time → Many time s → At run es aside (length es) s
-  many-ends time s once over so =
-      let same : 1 - times + time ≡ 0 + 1 = omega (arith, so .upto) in
-      subst (λ (n : ℕ). At run es aside n s) (done-next 0 (length es)) (subst (λ (t : ℕ). At run es aside (turnsDone t (length es)) s) same (so .at))
-
--- the one is made where the other is not
-pub other-times : (few many : ℕ) → few ≤ 1 → many ≡ 1 - few → (many ≤ 1) × (few ≡ 1 - many)
-other-times few many once is = (omega arith, omega arith)
-
-pub other-left : (run : List ℕ) (es : List Entry) (aside : Aside) (few many : ℕ) (s : Across) → few ≤ 1 → many ≡ 1 - few → At run es aside (turnsDone few (length es)) s → At run es aside (turnsDone (1 - many) (length es)) s
-other-left run es aside few many s once is at = subst (λ (t : ℕ). At run es aside (turnsDone t (length es)) s) (other-times few many once is .1) at
+    pub made : (s : Across) → After (done + most) s → At run es aside (length es) s
+    made s at = let once : done + most ≡ 0 + 1 = omega arith in subst (λ (n : ℕ). At run es aside n s) (done-once 0 (length es)) (after-as (done + most) (0 + 1) s once at)

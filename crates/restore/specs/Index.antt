@@ -1,4 +1,4 @@
--- Where an index says that a contact stands, and how far the turns have come that are made with a small index or not at all.
+-- Where an index says that a contact stands, and how far turns have come that are made once or not at all.
 -- Assumes nothing.
 use Prim.Native.Nat.{ℕ, _-_}
 use mathlib.Core.List.{List}

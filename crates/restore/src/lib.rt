@@ -23,8 +23,10 @@ pub enum Restored {
     Refused(u8, usize),
 }
 
-// How many entries are few: for these a small index is enough.
+// How many entries are few, for which a small filter and index are enough, and how many are many.
 const FEW: usize = 1024;
+
+const MANY: usize = 65536;
 
 // The highest number of 32 bits.
 const HIGHEST_32: usize = 0xFFFFFFFF;
@@ -216,56 +218,74 @@ fn across_turns(
     after
 }
 
-// With an index of 1 KB, and with one of 256 KB.
-fn few_turns(run: &[u8], entries: &[Entry], aside: Aside, twin: usize, state: Across) -> Across
-    requires { ⌜ (twin ≡ firstTwin (now entries)) × At (now run) (now entries) aside 0 state ⌝ }
+// With a filter and an index of 1 KB, and with a filter of 64 KB and an index of 256 KB. A frame as large as that is touched page by page wherever it is entered:
+// `many_turns` has two callers, so that it is compiled to a function of its own and a small store's restore does not enter it.
+fn few_turns(run: &[u8], entries: &[Entry], aside: Aside, state: Across) -> Across
+    requires { ⌜ At (now run) (now entries) aside 0 state ⌝ }
     ensures { λ r. ⌜ At (now (run .entry)) (now (entries .entry)) aside (length (now (entries .entry))) r ⌝ }
 {
+    let twin = twins::first_of_few(entries);
     let place = no_place();
     let mut index = [place; 256];
     let count = note_all(entries, &mut index[..]);
     across_turns(run, entries, &index[..count], aside, twin, state)
 }
 
-fn many_turns(run: &[u8], entries: &[Entry], aside: Aside, twin: usize, state: Across) -> Across
-    requires { ⌜ (twin ≡ firstTwin (now entries)) × At (now run) (now entries) aside 0 state ⌝ }
+fn many_turns(run: &[u8], entries: &[Entry], aside: Aside, state: Across) -> Across
+    requires { ⌜ At (now run) (now entries) aside 0 state ⌝ }
     ensures { λ r. ⌜ At (now (run .entry)) (now (entries .entry)) aside (length (now (entries .entry))) r ⌝ }
 {
+    let twin = twins::first_of_many(entries);
     let place = no_place();
     let mut index = [place; 65536];
     let count = note_all(entries, &mut index[..]);
     across_turns(run, entries, &index[..count], aside, twin, state)
 }
 
-// How often the turns go with the small index: once for few entries, and else not.
+// How often the turns are made so of n entries: once of few, of many or of most, and not of the others.
 fn few_times(n: usize) -> usize
     ensures { λ r. ⌜ r ≤ 1 ⌝ }
 {
     if n < FEW { 1 } else { 0 }
 }
 
-// ... and with the large one.
-fn many_times(few: usize) -> usize
-    ensures { λ r. ⌜ r ≡ 1 - few ⌝ }
+fn many_times(n: usize, often: usize) -> usize
+    ensures { λ r. ⌜ r ≤ 1 - often ⌝ }
 {
-    if few == 0 { 1 } else { 0 }
+    if often != 0 {
+        return 0;
+    }
+    if n < MANY { 1 } else { 0 }
+}
+
+fn sum(few: usize, many: usize) -> usize
+    requires { ⌜ (few ≤ 1) × (many ≤ 1 - few) ⌝ }
+    ensures { λ r. ⌜ r ≡ few + many ⌝ }
+{
+    few + many
+}
+
+fn most_times(often: usize) -> usize
+    ensures { λ r. ⌜ r ≡ 1 - often ⌝ }
+{
+    if often == 0 { 1 } else { 0 }
 }
 
 fn few_if(
     run: &[u8],
     entries: &[Entry],
     aside: Aside,
-    twin: usize,
+    often: usize,
     times: usize,
     state: Across,
 ) -> Across
-    requires { ⌜ (twin ≡ firstTwin (now entries)) × (times ≤ 1) × At (now run) (now entries) aside 0 state ⌝ }
-    ensures { λ r. ⌜ At (now (run .entry)) (now (entries .entry)) aside (turnsDone times (length (now (entries .entry)))) r ⌝ }
+    requires { ⌜ (times ≤ 1 - often) × At (now run) (now entries) aside (turnsDone often (length (now entries))) state ⌝ }
+    ensures { λ r. ⌜ At (now (run .entry)) (now (entries .entry)) aside (turnsDone (often + times) (length (now (entries .entry)))) r ⌝ }
 {
     let mut time = 0;
     let mut after = state;
     while time < times {
-        after = few_turns(run, entries, aside, twin, after);
+        after = few_turns(run, entries, aside, after);
         time = time + 1;
     }
     after
@@ -275,17 +295,37 @@ fn many_if(
     run: &[u8],
     entries: &[Entry],
     aside: Aside,
-    twin: usize,
+    often: usize,
     times: usize,
     state: Across,
 ) -> Across
-    requires { ⌜ (twin ≡ firstTwin (now entries)) × (times ≤ 1) × At (now run) (now entries) aside (turnsDone (1 - times) (length (now entries))) state ⌝ }
-    ensures { λ r. ⌜ At (now (run .entry)) (now (entries .entry)) aside (length (now (entries .entry))) r ⌝ }
+    requires { ⌜ (times ≤ 1 - often) × At (now run) (now entries) aside (turnsDone often (length (now entries))) state ⌝ }
+    ensures { λ r. ⌜ At (now (run .entry)) (now (entries .entry)) aside (turnsDone (often + times) (length (now (entries .entry)))) r ⌝ }
 {
     let mut time = 0;
     let mut after = state;
     while time < times {
-        after = many_turns(run, entries, aside, twin, after);
+        after = many_turns(run, entries, aside, after);
+        time = time + 1;
+    }
+    after
+}
+
+fn most_if(
+    run: &[u8],
+    entries: &[Entry],
+    aside: Aside,
+    often: usize,
+    times: usize,
+    state: Across,
+) -> Across
+    requires { ⌜ (times ≤ 1 - often) × At (now run) (now entries) aside (turnsDone often (length (now entries))) state ⌝ }
+    ensures { λ r. ⌜ At (now (run .entry)) (now (entries .entry)) aside (turnsDone (often + times) (length (now (entries .entry)))) r ⌝ }
+{
+    let mut time = 0;
+    let mut after = state;
+    while time < times {
+        after = many_turns(run, entries, aside, after);
         time = time + 1;
     }
     after
@@ -301,11 +341,13 @@ pub fn questions(run: &[u8], entries: &[Entry], aside: Aside) -> Restored
     let bounded = turns(run, entries, aside, question::BOUNDS, ordered);
     let read = turns(run, entries, aside, question::VERSION, bounded);
     let state = across::begin(read);
-    let twin = twins::first_twin(entries);
     let few = few_times(n);
-    let some = few_if(run, entries, aside, twin, few, state);
-    let many = many_times(few);
-    let end = many_if(run, entries, aside, twin, many, some);
+    let some = few_if(run, entries, aside, 0, few, state);
+    let many = many_times(n, few);
+    let more = many_if(run, entries, aside, few, many, some);
+    let often = sum(few, many);
+    let most = most_times(often);
+    let end = most_if(run, entries, aside, often, most, more);
     answer(end)
 }
 

@@ -17,7 +17,7 @@ use Rattle.store.proofs.Tests.{truth, both, pair, eq→eqb}
 use Rattle.store.proofs.Searches.{FirstAt, first-at, first-is}
 use Rattle.twins.specs.Above.{stopsAt}
 use Rattle.twins.specs.Filter.{hashOf}
-use Rattle.twins.specs.Parts.{FEW, partOf, inPart, twinIn, twinsBelow, fewParts, partsFor, manyParts}
+use Rattle.twins.specs.Parts.{partOf, inPart, twinIn, twinsBelow, unlessRising, partsFor}
 use Rattle.twins.proofs.Above.{none-twice}
 
 module _ (es : List Entry) where
@@ -41,8 +41,8 @@ module _ (es : List Entry) where
 
   -- an entry of the parts below the next one is of this part or of one below it
   module _ (last part i : ℕ) where
-    one-part : T (twinIn es last part i) → T (twinsBelow es last (part + 1) i)
-    one-part t =
+    this-part : T (twinIn es last part i) → T (twinsBelow es last (part + 1) i)
+    this-part t =
         let so = both (hasTwin es i) (inPart last part (hashOf (entryAt es i))) t in
         pair (hasTwin es i) (ltb (its last i) (part + 1)) (so .0) (lt→ltb (its last i) (part + 1) (omega (arith, eqb→eq (its last i) part (so .1))))
 
@@ -77,7 +77,7 @@ module _ (es : List Entry) where
       hits (yes a) l =
           let same : firstWhere (twinIn es last part) 0 first ≡ first = omega (arith, this .upto) in
           rw same (more-parts last part first (below .hit (omega arith)))
-      hits (no a) l = one-part last part (firstWhere (twinIn es last part) 0 first) (this .hit (omega arith))
+      hits (no a) l = this-part last part (firstWhere (twinIn es last part) 0 first) (this .hit (omega arith))
 
       go : FirstAt (twinsBelow es last (part + 1)) 0 best (firstWhere (twinIn es last part) 0 first)
       go = record {
@@ -120,35 +120,33 @@ module _ (es : List Entry) where
     misses = λ m a b. none-twice es whole (λ k l. first-at (stopsAt es) 0 whole .misses k (omega arith) (omega arith)) m b;
   })
 
-  -- ---- none, few or many
-  some-parts : (n : ℕ) → 0 < partsFor n
-  some-parts n = go (leb n 32768) (leb n 131072) (leb n 524288) (leb n 2097152)
+  -- ---- parts up to `last`, unless all entries rise
+  pub of-all : (n up last parts k r : ℕ) → n ≡ whole → up ≡ firstWhere (stopsAt es) 0 whole → parts ≡ unlessRising n up k → (parts ≡ k → last < parts)
+      → r ≡ firstWhere (twinsBelow es last parts) 0 n → r ≡ firstTwin es
+  of-all n up last parts k r is-n is-up is-parts all is-r = is-r ∙ ap (firstWhere (twinsBelow es last parts) 0) is-n ∙ go (leb whole up) refl
     where
-      go : (a b c d : Bool) → 0 < cond a 1 (cond b 4 (cond c 16 (cond d 64 256)))
-      go true b c d = omega arith
-      go false true c d = omega arith
-      go false false true d = omega arith
-      go false false false true = omega arith
-      go false false false false = omega arith
+      so : parts ≡ unlessRising whole up k
+      so = is-parts ∙ ap (λ (m : ℕ). unlessRising m up k) is-n
 
-  -- the first of so many parts, and the first of so many others
-  abbrev found : (few many : ℕ) → ℕ
-  found few many = firstWhere (twinsBelow es (many - 1) many) 0 (firstWhere (twinsBelow es 0 few) 0 whole)
+      go : (t : Bool) → leb whole up ≡ t → firstWhere (twinsBelow es last parts) 0 whole ≡ firstTwin es
+      go true is =
+          let none : parts ≡ 0 = so ∙ ap (λ (x : Bool). cond x 0 k) is in
+          ap (λ (m : ℕ). firstWhere (twinsBelow es last m) 0 whole) none ∙ no-parts last whole ∙ all-rise (rw is-up at (leb→le whole up (truth (leb whole up) is)))
+      go false is = all-parts last parts whole (all (so ∙ ap (λ (x : Bool). cond x 0 k) is))
 
-  found-first : (up : ℕ) → up ≡ firstWhere (stopsAt es) 0 whole → found (fewParts whole up) (manyParts whole up) ≡ firstTwin es
-  found-first up is-up = go (leb whole up) (ltb whole FEW) refl
-    where
-      go : (rise few : Bool) → leb whole up ≡ rise → found (cond rise 0 (cond few 1 0)) (cond rise 0 (cond few 0 (partsFor whole))) ≡ firstTwin es
-      go true few is = no-parts (0 - 1) (firstWhere (twinsBelow es 0 0) 0 whole) ∙ no-parts 0 whole ∙ all-rise (rw is-up at (leb→le whole up (truth (leb whole up) is)))
-      go false true is = no-parts (0 - 1) (firstWhere (twinsBelow es 0 1) 0 whole) ∙ all-parts 0 1 whole (omega arith)
-      go false false is =
-          ap (firstWhere (twinsBelow es (partsFor whole - 1) (partsFor whole)) 0) (no-parts 0 whole) ∙ all-parts (partsFor whole - 1) (partsFor whole) whole (omega (arith, some-parts whole))
+-- ---- the parts of few entries, and of many
+pub one-part : (parts : ℕ) → parts ≡ 1 → 0 < parts
+one-part parts is = omega arith
 
-  pub of-all : (n up few first many last r : ℕ) → n ≡ whole → up ≡ firstWhere (stopsAt es) 0 whole → few ≡ fewParts n up → first ≡ firstWhere (twinsBelow es 0 few) 0 n
-      → many ≡ manyParts n up → last ≡ many - 1 → r ≡ firstWhere (twinsBelow es last many) 0 first → r ≡ firstTwin es
-  of-all n up few first many last r is-n is-up is-few is-first is-many is-last is-r =
-      let few-is : few ≡ fewParts whole up = is-few ∙ ap (λ (m : ℕ). fewParts m up) is-n in
-      let many-is : many ≡ manyParts whole up = is-many ∙ ap (λ (m : ℕ). manyParts m up) is-n in
-      is-r
-      ∙ (λ k. firstWhere (twinsBelow es ((is-last ∙ ap (λ (m : ℕ). m - 1) many-is) k) (many-is k)) 0 ((is-first ∙ (λ j. firstWhere (twinsBelow es 0 (few-is j)) 0 (is-n j))) k))
-      ∙ found-first up is-up
+some-parts : (n : ℕ) → 0 < partsFor n
+some-parts n = go (leb n 32768) (leb n 131072) (leb n 524288) (leb n 2097152)
+  where
+    go : (a b c d : Bool) → 0 < cond a 1 (cond b 4 (cond c 16 (cond d 64 256)))
+    go true b c d = omega arith
+    go false true c d = omega arith
+    go false false true d = omega arith
+    go false false false true = omega arith
+    go false false false false = omega arith
+
+pub last-part : (n parts last : ℕ) → last ≡ parts - 1 → parts ≡ partsFor n → last < parts
+last-part n parts last is-last is-parts = omega (arith, some-parts n)

@@ -45,15 +45,9 @@ module _ (es : List Entry) (last : ℕ) where
   abbrev pub twinsBelow : (parts : ℕ) → ℕ → Bool
   twinsBelow parts i = hasTwin es i && ltb (partOf last (hashOf (entryAt es i))) parts
 
--- ---- in how many parts n entries are taken, the first `up` of which rise: of few entries, and of many
-abbrev pub FEW : ℕ
-FEW = 1024
-
-abbrev pub fewParts : (n up : ℕ) → ℕ
-fewParts n up = cond (leb n up) 0 (cond (ltb n FEW) 1 0)
+-- ---- in how many parts n entries are taken: in none where they rise, all of the first `up`
+abbrev pub unlessRising : (n up parts : ℕ) → ℕ
+unlessRising n up parts = cond (leb n up) 0 parts
 
 abbrev pub partsFor : (n : ℕ) → ℕ
 partsFor n = cond (leb n 32768) 1 (cond (leb n 131072) 4 (cond (leb n 524288) 16 (cond (leb n 2097152) 64 256)))
-
-abbrev pub manyParts : (n up : ℕ) → ℕ
-manyParts n up = cond (leb n up) 0 (cond (ltb n FEW) 0 (partsFor n))

@@ -12,13 +12,10 @@ ghost use Rattle.store.specs.Find.{firstWhere};
 ghost use Rattle.store.specs.Twins.{twinOf, asksNew, firstTwin};
 ghost use Rattle.twins.specs.Above.{msgnoOf, isAbove, stops, stopsAt};
 ghost use Rattle.twins.specs.Filter.{hashOf, bitOf, maskOf, isSet, marked};
-ghost use Rattle.twins.specs.Parts.{inPart, reachOf, noted, settledOn, turnedTo, twinIn, twinsBelow, fewParts, partsFor, manyParts};
+ghost use Rattle.twins.specs.Parts.{inPart, reachOf, noted, settledOn, turnedTo, twinIn, twinsBelow, unlessRising, partsFor};
 
 // One more than the highest number of 32 bits.
 const HALF: u64 = 4294967296;
-
-// How many entries are few: for these a filter of 1 KB is enough.
-const FEW: usize = 1024;
 
 // ---- keys
 
@@ -284,17 +281,14 @@ fn many_below(entries: &[Entry], last: usize, parts: usize, best: usize) -> usiz
     first
 }
 
-// How many parts there are of few entries, the first `up` of which rise: none where all do, or where they are many.
+// In how many parts few entries are taken, the first `up` of which rise: in none where all do.
 fn few_parts(n: usize, up: usize) -> usize
-    ensures { λ r. ⌜ r ≡ fewParts n up ⌝ }
+    ensures { λ r. ⌜ r ≡ unlessRising n up 1 ⌝ }
 {
-    if n <= up {
-        return 0;
-    }
-    if n < FEW { 1 } else { 0 }
+    if n <= up { 0 } else { 1 }
 }
 
-// ... so that a part has some ten thousand keys.
+// ... and many: so that a part has some ten thousand keys.
 fn parts_for(n: usize) -> usize
     ensures { λ r. ⌜ r ≡ partsFor n ⌝ }
 {
@@ -310,28 +304,32 @@ fn parts_for(n: usize) -> usize
     if n <= 2097152 { 64 } else { 256 }
 }
 
-// ... and of many entries: none where all rise, or where they are few.
 fn many_parts(n: usize, up: usize) -> usize
-    ensures { λ r. ⌜ r ≡ manyParts n up ⌝ }
+    ensures { λ r. ⌜ r ≡ unlessRising n up (partsFor n) ⌝ }
 {
     if n <= up {
-        return 0;
-    }
-    if n < FEW {
         return 0;
     }
     parts_for(n)
 }
 
-// The first entry that has a twin before it; the number of entries where none has.
-pub fn first_twin(entries: &[Entry]) -> usize
+// The first entry that has a twin before it; the number of entries where none has. With a filter of 1 KB, enough for a thousand entries,
+pub fn first_of_few(entries: &[Entry]) -> usize
     ensures { λ r. ⌜ r ≡ firstTwin (now (entries .entry)) ⌝ }
 {
     let n = entries::entry_count(entries);
     let up = rising(entries);
-    let few = few_parts(n, up);
-    let so_far = few_below(entries, 0, few, n);
-    let many = many_parts(n, up);
-    let last = before(many);
-    many_below(entries, last, many, so_far)
+    let parts = few_parts(n, up);
+    few_below(entries, 0, parts, n)
+}
+
+// ... and with one of 64 KB.
+pub fn first_of_many(entries: &[Entry]) -> usize
+    ensures { λ r. ⌜ r ≡ firstTwin (now (entries .entry)) ⌝ }
+{
+    let n = entries::entry_count(entries);
+    let up = rising(entries);
+    let parts = many_parts(n, up);
+    let last = before(parts);
+    many_below(entries, last, parts, n)
 }

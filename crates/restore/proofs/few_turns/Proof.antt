@@ -1,6 +1,6 @@
 -- `restore::few_turns` meets its contract: a walk of its MIR, which has no branch.
 -- Written by tools/walks/walkgen.py from tools/walks/few_turns.cfg.py, and not edited: tools/walks/README.md says how. Assumes nothing.
-use mathlib.Core.Path.{_≡_, refl, sym}
+use mathlib.Core.Path.{refl, sym}
 use Prim.Native.Nat.{ℕ}
 use mathlib.Core.List.{List, [], _∷_}
 use lib.Dec.{lit<}
@@ -45,7 +45,6 @@ use base.Fml.{fat}
 use types.Kit.{rewrite}
 use types.Part.{rep}
 use denote.Array.{Array, arrayVal}
-use Rattle.store.specs.Twins.{firstTwin}
 use Rattle.across.specs.At.{At}
 use Rattle.restore.proofs.Index.{as-many}
 use Rattle.walks.proofs.Table.{of-array, repeated, in-cells, whole-of, lends-whole, whole-back, first-of, lends-first, table-back}
@@ -57,6 +56,9 @@ use Rattle.store.proofs.Entry as EntryT
 use Rattle.store.specs.declared.Aside.{Aside}
 use Rattle.store.proofs.Aside as AsideT
 use Rattle.store.proofs.Aside.Laws as AsideL
+use Rattle.twins.proofs.first_of_few as twins-first-of-few
+use Rattle.twins.proofs.first_of_few.Symbol as twins-first-of-few-def
+use Rattle.twins.proofs.first_of_few.Met as twins-first-of-few-thm
 use Rattle.restore.proofs.no_place as no-place
 use Rattle.restore.proofs.no_place.Symbol as no-place-def
 use Rattle.restore.proofs.no_place.Met as no-place-thm
@@ -92,6 +94,9 @@ module _ {M : Type 1} (𝓤 : URA M) (H : Heap 𝓤) (A : Atoms 𝓤) (W : Given
   as-w32-table = of-array W as-w32 256
 
   -- the contracts that the proof cites, and its own
+  abbrev Its-twins-first-of-few : Contract 𝓤
+  Its-twins-first-of-few = tripleOf 𝓤 H A twins-first-of-few.signature (twins-first-of-few.spec 𝓤 H A mem calling)
+
   abbrev Its-no-place : Contract 𝓤
   Its-no-place = tripleOf 𝓤 H A no-place.signature (no-place.spec 𝓤 H A mem calling)
 
@@ -102,6 +107,7 @@ module _ {M : Type 1} (𝓤 : URA M) (H : Heap 𝓤) (A : Atoms 𝓤) (W : Given
   Its-across-turns = tripleOf 𝓤 H A across-turns.signature (across-turns.spec 𝓤 H A mem calling)
 
   pub record Known (C : Calls 𝓤 H) : Type 1 where
+    pub twins-first-of-few : Triple 𝓤 (C twins-first-of-few-def.name) Its-twins-first-of-few
     pub no-place : Triple 𝓤 (C no-place-def.name) Its-no-place
     pub note-all : Triple 𝓤 (C note-all-def.name) Its-note-all
     pub across-turns : Triple 𝓤 (C across-turns-def.name) Its-across-turns
@@ -112,31 +118,24 @@ module _ {M : Type 1} (𝓤 : URA M) (H : Heap 𝓤) (A : Atoms 𝓤) (W : Given
   abbrev This : Contract 𝓤
   This = walkOf 𝓤 H A this.ended stayed clauses
 
-  module _ (κ₀ κ₁ : Lft) (q₀ q₁ : Share) (run : RefT (List ℕ)) (entries : RefT (List Entry)) (aside : Aside) (twin : ℕ) (state : Across)
+  module _ (κ₀ κ₁ : Lft) (q₀ q₁ : Share) (run : RefT (List ℕ)) (entries : RefT (List Entry)) (aside : Aside) (state : Across)
       (in-run : Is (ShrSlice (named 0) κ₀ (UInt w8)) run (slice-vals run))
       (in-entries : Is (ShrSlice (named 1) κ₁ EntryT.the-row) entries (slice-vals entries))
       (in-aside : Lies as-Aside aside)
-      (in-twin : Lies as-w64 twin)
       (in-state : Lies as-Across state)
-      (asks : (twin ≡ firstTwin (now entries)) × At (now run) (now entries) aside 0 state) where
+      (asks : At (now run) (now entries) aside 0 state) where
     abbrev bound : This .Ghost
-    bound = (
-      (
-        (κ₀, (κ₁, tt)),
-        (q₀, (q₁, tt)),
-        tt,
-        (run, (entries, (aside, (twin, (state, tt))))),
-        (slice-vals run, (slice-vals entries, (vals as-Aside aside, (vals as-w64 twin, (vals as-Across state, tt))))),
-      ),
-      tt,
-    )
+    bound = (((κ₀, (κ₁, tt)), (q₀, (q₁, tt)), tt, (run, (entries, (aside, (state, tt)))), (slice-vals run, (slice-vals entries, (vals as-Aside aside, (vals as-Across state, tt))))), tt)
 
     -- what each call is handed
-    abbrev to-place : Its-no-place .Ghost
-    to-place = ((tt, tt, tt, tt, tt), tt)
+    abbrev to-twin : Its-twins-first-of-few .Ghost
+    to-twin = (((κ₁, tt), (q₁, tt), tt, (entries, tt), (slice-vals entries, tt)), tt)
 
-    abbrev to-count : (ν-whole : ℕ) → (γ-whole : GName) → (l₇ : ℕ) → (place : ℕ) → Its-note-all .Ghost
-    to-count ν-whole γ-whole l₇ place = (
+    abbrev to-place : (twin : ℕ) → Its-no-place .Ghost
+    to-place twin = ((tt, tt, tt, tt, tt), tt)
+
+    abbrev to-count : (ν-whole : ℕ) → (γ-whole : GName) → (l₇ : ℕ) → (twin : ℕ) → (place : ℕ) → Its-note-all .Ghost
+    to-count ν-whole γ-whole l₇ twin place = (
       (
         (κ₁, ((ν-whole ∷ []), tt)),
         (q₁, (fullShare, tt)),
@@ -147,8 +146,8 @@ module _ {M : Type 1} (𝓤 : URA M) (H : Heap 𝓤) (A : Atoms 𝓤) (W : Given
       tt,
     )
 
-    abbrev to-r : (ν-first : ℕ) → (γ-first : GName) → (l₇ : ℕ) → (index : List ℕ) → (place : ℕ) → (count : ℕ) → Its-across-turns .Ghost
-    to-r ν-first γ-first l₇ index place count = (
+    abbrev to-r : (ν-first : ℕ) → (γ-first : GName) → (l₇ : ℕ) → (index : List ℕ) → (twin : ℕ) → (place : ℕ) → (count : ℕ) → Its-across-turns .Ghost
+    to-r ν-first γ-first l₇ index twin place count = (
       (
         (κ₀, (κ₁, ((ν-first ∷ []), tt))),
         (q₀, (q₁, (fullShare, tt))),
@@ -176,12 +175,16 @@ module _ {M : Type 1} (𝓤 : URA M) (H : Heap 𝓤) (A : Atoms 𝓤) (W : Given
           pass1 ! (init ! 22 refl (shr-slice-lawful 𝓤 H A W (named 0) κ₀ (UInt w8) .typed run (slice-vals run) in-run .0)) $
           pass1 ! (init ! 20 refl (shr-slice-lawful 𝓤 H A W (named 1) κ₁ EntryT.the-row .typed entries (slice-vals entries) in-entries .0)) $
           pass1 ! (init ! 18 refl (as-Aside .lawful .typed aside _ in-aside .0)) $
-          pass1 ! (init ! 16 refl (as-w64 .lawful .typed twin _ in-twin .0)) $
-          pass1 ! (init ! 14 refl (as-Across .lawful .typed state _ in-state .0)) $
+          pass1 ! (init ! 16 refl (as-Across .lawful .typed state _ in-state .0)) $
           pass0 ! $ move ! (26 ∷ 27 ∷ 28 ∷ 29 ∷ []) $
+          -- twin is twins::first_of_few(entries)
+          nothing ! $ lends ! 3 (named 1) κ₁ EntryT.the-row entries refl $ move ! (2 ∷ 0 ∷ []) $
+          calls-held ! fm twins-first-of-few.ended (twins-first-of-few.clauses 𝓤 H A mem calling) (known .twins-first-of-few) to-twin (id⊢ 𝓤 _) as-w64 (λ r ws. id⊢ 𝓤 _)
+          (and-then ! (local ! (look ! 24 refl)) (no-more !)) (λ twin is-twin in-twin.
+          land ! (into !) (init ! 18 refl (as-w64 .lawful .typed twin _ in-twin .0)) $
           -- place is restore::no_place()
           nothing ! $
-          calls-held ! fm no-place.ended (no-place.clauses 𝓤 H A mem calling) (known .no-place) to-place (id⊢ 𝓤 _) as-w32 (λ r ws. id⊢ 𝓤 _)
+          calls-held ! fm no-place.ended (no-place.clauses 𝓤 H A mem calling) (known .no-place) (to-place twin) (id⊢ 𝓤 _) as-w32 (λ r ws. id⊢ 𝓤 _)
           (no-more !) (λ place is-place in-place.
           land ! (into !) (init ! 16 refl (as-w32 .lawful .typed place _ in-place .0)) $
           assigns ! (rep ! 256 (local ! (look ! 16 refl))) (into !) (init ! 14 refl
@@ -192,8 +195,8 @@ module _ {M : Type 1} (𝓤 : URA M) (H : Heap 𝓤) (A : Atoms 𝓤) (W : Given
           rewrite ! 9 (λ (m : ℕ). ‵ (fat fullShare (sliceTy (tyRef erased mut (pointee ((UInt w32) .written)))) l₁₀ 0 (sliceVal (l₇, 0) m))) (sym (length-replicate 256 place)) refl $
           lft-new ! tt (λ ν-whole. move ! (1 ∷ []) $ lends-whole ! tt (UInt w32) (named 0) 256 (lit< tt, lit< tt) ν-whole (replicate 256 place) l₇ (length-replicate 256 place) (λ γ-whole.
           -- count is restore::note_all(entries, index)
-          nothing ! $ move ! (1 ∷ 0 ∷ []) $ fjoin ! $ lends ! 5 (named 1) κ₁ EntryT.the-row entries refl $ move ! (4 ∷ 2 ∷ 0 ∷ []) $
-          calls-lent ! fm note-all.ended (note-all.clauses 𝓤 H A mem calling) (known .note-all) (to-count ν-whole γ-whole l₇ place) (id⊢ 𝓤 _) as-w64 (λ r ws. id⊢ 𝓤 _)
+          nothing ! $ move ! (1 ∷ 0 ∷ []) $ fjoin ! $ lends ! 5 (named 1) κ₁ EntryT.the-row entries refl $ move ! (3 ∷ 2 ∷ 0 ∷ []) $
+          calls-lent ! fm note-all.ended (note-all.clauses 𝓤 H A mem calling) (known .note-all) (to-count ν-whole γ-whole l₇ twin place) (id⊢ 𝓤 _) as-w64 (λ r ws. id⊢ 𝓤 _)
           (and-then ! (local ! (look ! 24 refl)) (and-then ! (local ! (look ! 9 refl)) (no-more !))) (λ count ws-count is-count in-count.
           move ! (2 ∷ []) $ fsplit ! $ drop ! $ fsplit ! $ fsplit ! $ move ! (1 ∷ []) $ feqL ! (λ fits-index. move ! (1 ∷ []) $ drop ! $
           land ! (into !) (init ! 15 refl (as-w64 .lawful .typed count _ in-count .0)) $
@@ -208,10 +211,10 @@ module _ {M : Type 1} (𝓤 : URA M) (H : Heap 𝓤) (A : Atoms 𝓤) (W : Given
           nothing ! $ plus ! as-Across state in-state $ plus ! as-w64 twin in-twin $ plus ! as-Aside aside in-aside $
           lends ! 0 (named 0) (ν-first ∷ []) (UInt w32) (first-of index count l₇ γ-first) refl $ lends ! 6 (named 1) κ₁ EntryT.the-row entries refl $
           lends ! 5 (named 0) κ₀ (UInt w8) run refl $ move ! (5 ∷ 4 ∷ 3 ∷ 0 ∷ []) $
-          calls-held ! fm across-turns.ended (across-turns.clauses 𝓤 H A mem calling) (known .across-turns) (to-r ν-first γ-first l₇ index place count) (factI 𝓤 _ (emp 𝓤) asks) as-Across
-          (λ r ws. id⊢ 𝓤 _)
+          calls-held ! fm across-turns.ended (across-turns.clauses 𝓤 H A mem calling) (known .across-turns) (to-r ν-first γ-first l₇ index twin place count)
+          (factI 𝓤 _ (emp 𝓤) (is-twin, asks)) as-Across (λ r ws. id⊢ 𝓤 _)
           (and-then ! (local ! (look ! 26 refl)) (and-then ! (local ! (look ! 24 refl))
-          (and-then ! (local ! (look ! 5 refl)) (and-then ! (local ! (look ! 22 refl)) (and-then ! (local ! (look ! 20 refl)) (and-then ! (local ! (look ! 18 refl)) (no-more !)))))))
+          (and-then ! (local ! (look ! 5 refl)) (and-then ! (local ! (look ! 22 refl)) (and-then ! (local ! (look ! 18 refl)) (and-then ! (local ! (look ! 20 refl)) (no-more !)))))))
           (λ r is-r in-r.
           land ! (into !) (init ! 30 refl (as-Across .lawful .typed r _ in-r .0)) $
           move ! (3 ∷ []) $ drop ! $ move ! (2 ∷ []) $ lft-end ! tt $ move ! (0 ∷ 3 ∷ []) $
@@ -219,21 +222,21 @@ module _ {M : Type 1} (𝓤 : URA M) (H : Heap 𝓤) (A : Atoms 𝓤) (W : Given
           returns ! (look ! 28 refl) $
           gone ! 28 refl refl $ gone ! 26 refl refl $ gone ! 24 refl refl $ gone ! 22 refl refl $ gone ! 20 refl refl $ gone ! 18 refl refl $ gone ! 16 refl refl $ gone ! 0 refl refl $
           gone ! 12 refl refl $ gone ! 10 refl refl $ gone ! 8 refl refl $ gone ! 6 refl refl $ gone ! 4 refl refl $ free0 ! $
-          suffices ! _ (ends-at 𝓤 H A this.ended stayed clauses W bound (as-Across .val r) r (tt, (tt, (tt, (tt, (tt, tt))))) (tt, (tt, (tt, (tt, (tt, tt)))))) $ says ! is-r $
-          keep ! (0 ∷ 1 ∷ []) $ retok ! 2 (κ₀, (κ₁, tt)) (q₀, (q₁, tt)) $ frame ! $ nothing ! $ none ! $ none ! $ none ! $ none ! $ none ! $ frame ! $
-          owned ! AcrossT.the-row (Is AcrossT.the-row) (as-Across .makes) r _ in-r $ done !)))))))))))))))))))))))
+          suffices ! _ (ends-at 𝓤 H A this.ended stayed clauses W bound (as-Across .val r) r (tt, (tt, (tt, (tt, tt)))) (tt, (tt, (tt, (tt, tt))))) $ says ! is-r $
+          keep ! (0 ∷ 1 ∷ []) $ retok ! 2 (κ₀, (κ₁, tt)) (q₀, (q₁, tt)) $ frame ! $ nothing ! $ none ! $ none ! $ none ! $ none ! $ frame ! $
+          owned ! AcrossT.the-row (Is AcrossT.the-row) (as-Across .makes) r _ in-r $ done !))))))))))))))))))))))))
 
   module _ (𝓣 : Tables 𝓤 H) (known : Known (𝓣 .C)) where
     walks : Walks 𝓤 H A this.ended stayed (WpFn 𝓤 H (𝓣 .C) (𝓣 .Λ) code.function) clauses
     walks = walked 𝓤 H A this.ended stayed clauses (WpFn 𝓤 H (𝓣 .C) (𝓣 .Λ) code.function)
-        (λ κs. (slice-vals, (slice-vals, (vals as-Aside, (vals as-w64, (vals as-Across, tt))))))
-        (λ κs. (shr-slice-tells (named 0) (κs .0) (UInt w8), (shr-slice-tells (named 1) (κs .1 .0) EntryT.the-row, (as-Aside .tells, (as-w64 .tells, (as-Across .tells, tt))))))
-        (λ κs qs bounds a g are. needs 𝓤 _ _ (λ asks. walk (κs .0) (κs .1 .0) (qs .0) (qs .1 .0) (a .0) (a .1 .0) (a .1 .1 .0) (a .1 .1 .1 .0) (a .1 .1 .1 .1 .0) (are .0) (are .1 .0)
-        (are .1 .1 .0) (are .1 .1 .1 .0) (are .1 .1 .1 .1 .0) asks 𝓣 (fmOf 𝓤 H (W .laws) 𝓣) known))
+        (λ κs. (slice-vals, (slice-vals, (vals as-Aside, (vals as-Across, tt)))))
+        (λ κs. (shr-slice-tells (named 0) (κs .0) (UInt w8), (shr-slice-tells (named 1) (κs .1 .0) EntryT.the-row, (as-Aside .tells, (as-Across .tells, tt)))))
+        (λ κs qs bounds a g are. needs 𝓤 _ _ (λ asks. walk (κs .0) (κs .1 .0) (qs .0) (qs .1 .0) (a .0) (a .1 .0) (a .1 .1 .0) (a .1 .1 .1 .0) (are .0) (are .1 .0) (are .1 .1 .0)
+        (are .1 .1 .1 .0) asks 𝓣 (fmOf 𝓤 H (W .laws) 𝓣) known))
 
     meets : Meets 𝓤 H A this.signature (WpFn 𝓤 H (𝓣 .C) (𝓣 .Λ) code.function) (this.spec 𝓤 H A mem calling)
     meets = walk-meets 𝓤 H A this.ended stayed W
-        (drops-go 𝓤 H A W 2 (this.ended .signature .params) (this.ended .kept) (λ κs x f. refl, (λ κs x f. refl, (λ κs x f. refl, (λ κs x f. refl, (λ κs x f. refl, tt))))))
+        (drops-go 𝓤 H A W 2 (this.ended .signature .params) (this.ended .kept) (λ κs x f. refl, (λ κs x f. refl, (λ κs x f. refl, (λ κs x f. refl, tt)))))
         clauses (WpFn 𝓤 H (𝓣 .C) (𝓣 .Λ) code.function) (WpFn-mono 𝓤 H (W .laws) 𝓣 code.function) walks
 
 pub few-turns-spec : {M : Type 1} → stated.statement M
@@ -243,6 +246,8 @@ few-turns-spec 𝓤 H 𝓜 𝓖 𝓡 =
     entered 𝓤 H (tripleOf 𝓤 H (𝓖 .A) this.signature (this.spec 𝓤 H (𝓖 .A) (𝓜 .mem) (𝓡 .run)))
     (tables 𝓤 H 𝓜 𝓡 code.env .C) (tables 𝓤 H 𝓜 𝓡 code.env .Λ) this-def.name code.function (code.unfolded 𝓤 H 𝓜 𝓡)
     (meets 𝓤 H (𝓖 .A) W (𝓜 .mem) (𝓡 .run) (tablesOf 𝓤 H 𝓜 (tables 𝓤 H 𝓜 𝓡 code.env)) (record {
+      twins-first-of-few = cited 𝓤 H (Its-twins-first-of-few 𝓤 H (𝓖 .A) W (𝓜 .mem) (𝓡 .run)) 𝓜 𝓡 code.env
+          twins-first-of-few-def.name twins-first-of-few-def.routine code.calls-twins·first-of-few (twins-first-of-few-thm.met 𝓤 H 𝓜 𝓖 𝓡);
       no-place = cited 𝓤 H (Its-no-place 𝓤 H (𝓖 .A) W (𝓜 .mem) (𝓡 .run)) 𝓜 𝓡 code.env
           no-place-def.name no-place-def.routine code.calls-restore·no-place (no-place-thm.met 𝓤 H 𝓜 𝓖 𝓡);
       note-all = cited 𝓤 H (Its-note-all 𝓤 H (𝓖 .A) W (𝓜 .mem) (𝓡 .run)) 𝓜 𝓡 code.env

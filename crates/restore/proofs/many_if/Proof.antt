@@ -1,6 +1,6 @@
 -- `restore::many_if` meets its contract: a walk of its MIR, a loop with one call in its turn.
 -- Written by tools/walks/loopgen.py from tools/walks/many_if.cfg.py, and not edited: tools/walks/README.md says how. Assumes nothing.
-use mathlib.Core.Path.{_≡_, refl}
+use mathlib.Core.Path.{refl}
 use Prim.Native.Nat.{ℕ, _+_, _-_, _≤_, _<_, _^_}
 use native.Mathlib.Nat.{lt-of-le-of-lt}
 use native.Mathlib.Numerals.{add-one-le, add-one-dec}
@@ -40,10 +40,9 @@ use denote.Triple.Table.{entered, cited}
 use denote.Triple.Walked.{says, needs, Stays, walkOf, Walks, ends-at, walked, walk-meets}
 use Rattle.walks.proofs.Walk.{untok, retok, gone, rest-of, drops, drops-go}
 use Rattle.walks.proofs.Held.{Held, number, of-enum, vals, Lies, holds, empty, plus, lends, none, calls-held, into, local}
-use Rattle.store.specs.Twins.{firstTwin}
 use Rattle.across.specs.At.{At}
 use Rattle.restore.specs.Index.{turnsDone}
-use Rattle.restore.proofs.Index.{Many, many-starts, many-first, many-next, many-ends}
+use Rattle.restore.proofs.Index.{Made, none-made, first-made, one-made, all-made}
 use Rattle.across.specs.declared.Across.{Across}
 use Rattle.across.proofs.Across as AcrossT
 use Rattle.across.proofs.Across.Laws as AcrossL
@@ -88,22 +87,22 @@ module _ {M : Type 1} (𝓤 : URA M) (H : Heap 𝓤) (A : Atoms 𝓤) (W : Given
   abbrev This : Contract 𝓤
   This = walkOf 𝓤 H A this.ended stayed clauses
 
-  module _ (κ₀ κ₁ : Lft) (q₀ q₁ : Share) (run : RefT (List ℕ)) (entries : RefT (List Entry)) (aside : Aside) (twin : ℕ) (times : ℕ) (state : Across)
+  module _ (κ₀ κ₁ : Lft) (q₀ q₁ : Share) (run : RefT (List ℕ)) (entries : RefT (List Entry)) (aside : Aside) (often : ℕ) (times : ℕ) (state : Across)
       (in-run : Is (ShrSlice (named 0) κ₀ (UInt w8)) run (slice-vals run))
       (in-entries : Is (ShrSlice (named 1) κ₁ EntryT.the-row) entries (slice-vals entries))
       (in-aside : Lies as-Aside aside)
-      (in-twin : Lies as-w64 twin)
+      (in-often : Lies as-w64 often)
       (in-times : Lies as-w64 times)
       (in-state : Lies as-Across state)
-      (asks : (twin ≡ firstTwin (now entries)) × (times ≤ 1) × At (now run) (now entries) aside (turnsDone (1 - times) (length (now entries))) state) where
+      (asks : (times ≤ 1 - often) × At (now run) (now entries) aside (turnsDone often (length (now entries))) state) where
     abbrev bound : This .Ghost
     bound = (
       (
         (κ₀, (κ₁, tt)),
         (q₀, (q₁, tt)),
         tt,
-        (run, (entries, (aside, (twin, (times, (state, tt)))))),
-        (slice-vals run, (slice-vals entries, (vals as-Aside aside, (vals as-w64 twin, (vals as-w64 times, (vals as-Across state, tt)))))),
+        (run, (entries, (aside, (often, (times, (state, tt)))))),
+        (slice-vals run, (slice-vals entries, (vals as-Aside aside, (vals as-w64 often, (vals as-w64 times, (vals as-Across state, tt)))))),
       ),
       tt,
     )
@@ -114,10 +113,10 @@ module _ {M : Type 1} (𝓤 : URA M) (H : Heap 𝓤) (A : Atoms 𝓤) (W : Given
       after : Across
       in-time : Lies as-w64 time
       in-after : Lies as-Across after
-      so : Many (now run) (now entries) aside times time after
+      so : Made (now run) (now entries) aside often times time after
 
     abbrev first-turn : Turn
-    first-turn = record { time = 0; after = state; in-time = (refl, lit< tt); in-after = in-state; so = many-starts (now run) (now entries) aside times state (asks .2) }
+    first-turn = record { time = 0; after = state; in-time = (refl, lit< tt); in-after = in-state; so = none-made (now run) (now entries) aside often times state (asks .1) }
 
     abbrev far : Turn → ℕ
     far t = times - (t .time)
@@ -134,8 +133,8 @@ module _ {M : Type 1} (𝓤 : URA M) (H : Heap 𝓤) (A : Atoms 𝓤) (W : Given
         (κ₀, (κ₁, tt)),
         (q₀, (q₁, tt)),
         tt,
-        (run, (entries, (aside, (twin, ((t .after), tt))))),
-        (slice-vals run, (slice-vals entries, (vals as-Aside aside, (vals as-w64 twin, (vals as-Across (t .after), tt))))),
+        (run, (entries, (aside, ((t .after), tt)))),
+        (slice-vals run, (slice-vals entries, (vals as-Aside aside, (vals as-Across (t .after), tt)))),
       ),
       tt,
     )
@@ -157,7 +156,7 @@ module _ {M : Type 1} (𝓤 : URA M) (H : Heap 𝓤) (A : Atoms 𝓤) (W : Given
             (ShrSlice (named 1) κ₁ EntryT.the-row .own entries (slice-vals entries)) ∷ empty tyBool l₉
             (holds AcrossL.mir l₈ (as-Across .val (t .after)) (holds (tyInt w64) l₇ (as-w64 .val (t .time))
             (holds AcrossL.mir l₆ (as-Across .val state) (holds (tyInt w64) l₅ (as-w64 .val times)
-            (holds (tyInt w64) l₄ (as-w64 .val twin) (holds AsideL.mir l₃ (as-Aside .val aside)
+            (holds (tyInt w64) l₄ (as-w64 .val often) (holds AsideL.mir l₃ (as-Aside .val aside)
             (holds (sliceTy (tyRef (named 1) imm (pointee (EntryT.the-row .written)))) l₂ (sliceVal (entries .ptr) (length (entries .now)))
             (holds (sliceTy (tyRef (named 0) imm (tyInt w8))) l₁ (sliceVal (run .ptr) (length (run .now))) (empty AcrossL.mir l₀ [])))))))))
 
@@ -171,12 +170,12 @@ module _ {M : Type 1} (𝓤 : URA M) (H : Heap 𝓤) (A : Atoms 𝓤) (W : Given
             assigns ! (bin ! (local ! (look ! 8 refl)) (local ! (look ! 12 refl)) tt) (into !) (init ! 4 refl (tt, tt)) $
             first ! $ branches ! (local ! (look ! 4 refl))
             (λ less. skips ! $ exec ! C Λ En (rest-of (rest-of steps.turn-1)) (anyQ (Turned t)) $
-            nothing ! $ plus ! as-Across (t .after) (t .in-after) $ plus ! as-w64 twin in-twin $ plus ! as-Aside aside in-aside $ lends ! 3 (named 1) κ₁ EntryT.the-row entries refl $
+            nothing ! $ plus ! as-Across (t .after) (t .in-after) $ plus ! as-Aside aside in-aside $ lends ! 3 (named 1) κ₁ EntryT.the-row entries refl $
             lends ! 2 (named 0) κ₀ (UInt w8) run refl $ move ! (1 ∷ 2 ∷ 0 ∷ []) $
             calls-held ! fm many-turns.ended (many-turns.clauses 𝓤 H A mem calling) (known .many-turns) (to t)
-            (factI 𝓤 _ (emp 𝓤) (asks .0, many-first (now run) (now entries) aside times (t .time) (t .after) (asks .1) (ltb→lt (t .time) times less) (t .so))) as-Across (λ r ws. id⊢ 𝓤 _)
-            (and-then ! (local ! (look ! 19 refl)) (and-then ! (local ! (look ! 17 refl))
-            (and-then ! (local ! (look ! 15 refl)) (and-then ! (local ! (look ! 13 refl)) (and-then ! (local ! (look ! 5 refl)) (no-more !)))))) (λ next told in-next.
+            (factI 𝓤 _ (emp 𝓤) (first-made (now run) (now entries) aside often times (t .time) (t .after) (asks .0) (ltb→lt (t .time) times less) (t .so))) as-Across (λ r ws. id⊢ 𝓤 _)
+            (and-then ! (local ! (look ! 19 refl)) (and-then ! (local ! (look ! 17 refl)) (and-then ! (local ! (look ! 15 refl)) (and-then ! (local ! (look ! 5 refl)) (no-more !)))))
+            (λ next told in-next.
             land ! (into !) (store ! 6 refl (as-Across .lawful .typed next _ in-next .0)) $
             assigns-last ! (bin ! (local ! (look ! 8 refl)) (lit ! tt) (record { fits = fits (ltb→lt (t .time) times less) })) (into !)
             (store ! 8 refl (tt, record { fits = fits (ltb→lt (t .time) times less) })) $
@@ -185,15 +184,15 @@ module _ {M : Type 1} (𝓤 : URA M) (H : Heap 𝓤) (A : Atoms 𝓤) (W : Given
               after = next;
               in-time = (refl, fits (ltb→lt (t .time) times less));
               in-after = in-next;
-              so = many-next
-                  (now run) (now entries) aside times (t .time) next (ltb→lt (t .time) times less) told;
+              so = one-made
+                  (now run) (now entries) aside often times (t .time) next (ltb→lt (t .time) times less) told;
             }) (add-one-dec times (t .time) (ltb→lt (t .time) times less))))
             (λ over. jumps ! $ exec ! C Λ En steps.t-4 (atRet En (This .post bound)) $
             assigns ! (of-opd ! (local ! (look ! 6 refl))) (into !) (init ! 22 refl (as-Across .lawful .typed (t .after) _ (t .in-after) .0)) $ returns ! (look ! 22 refl) $
             gone ! 22 refl refl $ gone ! 20 refl refl $ gone ! 18 refl refl $ gone ! 16 refl refl $ gone ! 14 refl refl $ gone ! 12 refl refl $ gone ! 10 refl refl $ gone ! 8 refl refl $
             gone ! 6 refl refl $ gone ! 4 refl refl $ free0 ! $
             suffices ! _ (ends-at 𝓤 H A this.ended stayed clauses W bound (as-Across .val (t .after)) (t .after) (tt, (tt, (tt, (tt, (tt, (tt, tt))))))
-            (tt, (tt, (tt, (tt, (tt, (tt, tt))))))) $ says ! (many-ends (now run) (now entries) aside times (t .time) (t .after) (asks .1) (nltb→le (t .time) times over) (t .so)) $
+            (tt, (tt, (tt, (tt, (tt, (tt, tt))))))) $ says ! (all-made (now run) (now entries) aside often times (t .time) (t .after) (nltb→le (t .time) times over) (t .so)) $
             keep ! (0 ∷ 1 ∷ []) $ retok ! 2 (κ₀, (κ₁, tt)) (q₀, (q₁, tt)) $ frame ! $ nothing ! $ none ! $ none ! $ none ! $ none ! $ none ! $ none ! $ frame ! $
             owned ! AcrossT.the-row (Is AcrossT.the-row) (as-Across .makes) (t .after) _ (t .in-after) $ done !)
           where
@@ -213,7 +212,7 @@ module _ {M : Type 1} (𝓤 : URA M) (H : Heap 𝓤) (A : Atoms 𝓤) (W : Given
           pass1 ! (init ! 16 refl (shr-slice-lawful 𝓤 H A W (named 0) κ₀ (UInt w8) .typed run (slice-vals run) in-run .0)) $
           pass1 ! (init ! 14 refl (shr-slice-lawful 𝓤 H A W (named 1) κ₁ EntryT.the-row .typed entries (slice-vals entries) in-entries .0)) $
           pass1 ! (init ! 12 refl (as-Aside .lawful .typed aside _ in-aside .0)) $
-          pass1 ! (init ! 10 refl (as-w64 .lawful .typed twin _ in-twin .0)) $
+          pass1 ! (init ! 10 refl (as-w64 .lawful .typed often _ in-often .0)) $
           pass1 ! (init ! 8 refl (as-w64 .lawful .typed times _ in-times .0)) $
           pass1 ! (init ! 6 refl (as-Across .lawful .typed state _ in-state .0)) $
           pass0 ! $ move ! (20 ∷ 21 ∷ 22 ∷ 23 ∷ []) $

@@ -1,5 +1,5 @@
 -- `twins::few_parts` meets its contract.
-use borrow.Author.Tests.{lt-ltb, le-ltb, le-leb, lt-leb}
+use borrow.Author.Tests.{le-leb, lt-leb}
 use Rattle.twins.proofs.few_parts.Statement.{statement}
 use Rattle.twins.proofs.few_parts.Tie as tie
 
@@ -7,10 +7,7 @@ returns : tie.Need-returns
 returns c = rw (le-leb _ _ (c .if1 .taken))
 
 returns-2 : tie.Need-returns-2
-returns-2 c = rw (lt-leb _ _ (c .before .if1 .left), lt-ltb _ _ (c .if2 .taken))
-
-returns-3 : tie.Need-returns-3
-returns-3 c = rw (lt-leb _ _ (c .before .if1 .left), le-ltb _ _ (c .if2 .left))
+returns-2 c = rw (lt-leb _ _ (c .if1 .left))
 
 pub few-parts-spec : {M : Type 1} → statement M
-few-parts-spec = tie.close (tie.spec returns returns-2 returns-3)
+few-parts-spec = tie.close (tie.spec returns returns-2)

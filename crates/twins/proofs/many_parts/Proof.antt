@@ -1,20 +1,17 @@
 -- `twins::many_parts` meets its contract.
 use borrow.Author.Needs.{needs}
-use borrow.Author.Tests.{lt-ltb, le-ltb, le-leb, lt-leb}
+use borrow.Author.Tests.{le-leb, lt-leb}
 use Rattle.twins.proofs.many_parts.Statement.{statement}
 use Rattle.twins.proofs.many_parts.Tie as tie
 
 returns : tie.Need-returns
 returns c = rw (le-leb _ _ (c .if1 .taken))
 
-returns-2 : tie.Need-returns-2
-returns-2 c = rw (lt-leb _ _ (c .before .if1 .left), lt-ltb _ _ (c .if2 .taken))
-
 parts-for-requires : tie.Need-parts-for-requires
 parts-for-requires c κs = search needs
 
-returns-3 : tie.Need-returns-3
-returns-3 c = rw (lt-leb _ _ (c .before .before .if1 .left), le-ltb _ _ (c .before .if2 .left), c .parts-for .ensures)
+returns-2 : tie.Need-returns-2
+returns-2 c = rw (lt-leb _ _ (c .before .if1 .left), c .parts-for .ensures)
 
 pub many-parts-spec : {M : Type 1} → statement M
-many-parts-spec = tie.close (tie.spec returns returns-2 parts-for-requires returns-3)
+many-parts-spec = tie.close (tie.spec returns parts-for-requires returns-2)
