@@ -4,3 +4,4 @@ pub mod Turns
 pub mod Steps
 pub mod ByKind
 pub mod Laws
+pub mod Depositor

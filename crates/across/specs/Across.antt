@@ -96,8 +96,15 @@ lowIn next (some d) = ltb d next
 abbrev pub nextContactIn : (run : List ℕ) → Entry → ℕ
 nextContactIn run e = seenOf device (readRow (rows.device (e .version)) (partOf run e)) .«next_contact»
 
+abbrev pub depositorRead : (version : ℕ) → (row : List ℕ) → Option ℕ
+depositorRead version row = seenOf courier (readRow (rows.courier version) row) .depositor
+
 abbrev pub depositorIn : (run : List ℕ) → Entry → Option ℕ
-depositorIn run e = seenOf courier (readRow (rows.courier (e .version)) (partOf run e)) .depositor
+depositorIn run e = depositorRead (e .version) (partOf run e)
+
+-- where the answer is yes, 31 is a yes of every row with these bytes
+abbrev pub SurelyLow : (next : ℕ) → (row : List ℕ) → Bool → Type 0
+SurelyLow next row r = r ≡ true → (version : ℕ) → lowIn next (depositorRead version row) ≡ true
 
 abbrev pub deviceTurn : (run : List ℕ) → Entry → Walk → Across
 deviceTurn run e w = Going (record { «next_contact» = nextContactIn run e; slots = w .slots; spot = w .spot; owner = w .owner })

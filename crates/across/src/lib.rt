@@ -4,7 +4,9 @@ use contact::SentCheck;
 use courier::CourierCheck;
 use courier::HeldAt;
 use device::DeviceCheck;
+use fields::U8Field;
 use fields::U32Field;
+use fields::U64Field;
 use layout::question;
 use store::Aside;
 use store::Asked;
@@ -17,7 +19,7 @@ ghost use Rattle.store.specs.Kinds.{CONTACT};
 ghost use Rattle.store.specs.Store.{isOf, partOf};
 ghost use Rattle.across.specs.Owner.{noOwner, contactSeen, ownerIn, ownerSeen, ownerAside, ownerFrom, ownerFound, unackedAt, Searchable, OwnerStands};
 ghost use Rattle.across.specs.Across.{begunFrom, contactOf, earlier, placeOr, tried, nearLimit, farLimit, chosen, ownerLimit, spotOf, ownerFor, Reusable};
-ghost use Rattle.across.specs.Across.{lowIn, nextContactIn, depositorIn, deviceTurn, contactTurn, queuedTurn, courierTurn, settled};
+ghost use Rattle.across.specs.Across.{lowIn, nextContactIn, depositorIn, SurelyLow, deviceTurn, contactTurn, queuedTurn, courierTurn, settled};
 
 // What is asked of a queued row's contact: sent_msgno, and where in its row the unacked numbers start and how many they are.
 pub struct Owner {
@@ -79,11 +81,30 @@ fn next_contact(run: &[u8], e: Entry) -> u64
     at.next_contact
 }
 
-// 31: asked of carried rows only.
+// Whether 31 is a yes whatever else the row holds: it is none that is carried, or what stands where a carried row has its depositor is below next.
+fn surely_low(row: &[u8], next: u64) -> bool
+    ensures { λ r. ⌜ SurelyLow next (now (row .entry)) r ⌝ }
+{
+    let U8Field::Value(kind, behind) = fields::byte_at(row, 0) else {
+        return true;
+    };
+    if kind != courier::CARRIED {
+        return true;
+    }
+    let U64Field::Value(depositor, _) = fields::u64_at(row, behind) else {
+        return true;
+    };
+    depositor < next
+}
+
+// 31: asked of carried rows only. A row is asked its own questions again only where its depositor is not below next.
 fn low_depositor(run: &[u8], e: Entry, next: u64) -> bool
     ensures { λ r. ⌜ r ≡ lowIn next (depositorIn (now (run .entry)) e) ⌝ }
 {
     let row = store::part_of(run, e);
+    if surely_low(row, next) {
+        return true;
+    }
     let CourierCheck::Fields(held) = courier::check_courier(e.version, row) else {
         return true;
     };
