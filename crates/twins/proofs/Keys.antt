@@ -11,7 +11,7 @@ use Rattle.store.specs.Find.{isWanted}
 use Rattle.store.specs.Twins.{twinOf}
 use Rattle.store.proofs.Tests.{both, is-of}
 use Rattle.twins.specs.Above.{msgnoOf}
-use Rattle.twins.specs.Filter.{keyHash, hashOf}
+use Rattle.twins.specs.Keys.{keyHash, hashOf}
 
 pub record SameKey (e x : Entry) : Type 0 where
   pub kind : x .kind ≡ e .kind

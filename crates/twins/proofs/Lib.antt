@@ -1,4 +1,3 @@
-pub mod Filter
 pub mod Keys
 pub mod Above
 pub mod Passes

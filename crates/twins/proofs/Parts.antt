@@ -16,7 +16,7 @@ use Rattle.store.specs.Twins.{hasTwin, firstTwin}
 use Rattle.store.proofs.Tests.{truth, both, pair, eq→eqb}
 use Rattle.store.proofs.Searches.{FirstAt, first-at, first-is}
 use Rattle.twins.specs.Above.{stopsAt}
-use Rattle.twins.specs.Filter.{hashOf}
+use Rattle.twins.specs.Keys.{hashOf}
 use Rattle.twins.specs.Parts.{partOf, inPart, twinIn, twinsBelow, unlessRising, partsFor}
 use Rattle.twins.proofs.Above.{none-twice}
 

@@ -17,9 +17,10 @@ use Rattle.store.specs.Find.{isWanted, firstWhere, firstOf}
 use Rattle.store.specs.Twins.{twinOf, asksNew, hasTwin}
 use Rattle.store.proofs.Tests.{truth, false-not, both, pair, any-found, found-any}
 use Rattle.store.proofs.Searches.{first-at, first-is}
-use Rattle.twins.specs.Filter.{hashOf, isSet, marked}
+use Rattle.filter.specs.Filter.{isSet, added}
+use Rattle.twins.specs.Keys.{hashOf}
 use Rattle.twins.specs.Parts.{inPart, noted, reachOf, settledOn, turnedTo, twinIn}
-use Rattle.twins.proofs.Filter.{set-known, stays-known}
+use Rattle.filter.proofs.Filter.{set-added, stays-set}
 use Rattle.twins.proofs.Keys.{twin-key, same-hash}
 
 -- ---- one turn: what its calls have answered
@@ -89,11 +90,11 @@ module _ (es : List Entry) (last part : ℕ) where
   known-next : (bits : List ℕ) (i : ℕ) → Known bits i → Known (noted bits last part (entryAt es i)) (i + 1)
   known-next bits i known j b asked in-it = go (decLe i j) (asks i) (inPart last part (hashAt i)) refl refl
     where
-      go : Dec (i ≤ j) → (a p : Bool) → asks i ≡ a → inPart last part (hashAt i) ≡ p → T (isSet (cond a (cond p (marked bits (hashAt i)) bits) bits) (hashAt j))
-      go (no c) true true is-a is-p = stays-known bits (hashAt i) (hashAt j) (known j (omega arith) asked in-it)
+      go : Dec (i ≤ j) → (a p : Bool) → asks i ≡ a → inPart last part (hashAt i) ≡ p → T (isSet (cond a (cond p (added bits (hashAt i)) bits) bits) (hashAt j))
+      go (no c) true true is-a is-p = stays-set bits (hashAt i) (hashAt j) (known j (omega arith) asked in-it)
       go (no c) true false is-a is-p = known j (omega arith) asked in-it
       go (no c) false p is-a is-p = known j (omega arith) asked in-it
-      go (yes c) true true is-a is-p = let same : j ≡ i = omega arith in rw same (set-known bits (hashAt i))
+      go (yes c) true true is-a is-p = let same : j ≡ i = omega arith in rw same (set-added bits (hashAt i))
       go (yes c) true false is-a is-p = let same : j ≡ i = omega arith in absurd (T-not (inPart last part (hashAt i)) (false-not (inPart last part (hashAt i)) is-p) (rw same at in-it))
       go (yes c) false p is-a is-p = let same : j ≡ i = omega arith in absurd (T-not (asks i) (false-not (asks i) is-a) (rw same at asked))
 

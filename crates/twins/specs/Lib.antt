@@ -1,3 +1,3 @@
 pub mod Above
-pub mod Filter
+pub mod Keys
 pub mod Parts

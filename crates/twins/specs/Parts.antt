@@ -10,7 +10,8 @@ use Rattle.store.specs.Kinds.{kindOf}
 use Rattle.store.specs.Store.{entryAt}
 use Rattle.store.specs.Find.{firstOf}
 use Rattle.store.specs.Twins.{twinOf, asksNew, hasTwin}
-use Rattle.twins.specs.Filter.{hashOf, isSet, marked}
+use Rattle.filter.specs.Filter.{isSet, added}
+use Rattle.twins.specs.Keys.{hashOf}
 
 -- parts have numbers up to `last`
 abbrev pub partOf : (last h : ℕ) → ℕ
@@ -25,7 +26,7 @@ abbrev pub reachOf : (bits : List ℕ) → (last part : ℕ) → Entry → (i : 
 reachOf bits last part e i = cond (asksNew (kindOf (e .kind))) (cond (inPart last part (hashOf e)) (cond (isSet bits (hashOf e)) i 0) 0) 0
 
 abbrev pub noted : (bits : List ℕ) → (last part : ℕ) → Entry → List ℕ
-noted bits last part e = cond (asksNew (kindOf (e .kind))) (cond (inPart last part (hashOf e)) (marked bits (hashOf e)) bits) bits
+noted bits last part e = cond (asksNew (kindOf (e .kind))) (cond (inPart last part (hashOf e)) (added bits (hashOf e)) bits) bits
 
 -- where its twin was found below upto it is the first; else that is the one so far
 abbrev pub settledOn : (i t upto first : ℕ) → ℕ

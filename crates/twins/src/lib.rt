@@ -11,7 +11,7 @@ ghost use Rattle.store.specs.Store.{entryAt};
 ghost use Rattle.store.specs.Find.{firstWhere};
 ghost use Rattle.store.specs.Twins.{twinOf, asksNew, firstTwin};
 ghost use Rattle.twins.specs.Above.{msgnoOf, isAbove, stops, stopsAt};
-ghost use Rattle.twins.specs.Filter.{hashOf, bitOf, maskOf, isSet, marked};
+ghost use Rattle.twins.specs.Keys.{hashOf};
 ghost use Rattle.twins.specs.Parts.{inPart, reachOf, noted, settledOn, turnedTo, twinIn, twinsBelow, unlessRising, partsFor};
 
 // One more than the highest number of 32 bits.
@@ -129,36 +129,6 @@ fn rising(entries: &[Entry]) -> usize
     i
 }
 
-// ---- the filter
-
-fn bit_of(h: u64) -> u64
-    ensures { λ r. ⌜ r ≡ bitOf h ⌝ }
-{
-    1 << (h % 64)
-}
-
-// A key's bits in its word.
-fn mask_of(h: u64) -> u64
-    ensures { λ r. ⌜ r ≡ maskOf h ⌝ }
-{
-    bit_of(h) | bit_of(h / 64) | bit_of(h / 4096) | bit_of(h / HALF)
-}
-
-// Whether a key may have been noted; it is from now on. Of a filter without words nothing is known.
-fn mark(bits: &mut [u64], h: u64) -> bool
-    ensures { λ r. ⌜ (r ≡ isSet (now (bits .entry)) h) × (now (bits .exit) ≡ marked (now (bits .entry)) h) ⌝ }
-{
-    let n = bits.len();
-    if n == 0 {
-        return true;
-    }
-    let at = (h / 262144) as usize & (n - 1);
-    let old = bits[at];
-    let new = old | mask_of(h);
-    bits[at] = new;
-    new == old
-}
-
 // ---- one pass: the entries of one part
 
 // Whether the key with this hash is of this part.
@@ -175,7 +145,7 @@ fn reach(bits: &mut [u64], e: Entry, i: usize, last: usize, part: usize) -> usiz
     if asks_new(e.kind) {
         let h = hash_of(e);
         if in_part(h, last, part) {
-            if mark(bits, h) {
+            if filter::add(bits, h) {
                 return i;
             }
             return 0;

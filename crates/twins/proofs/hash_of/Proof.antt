@@ -1,5 +1,5 @@
 -- `twins::hash_of` meets its contract.
-use Rattle.twins.specs.Filter as filter
+use Rattle.twins.specs.Keys as keys
 use borrow.Author.Needs.{needs}
 use Rattle.twins.proofs.hash_of.Statement.{statement}
 use Rattle.twins.proofs.hash_of.Tie as tie
@@ -35,7 +35,7 @@ wrapping-add-u64-requires-3 : tie.Need-wrapping-add-u64-requires-3
 wrapping-add-u64-requires-3 c κs = search needs
 
 returns : tie.Need-returns
-unfolding filter.keyHash
+unfolding keys.keyHash
 returns c =
     let low = c .before .before in
     let numbers = low .before .before .before in

@@ -7,7 +7,8 @@ use borrow.Author.Needs.{needs}
 use Rattle.store.specs.declared.Entry.{Entry}
 use Rattle.store.specs.Kinds.{kindOf}
 use Rattle.store.specs.Twins.{asksNew}
-use Rattle.twins.specs.Filter.{hashOf, isSet, marked}
+use Rattle.filter.specs.Filter.{isSet, added}
+use Rattle.twins.specs.Keys.{hashOf}
 use Rattle.twins.specs.Parts.{inPart, reachOf, noted}
 use Rattle.twins.proofs.reach.Statement.{statement}
 use Rattle.twins.proofs.reach.Tie as tie
@@ -24,9 +25,9 @@ module _ (bits : List ℕ) (e : Entry) (i last part : ℕ) where
   other a h p is-a asked is-h is-p none = rw (sym is-a ∙ asked, ap (inPart last part) (sym is-h) ∙ sym is-p ∙ none) (refl, refl)
 
   marks : (a : Bool) (h : ℕ) (p m : Bool) (after : List ℕ) (t : Bool) → a ≡ asksNew (kindOf (e .kind)) → a ≡ true → h ≡ hashOf e → p ≡ inPart last part h → p ≡ true
-      → (m ≡ isSet bits h) × (after ≡ marked bits h) → m ≡ t → Left (cond t i 0) after
+      → (m ≡ isSet bits h) × (after ≡ added bits h) → m ≡ t → Left (cond t i 0) after
   marks a h p m after t is-a asked is-h is-p its is-m said =
-      rw (sym is-a ∙ asked, ap (inPart last part) (sym is-h) ∙ sym is-p ∙ its) (ap (λ (x : Bool). cond x i 0) (sym said ∙ is-m .0 ∙ ap (isSet bits) is-h), is-m .1 ∙ ap (marked bits) is-h)
+      rw (sym is-a ∙ asked, ap (inPart last part) (sym is-h) ∙ sym is-p ∙ its) (ap (λ (x : Bool). cond x i 0) (sym said ∙ is-m .0 ∙ ap (isSet bits) is-h), is-m .1 ∙ ap (added bits) is-h)
 
 asks-new-requires : tie.Need-asks-new-requires
 asks-new-requires c κs = search needs
@@ -37,30 +38,30 @@ hash-of-requires c κs = search needs
 in-part-requires : tie.Need-in-part-requires
 in-part-requires c κs = search needs
 
-mark-requires : tie.Need-mark-requires
-mark-requires c κs = search needs
+add-requires : tie.Need-add-requires
+add-requires c κs = search needs
 
 same-length : tie.Need-same-length
 same-length c = search needs
 
-marked-so : (c : tie.After-mark) (t : Bool) → c .mark .result ≡ t
-    → let a = c .before .before .before .before .before .before .before .before .args in Left (a .bits .now) (a .e) (a .i) (a .last) (a .part) (cond t (a .i) 0) (c .mark .last .0)
-marked-so c t said =
+added-so : (c : tie.After-add) (t : Bool) → c .add .result ≡ t
+    → let a = c .before .before .before .before .before .before .before .before .args in Left (a .bits .now) (a .e) (a .i) (a .last) (a .part) (cond t (a .i) 0) (c .add .last .0)
+added-so c t said =
     let p = c .before .before in
     let h = p .before .before in
     let n = h .before .before in
     let a = n .before .before .args in
-    marks (a .bits .now) (a .e) (a .i) (a .last) (a .part) (n .asks-new .result) (h .hash-of .result) (p .before .in-part .result) (c .mark .result) (c .mark .last .0) t
-    (n .asks-new .ensures) (h .before .if1 .taken) (h .hash-of .ensures) (p .before .in-part .ensures) (p .if2 .taken) (c .mark .ensures) said
+    marks (a .bits .now) (a .e) (a .i) (a .last) (a .part) (n .asks-new .result) (h .hash-of .result) (p .before .in-part .result) (c .add .result) (c .add .last .0) t
+    (n .asks-new .ensures) (h .before .if1 .taken) (h .hash-of .ensures) (p .before .in-part .ensures) (p .if2 .taken) (c .add .ensures) said
 
 returns : tie.Need-returns
-returns c = marked-so (c .before .before .before) true (c .if3 .taken)
+returns c = added-so (c .before .before .before) true (c .if3 .taken)
 
 same-length-2 : tie.Need-same-length-2
 same-length-2 c = search needs
 
 returns-2 : tie.Need-returns-2
-returns-2 c = marked-so (c .before .before .before) false (c .if3 .left)
+returns-2 c = added-so (c .before .before .before) false (c .if3 .left)
 
 returns-3 : tie.Need-returns-3
 returns-3 c =
@@ -82,7 +83,7 @@ reach-spec =
     asks-new-requires
     hash-of-requires
     in-part-requires
-    mark-requires
+    add-requires
     same-length
     returns
     same-length-2
