@@ -73,7 +73,7 @@ pub fn any(random: &mut Random) -> Plan {
 pub fn plan(random: &mut Random, counts: Counts, size: Size) -> Plan {
     let limits = [counts.contacts as u64 + 1, 1000, 1 << 33, u64::MAX];
     let limit = random.pick(&limits);
-    let ids = distinct(random, counts.contacts, limit);
+    let ids = distinct(random, counts.contacts, limit, CONTACT);
     let highest = ids.iter().max();
     let next_contact = match random.below(3) {
         0 => limit,
@@ -98,14 +98,20 @@ pub fn plan(random: &mut Random, counts: Counts, size: Size) -> Plan {
 }
 
 /// So many numbers below `limit`, which is above `count`: next to each other, so far apart that they have the same low
-/// bits, or anywhere; in some order.
-fn distinct(random: &mut Random, count: usize, limit: u64) -> Vec<u64> {
+/// bits, all of one word of restore's filter, or anywhere; in some order.
+fn distinct(random: &mut Random, count: usize, limit: u64, kind: u32) -> Vec<u64> {
     let mut numbers = BTreeSet::new();
-    let step = match random.below(4) {
+    let step = match random.below(5) {
         0 | 1 => 1,
         2 => 1 << random.pick(&[8, 16, 32, 33]),
         _ => limit,
     };
+    if limit > SPARSE && random.below(5) == 0 {
+        let words = random.pick(&FILTER_WORDS);
+        let first = random.next() % SPARSE;
+        let one_word = |id: &u64| filter_place(kind, *id) % words == 0;
+        numbers.extend((first..limit).filter(one_word).take(count));
+    }
     let span = step.saturating_mul(count as u64);
     if span < limit {
         let first = random.next() % (limit - span);
@@ -117,6 +123,18 @@ fn distinct(random: &mut Random, count: usize, limit: u64) -> Vec<u64> {
     let mut numbers: Vec<u64> = numbers.into_iter().collect();
     reorder(random, &mut numbers);
     numbers
+}
+
+/// How many words restore's filters have (crates/twins), and above how many numbers some of one word are found soon.
+const FILTER_WORDS: [u64; 2] = [128, 8192];
+const SPARSE: u64 = 1 << 32;
+
+/// Where restore's filter has the bits of such a row: the word's number is this one modulo that of words.
+fn filter_place(kind: u32, id: u64) -> u64 {
+    let low = (id % (1 << 32)).wrapping_mul(2_654_435_769);
+    let high = (id >> 32).wrapping_mul(668_265_263);
+    let sum = low.wrapping_add(high).wrapping_add(u64::from(kind) * 3_266_489_917);
+    (sum ^ (sum >> 32)) >> 18
 }
 
 /// As they are, with two exchanged, the other way round, or shuffled.
@@ -218,7 +236,7 @@ fn courier(random: &mut Random, next_contact: u64, count: usize) -> Vec<(u64, Co
     // The highest slot there may be is 2^64 - 2.
     let limits = [count as u64 + 1, 1000, 1 << 33, u64::MAX];
     let limit = random.pick(&limits);
-    let mut slots = distinct(random, count, limit);
+    let mut slots = distinct(random, count, limit, COURIER);
     if count > 0 && random.below(16) == 0 && !slots.contains(&(u64::MAX - 1)) {
         let at = random.below(count);
         slots[at] = u64::MAX - 1;

@@ -23,6 +23,12 @@ const LARGE: Counts = Counts {
     queued: 300,
     courier: 300,
 };
+/// So many that restore takes its large filter and index.
+const VERY_LARGE: Counts = Counts {
+    contacts: 150,
+    queued: 600,
+    courier: 600,
+};
 /// What is shown of a long run.
 const SHOWN: usize = 1600;
 
@@ -89,7 +95,8 @@ fn several(random: &mut Random) -> u32 {
 
 /// Many rows: what is new, and whose a queued row is, must be found far back. Half of them have a no of 25 to 33.
 fn large(random: &mut Random) -> (Store, Option<Refusal>) {
-    let plan = store_build::plan(random, LARGE, FULL);
+    let counts = random.pick(&[LARGE, VERY_LARGE]);
+    let plan = store_build::plan(random, counts, FULL);
     if random.flag() {
         let number = 25 + random.below(9) as u32;
         let (store, refusal) = store_break::aimed(random, plan, number);
