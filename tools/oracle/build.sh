@@ -31,7 +31,7 @@ if [ "$model" = yes ]; then
 else
     program=$out/oracle
     set -- -L "native=$library"
-    for name in export faces contact_face veil_face restore_face; do
+    for name in c_card c_rows c_contact c_veil c_restore; do
         [ -f "$library/lib$name.a" ] || { echo "no target/staticlib/lib$name.a: run 'rt staticlib $name' first" >&2; exit 2; }
         set -- "$@" -l "static=$name"
     done

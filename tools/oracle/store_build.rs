@@ -125,7 +125,7 @@ fn distinct(random: &mut Random, count: usize, limit: u64, kind: u32) -> Vec<u64
     numbers
 }
 
-/// How many words restore's filters have (crates/twins), and above how many numbers some of one word are found soon.
+/// How many words restore's filters have (crates/restore_duplicates), and above how many numbers some of one word are found soon.
 const FILTER_WORDS: [u64; 2] = [128, 8192];
 const SPARSE: u64 = 1 << 32;
 

@@ -1,4 +1,4 @@
-crate = "sought"
+crate = "calls_find"
 fn = "among_at"
 ends = "is-r ∙ ap (amongNext (id .0) (take count (now unacked)) found) is-e"
-uses = ["use lib.ListN.{take}", "use Rattle.sought.specs.Sought.{amongNext}"]
+uses = ["use lib.ListN.{take}", "use Rattle.calls_find.specs.Sought.{amongNext}"]

@@ -1,4 +1,4 @@
-crate = "sought"
+crate = "calls_find"
 fn = "among_from"
 NEXT = "(amongNext (id .0) (take count (now unacked)))"
 TURN = f"{NEXT} (take n (now entries)) false"
@@ -9,6 +9,6 @@ next = f"goes-on {TURN} {{i}} {{s}} {{next}} (front-inside {{i}} n (now entries)
 ends = f"ends {TURN} {{i}} {{s}} (front-behind {{i}} n (now entries) {{over}} asks) {{so}}"
 uses = [
     "use lib.ListN.{take}",
-    "use Rattle.sought.specs.Sought.{amongNext}",
-    "use Rattle.sought.proofs.Folds.{Folding, begins, goes-on, ends, front-entry, front-inside, front-behind}",
+    "use Rattle.calls_find.specs.Sought.{amongNext}",
+    "use Rattle.calls_find.proofs.Folds.{Folding, begins, goes-on, ends, front-entry, front-inside, front-behind}",
 ]

@@ -1,8 +1,8 @@
-crate = "table"
+crate = "sheet_entries"
 fn = "fill_from"
-LINES = "n (now places) (now table)"
-invariant = "Placed n (length (now table)) {i} {s} × Laid (now table) (entriesFrom n (now places)) {i} {table}"
-start = "(none-placed n (length (now table)), none-laid (now table) (entriesFrom n (now places)))"
+LINES = "n (now records) (now table)"
+invariant = "Placed n (length (now table)) {i} {s} × Laid (now table) (entriesFrom n (now records)) {i} {table}"
+start = "(none-placed n (length (now table)), none-laid (now table) (entriesFrom n (now records)))"
 requires = "(inside {i} n ENTRIES {less} asks)"
 next = (
     "(placed-next n {i} {s} {next} (now table) {table} {less} {long_table} ({so} .0) ({told} .0), "
@@ -10,7 +10,7 @@ next = (
 )
 ends = f"(placed-all n (length (now table)) {{i}} {{s}} {{over}} ({{so}} .0), lines-laid {LINES} {{i}} {{s}} {{table}} {{over}} ({{so}} .0) ({{so}} .1))"
 uses = [
-    "use Rattle.table.specs.Table.{ENTRIES, entriesFrom}",
-    "use Rattle.table.proofs.Turns.{Placed, Laid, none-placed, none-laid, placed-next, placed-all, inside}",
-    "use Rattle.table.proofs.Filled.{line-laid, lines-laid}",
+    "use Rattle.sheet_entries.specs.Table.{ENTRIES, entriesFrom}",
+    "use Rattle.sheet_entries.proofs.Turns.{Placed, Laid, none-placed, none-laid, placed-next, placed-all, inside}",
+    "use Rattle.sheet_entries.proofs.Filled.{line-laid, lines-laid}",
 ]

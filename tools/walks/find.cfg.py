@@ -1,4 +1,4 @@
-crate = "entries"
+crate = "restore_entries"
 fn = "find"
 SEARCH = "(λ k. isWanted wanted (entryAt (now entries) k)) from upto"
 LOOKED = "{i} {next} {less} {so} {told} {said}"
@@ -10,5 +10,5 @@ ends = f"ends {SEARCH} {{i}} {{over}} {{so}}"
 uses = [
     "use Rattle.store.specs.Store.{entryAt}",
     "use Rattle.store.specs.Find.{isWanted}",
-    "use Rattle.entries.proofs.Looking.{Looking, begins, goes-on, found-at, ends}",
+    "use Rattle.restore_entries.proofs.Looking.{Looking, begins, goes-on, found-at, ends}",
 ]

@@ -1,4 +1,4 @@
-crate = "lent_again"
+crate = "walks_lent_again"
 fn = "ids_from"
 IDS = "(now ids) (map idOf (now entries))"
 KEPT = "(now kept) (now entries)"
@@ -18,6 +18,6 @@ ends = (
 uses = [
     "use mathlib.Core.List.{map}",
     "use Rattle.store.specs.Store.{noEntry}",
-    "use Rattle.lent_again.specs.Ids.{idOf}",
-    "use Rattle.table.proofs.Turns.{Placed, Laid, none-placed, none-laid, placed-next, laid-there, laid-of, placed-all, laid-all, inside}",
+    "use Rattle.walks_lent_again.specs.Ids.{idOf}",
+    "use Rattle.sheet_entries.proofs.Turns.{Placed, Laid, none-placed, none-laid, placed-next, laid-there, laid-of, placed-all, laid-all, inside}",
 ]

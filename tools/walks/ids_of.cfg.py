@@ -1,4 +1,4 @@
-crate = "lent_again"
+crate = "walks_lent_again"
 fn = "ids_of"
 requires = {"r": "all-there n (length (now entries)) is-n"}
 ends = (
@@ -9,6 +9,6 @@ uses = [
     "use Prim.Native.Nat.{min}",
     "use mathlib.Core.List.{map}",
     "use lib.ListN.{length-map}",
-    "use Rattle.lent_again.specs.Ids.{idOf}",
-    "use Rattle.table.proofs.Turns.{all-there, laid-whole}",
+    "use Rattle.walks_lent_again.specs.Ids.{idOf}",
+    "use Rattle.sheet_entries.proofs.Turns.{all-there, laid-whole}",
 ]

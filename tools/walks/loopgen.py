@@ -2,7 +2,7 @@
 """rt mir CRATE | loopgen.py FN.cfg.py : the proof of a loop over lent slices, with one call in its turn, of the form
 
     fn FN(slices and plain values) -> STATE {
-        let n = entries::entry_count(NAME);
+        let n = restore_entries::entry_count(NAME);
         let mut i = START;
         let mut s = INIT;
         while i < LIMIT {
@@ -15,7 +15,7 @@
 or, where it looks for something and ends there, of the form
 
     fn FN(slices and plain values) -> usize {
-        let n = entries::entry_count(NAME);
+        let n = restore_entries::entry_count(NAME);
         let mut i = START;
         while i < LIMIT {
             if STEP(..) {

@@ -1,13 +1,13 @@
-crate = "passes"
+crate = "calls_store"
 fn = "passes"
 LISTS = "(lists (now chains) (now skipped) (now above) (now unacked) (now expired))"
 YES = (
-    f"passes-is (now run) (now entries) id contact {LISTS} asking writable sought aside end count among passed "
-    "is-writable is-aside is-end is-count is-among is-passed is-sought"
+    f"passes-is (now run) (now entries) id contact {LISTS} asking writable sought omitted end count among passed "
+    "is-writable is-omitted is-end is-count is-among is-passed is-sought"
 )
 ends = f"is-r ∙ (λ i. passedAs (is-sought i) (({YES}) i))"
 uses = [
     "use Rattle.contact.specs.Contact.{lists}",
-    "use Rattle.passes.specs.Passes.{passedAs}",
-    "use Rattle.passes.proofs.Still.{passes-is}",
+    "use Rattle.calls_store.specs.Passes.{passedAs}",
+    "use Rattle.calls_store.proofs.Still.{passes-is}",
 ]

@@ -1,4 +1,4 @@
-crate = "sought"
+crate = "calls_find"
 fn = "queued_among"
 N = "(is-n ∙ (λ i. cond (is-wanted i) (is-total i) 0))"
 requires = {"r": f"wanted-count (ltb 0 count) (length (now entries)) n {N}"}
@@ -7,5 +7,5 @@ uses = [
     "use mathlib.Core.Bool.{cond}",
     "use lib.ListN.{length}",
     "use lib.Dec.{ltb}",
-    "use Rattle.sought.proofs.Laws.{wanted-count, among-some}",
+    "use Rattle.calls_find.proofs.Laws.{wanted-count, among-some}",
 ]

@@ -1,4 +1,4 @@
-crate = "sought"
+crate = "calls_find"
 fn = "queued_from"
 FRONT = "(take count (now entries))"
 TURN = f"(queuedNext (id .0)) {FRONT} 0"
@@ -11,7 +11,7 @@ ends = f"ends {TURN} {{i}} {{s}} (front-behind {{i}} count (now entries) {{over}
 uses = [
     "use lib.ListN.{take}",
     "use Rattle.store.specs.Store.{entryAt}",
-    "use Rattle.sought.specs.Sought.{queuedNext}",
-    "use Rattle.sought.proofs.Folds.{Folding, begins, goes-on, ends, front-entry, front-inside, front-behind}",
-    "use Rattle.sought.proofs.Laws.{none-queued, one-fits, one-more}",
+    "use Rattle.calls_find.specs.Sought.{queuedNext}",
+    "use Rattle.calls_find.proofs.Folds.{Folding, begins, goes-on, ends, front-entry, front-inside, front-behind}",
+    "use Rattle.calls_find.proofs.Laws.{none-queued, one-fits, one-more}",
 ]

@@ -1,4 +1,4 @@
-crate = "twins"
+crate = "restore_duplicates"
 fn = "rising"
 SEARCH = "(stopsAt (now entries)) 0 n"
 LOOKED = "{i} {next} {less} {so} {told} {said}"
@@ -11,6 +11,6 @@ ends = f"(ends {SEARCH} {{i}} {{over}} {{so}} ∙ {WHOLE})"
 uses = [
     "use native.Mathlib.Nat.{sub-zero}",
     "use Rattle.store.specs.Find.{firstWhere}",
-    "use Rattle.entries.proofs.Looking.{Looking, begins, goes-on, found-at, ends}",
-    "use Rattle.twins.specs.Above.{stopsAt}",
+    "use Rattle.restore_entries.proofs.Looking.{Looking, begins, goes-on, found-at, ends}",
+    "use Rattle.restore_duplicates.specs.Above.{stopsAt}",
 ]

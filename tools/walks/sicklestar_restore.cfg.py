@@ -1,4 +1,4 @@
-crate = "restore_face"
+crate = "c_restore"
 fn = "sicklestar_restore"
 ends = "is-r ∙ ap answerOf is-restored"
-uses = ["use Rattle.restore_face.specs.Faces.{answerOf}"]
+uses = ["use Rattle.c_restore.specs.Faces.{answerOf}"]

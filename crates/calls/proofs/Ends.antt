@@ -15,26 +15,26 @@ use Rattle.restore.specs.Restored.{answered}
 use Rattle.store.specs.Line.{queuedOf}
 use Rattle.calls_step.specs.declared.Mark.{Mark}
 use Rattle.calls_step.specs.declared.Mark.the-variants.{Fresh, Restored as Had, Opened}
-use Rattle.calls_step.specs.Hand.{Hand}
+use Rattle.calls_step.specs.Input.{Input}
 use Rattle.calls_step.specs.Step.{restoring}
 use Rattle.calls_step.specs.Step as steps
-use Rattle.sought.specs.Sought.{soughtIn}
-use Rattle.passes.specs.declared.Asking.{Asking}
-use Rattle.passes.specs.declared.Passed.{Passed}
-use Rattle.passes.specs.Passes.{passedAs, passesFor}
-use Rattle.dispatch.specs.declared.Call.{Call}
-use Rattle.dispatch.specs.declared.Call.the-variants.{Open, Cover, Contains, Covers, Take, Statement, Write}
-use Rattle.dispatch.specs.declared.Noted.{Noted}
-use Rattle.dispatch.specs.Dispatch.{handOf, passedOn, storePassed, passedFor, gateOf, idIn, idFor, countsQueued, OfStore}
+use Rattle.calls_find.specs.Sought.{soughtIn}
+use Rattle.calls_store.specs.declared.Asking.{Asking}
+use Rattle.calls_store.specs.declared.Passed.{Passed}
+use Rattle.calls_store.specs.Passes.{passedAs, passesFor}
+use Rattle.calls_dispatch.specs.declared.Call.{Call}
+use Rattle.calls_dispatch.specs.declared.Call.the-variants.{Open, Cover, Contains, Covers, Take, Statement, Write}
+use Rattle.calls_dispatch.specs.declared.Facts.{Facts}
+use Rattle.calls_dispatch.specs.Dispatch.{inputOf, passedOn, storePassed, passedFor, gateOf, idIn, idFor, countsQueued, OfStore}
 use Rattle.calls.specs.declared.RestoreLeft.{RestoreLeft}
-use Rattle.calls.specs.Calls.{storedFor, openedFor, askingFor, notedAs, restoreLeft, restoredOn, RestoreSteps}
+use Rattle.calls.specs.Calls.{storedFor, openedFor, askingFor, factsAs, restoreLeft, restoredOn, RestoreSteps}
 
 -- ---- restore
 module _ (run : List ℕ) (es : List Entry) where
   abbrev outcome : store.Outcome
   outcome = store.restore (storeOf run es)
 
-  by-outcome : (h : Hand) (o : store.Outcome) → restoredOn (restoreLeft (answered o) (h .mark)) run es h ≡ restoring run es h o
+  by-outcome : (h : Input) (o : store.Outcome) → restoredOn (restoreLeft (answered o) (h .mark)) run es h ≡ restoring run es h o
   by-outcome h (store.granted f) = refl
   by-outcome h (store.refused q i) = refl
 
@@ -46,10 +46,10 @@ module _ (run : List ℕ) (es : List Entry) where
     left = λ h same. ap (λ x. restoredOn x run es h) (is-r ∙ (λ i. restoreLeft (is-a i) (sym same i))) ∙ by-outcome h outcome;
   }
 
--- ---- the other calls: what dispatch::step has to know of the store
+-- ---- the other calls: what calls_dispatch::step has to know of the store
 module _ (call : Call) (m : Mark) (run : List ℕ) (es : List Entry) (c : Contact) (l : Lists) (out : List ℕ) where
-  abbrev h : Hand
-  h = handOf m run es c l out
+  abbrev h : Input
+  h = inputOf m run es c l out
 
   on-store : (k : ContactId) (n : Mark) → passesFor (storedFor n) run es k c l ≡ storePassed n h
   on-store k Fresh = refl
@@ -70,8 +70,8 @@ module _ (call : Call) (m : Mark) (run : List ℕ) (es : List Entry) (c : Contac
   on-call Statement = on-opened m
   on-call Write = on-opened m
 
-  pub of-store : (id : ContactId) (asking : Asking) (answer : Passed) (counted : Bool) (queued : ℕ) (r : Noted) → id ≡ idFor call m → asking ≡ askingFor call m
-      → answer ≡ passedAs (soughtIn es (id .0)) (passesFor asking run es id c l) → counted ≡ countsQueued call → queued ≡ cond counted (queuedOf (id .0) es) 0 → r ≡ notedAs answer queued id
+  pub of-store : (id : ContactId) (asking : Asking) (answer : Passed) (counted : Bool) (queued : ℕ) (r : Facts) → id ≡ idFor call m → asking ≡ askingFor call m
+      → answer ≡ passedAs (soughtIn es (id .0)) (passesFor asking run es id c l) → counted ≡ countsQueued call → queued ≡ cond counted (queuedOf (id .0) es) 0 → r ≡ factsAs answer queued id
       → OfStore call h r
   of-store id asking answer counted queued r is-id is-asking is-answer is-counted is-queued is-r =
       subst (OfStore call h) (sym is-r)

@@ -1,14 +1,14 @@
 // The calls of document 01 on a store and an open contact. Each asks 34 of all that it is handed, and then what follows it; a no changes nothing.
 // A caller keeps run, entries, mark, opened fields and lent lists, and hands them to the next call as the last granted one left them.
+use calls_dispatch::Call;
+use calls_dispatch::Facts;
+use calls_dispatch::Gate;
+use calls_open::Left;
 use calls_step::Mark;
+use calls_store::Asking;
+use calls_store::Passed;
 use contact::Contact;
-use dispatch::Call;
-use dispatch::Gate;
-use dispatch::Noted;
 use layout::question;
-use opened::Left;
-use passes::Asking;
-use passes::Passed;
 use restore::Restored;
 use rows::ContactId;
 use store::Entry;
@@ -18,8 +18,8 @@ ghost use Prim.Native.Nat.{ℕ};
 ghost use Rattle.contact.specs.Contact.{listsBefore, listsAfter};
 ghost use Rattle.calls_step.specs.Step.{step};
 ghost use Rattle.calls_step.specs.Proved.{HIGHEST};
-ghost use Rattle.dispatch.specs.Dispatch.{callOf, handOf, leftOf, gateOf, idIn, idFor, countsQueued, OfStore};
-ghost use Rattle.calls.specs.Calls.{storedFor, openedFor, askingFor, notedAs, restoreLeft, RestoreSteps};
+ghost use Rattle.calls_dispatch.specs.Dispatch.{callOf, inputOf, leftOf, gateOf, idIn, idFor, countsQueued, OfStore};
+ghost use Rattle.calls.specs.Calls.{storedFor, openedFor, askingFor, factsAs, restoreLeft, RestoreSteps};
 
 // What restore leaves: its answer, and the mark for the next call.
 pub struct RestoreLeft {
@@ -139,12 +139,12 @@ fn gate_of(passed: bool) -> Gate
     }
 }
 
-fn noted_as(answer: Passed, queued: u64, id: ContactId) -> Noted
-    ensures { λ r. ⌜ r ≡ notedAs answer queued id ⌝ }
+fn facts_as(answer: Passed, queued: u64, id: ContactId) -> Facts
+    ensures { λ r. ⌜ r ≡ factsAs answer queued id ⌝ }
 {
     let sought = answer.sought;
     let gate = gate_of(answer.passed);
-    Noted {
+    Facts {
         sought,
         queued,
         id,
@@ -153,7 +153,7 @@ fn noted_as(answer: Passed, queued: u64, id: ContactId) -> Noted
 }
 
 // What a call has to know of the store.
-fn noted_for(
+fn facts_for(
     run: &[u8],
     entries: &[Entry],
     call: Call,
@@ -164,12 +164,12 @@ fn noted_for(
     above: &[u32],
     unacked: &[u32],
     expired: &[u32],
-) -> Noted
-    ensures { λ r. ⌜ ((out : List ℕ) → OfStore call (handOf mark (now (run .entry)) (now (entries .entry)) contact (listsBefore chains skipped above unacked expired) out) r) ⌝ }
+) -> Facts
+    ensures { λ r. ⌜ ((out : List ℕ) → OfStore call (inputOf mark (now (run .entry)) (now (entries .entry)) contact (listsBefore chains skipped above unacked expired) out) r) ⌝ }
 {
     let id = id_for(call, mark);
     let asking = asking_for(call, mark);
-    let answer = passes::passes(
+    let answer = calls_store::passes(
         run,
         entries,
         asking,
@@ -182,8 +182,8 @@ fn noted_for(
         expired,
     );
     let counted = counts_queued(call);
-    let queued = sought::queued_of(entries, id, counted);
-    noted_as(answer, queued, id)
+    let queued = calls_find::queued_of(entries, id, counted);
+    facts_as(answer, queued, id)
 }
 
 // Any call but restore.
@@ -200,10 +200,10 @@ pub fn step(
     expired: &mut [u32],
     out: &mut [u8],
 ) -> Left
-    ensures { λ r. ⌜ (let h = handOf mark (now (run .entry)) (now (entries .entry)) contact (listsBefore chains skipped above unacked expired) (now (out .entry)) in
+    ensures { λ r. ⌜ (let h = inputOf mark (now (run .entry)) (now (entries .entry)) contact (listsBefore chains skipped above unacked expired) (now (out .entry)) in
         leftOf r h (listsAfter chains skipped above unacked expired) (now (out .exit)) ≡ step HIGHEST (callOf call) h) ⌝ }
 {
-    let noted = noted_for(
+    let facts = facts_for(
         run,
         entries,
         call,
@@ -215,10 +215,10 @@ pub fn step(
         unacked,
         expired,
     );
-    dispatch::step(
+    calls_dispatch::step(
         run,
         call,
-        noted,
+        facts,
         mark,
         contact,
         chains,

@@ -16,19 +16,19 @@ use Rattle.rows.specs.Rows.{contact}
 use Rattle.rows.specs.declared.PairingRole.the-variants.{A}
 use Rattle.rows.specs.declared.Verification.the-variants.{Verified}
 use Rattle.put.specs.Put as puts
-use Rattle.lists.specs.Places as places
-use Rattle.lent.specs.Lent as lents
+use Rattle.contact_lists.specs.Places as places
+use Rattle.contact_lent.specs.Lent as lents
 use Rattle.numbers.specs.Ranges as ranges
 use Rattle.received.specs.Change as changes
 use Rattle.received.specs.Lent as received
 use Rattle.numbers.specs.Sets as sets
 use Rattle.contact.specs.Contact.{lists, zeroContact}
-use Rattle.contact_put.specs.Row as row
+use Rattle.contact_image.specs.Row as row
 use Rattle.store.specs.declared.Entry.{Entry}
 use Rattle.store.specs.Kinds.{DEVICE, CONTACT, QUEUED, COURIER}
 use Rattle.calls_step.specs.declared.Mark.the-variants.{Fresh}
 use Rattle.ledger.specs.Call.{Call, restore, opens, cover, contains, covers, take, statement, write, granted, advanced, truth, number, wrote, said, refused, refusedAt, Lent}
-use Rattle.calls_step.specs.Hand.{Hand}
+use Rattle.calls_step.specs.Input.{Input}
 use Rattle.numbers.specs.Decimal as decimals
 use Rattle.store.specs.Line as lines
 use Rattle.calls_step.specs.Step as steps
@@ -104,11 +104,11 @@ abbrev bare : (contiguous : ℕ) → List Call → List Call
 bare contiguous cs = restore (runOf 0 (fieldsOf 3 contiguous [])) (entriesOf 303) ∷ opens 1 ∷ cs
 
 -- nothing restored; so many numbers for `above`, and so many bytes of output
-abbrev pub fresh : (above : List ℕ) → (out : ℕ) → Hand
+abbrev pub fresh : (above : List ℕ) → (out : ℕ) → Input
 fresh above out = record { mark = Fresh; run = []; entries = []; contact = zeroContact; lists = lists [] [] above (0 ∷ []) (0 ∷ 0 ∷ []); out = replicate out 0 }
 
 -- `above` lent without a place
-abbrev shorter : Hand → Hand
+abbrev shorter : Input → Input
 shorter h = relisted (h .contact) (aboveAs [] (h .lists)) h
 
 -- the calls, from nothing restored, once the sample is restored and its contact open

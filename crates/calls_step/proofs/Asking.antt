@@ -16,14 +16,14 @@ use Rattle.received.specs.Lent.{pairs}
 use Rattle.rows.proofs.Tests.{either, and-both}
 use Rattle.contact.specs.Contact.{Lists, contactOf, longEnough, filled}
 use Rattle.contact.proofs.Counts.{five}
-use Rattle.contact_put.specs.Row as row
+use Rattle.contact_image.specs.Row as row
 use Rattle.numbers.specs.Lists.{within}
-use Rattle.contact_put.specs.Row.{counted, image, contactIn}
+use Rattle.contact_image.specs.Row.{counted, image, contactIn}
 use Rattle.contact_laws.proofs.Back.{value-back, image-back}
 use Rattle.store.specs.declared.Entry.{Entry}
 use Rattle.store.specs.Store.{replacedPasses}
 use Rattle.calls_step.specs.declared.Mark.the-variants.{Opened}
-use Rattle.calls_step.specs.Hand.{Hand, Left, no, lentOf}
+use Rattle.calls_step.specs.Input.{Input, Left, no, lentOf}
 use Rattle.ledger.specs.Call.{Lent}
 use Rattle.calls_step.specs.Step.{passes, coveredIn}
 use Rattle.ledger.specs.Ledger.{Open, opened, Account, refuse, fitting, enough, covered, current, passesNow}
@@ -58,17 +58,17 @@ module _ (N : ℕ) (run : List ℕ) (es : List Entry) (o : Open) (sound : Sound 
 
 -- ---- the call's, of what is handed in
 module _ (N : ℕ) (run : List ℕ) (es : List Entry) (o : Open) (ls : Lists) (out : List ℕ) where
-  abbrev pub hand : Hand
-  hand = record { mark = Opened (record { 0 = o .id }); run = run; entries = es; contact = contactOf (current N o); lists = ls; out = out }
+  abbrev pub input : Input
+  input = record { mark = Opened (record { 0 = o .id }); run = run; entries = es; contact = contactOf (current N o); lists = ls; out = out }
 
   module _ (sound : Sound N run es o) (same : laidLists (current N o) 0 ls ≡ ls) where
-    pub stands : StandsFor N (opened run es o) hand
+    pub stands : StandsFor N (opened run es o) input
     stands = record { stands = λ i. record { mark = Opened (record { 0 = o .id }); run = run; entries = es; contact = contactOf (current N o); lists = same i; out = out } }
 
     -- ---- lists that are long enough
-    module _ (fit : fitting (current N o) (lentOf hand) ≡ true) where
+    module _ (fit : fitting (current N o) (lentOf input) ≡ true) where
       long : longEnough (current N o) ls ≡ true
-      long = fits-enough (current N o) (lentOf hand) fit
+      long = fits-enough (current N o) (lentOf input) fit
 
       refilled : filled (current N o) ls ≡ ls
       refilled = sym (laid-filled (current N o) (sound .now) ls long) ∙ same
@@ -83,7 +83,7 @@ module _ (N : ℕ) (run : List ℕ) (es : List Entry) (o : Open) (ls : Lists) (o
       value-now : contactIn (contactOf (current N o)) ls ≡ current N o
       value-now = ap (λ (l : Lists). contactIn (contactOf (current N o)) l) (sym refilled) ∙ value-back 3 (current N o) (sound .now .fits) ls long
 
-      pub covered-now : coveredIn hand ≡ covered N o
+      pub covered-now : coveredIn input ≡ covered N o
       covered-now = ap (λ (v : Contact). received (v .contiguous) (v .above)) value-now
 
       pub expired-now : pairs (length (o .fields .expired)) (ls .expired) ≡ o .fields .expired
@@ -97,17 +97,17 @@ module _ (N : ℕ) (run : List ℕ) (es : List Entry) (o : Open) (ls : Lists) (o
           leb-true (length (covered N o .above)) (length (ls .above) / 2) (held (length (covered N o .above)) (length (ls .above) / 2) (h .above))
 
     -- ---- the question
-    pub passes-is : passes (o .id) hand ≡ fitting (current N o) (lentOf hand)
+    pub passes-is : passes (o .id) input ≡ fitting (current N o) (lentOf input)
     unfolding row.counted
     passes-is =
-        either (fitting (current N o) (lentOf hand)) (λ b. b && replacedPasses run es (o .id) (image (contactOf (current N o)) ls) ≡ b)
+        either (fitting (current N o) (lentOf input)) (λ b. b && replacedPasses run es (o .id) (image (contactOf (current N o)) ls) ≡ b)
         (λ t. rw (image-now t) (replaced N run es o sound))
         (λ t. refl)
 
     -- ... and then the call
-    pub asked : (s : Left) (a : Account) → (fitting (current N o) (lentOf hand) ≡ true → Good N (opened run es o) hand s a)
-        → Good N (opened run es o) hand (cond (passes (o .id) hand) s (no STORE hand)) (cond (passesNow N (lentOf hand) run es o) a (refuse STORE (opened run es o)))
+    pub asked : (s : Left) (a : Account) → (fitting (current N o) (lentOf input) ≡ true → Good N (opened run es o) input s a)
+        → Good N (opened run es o) input (cond (passes (o .id) input) s (no STORE input)) (cond (passesNow N (lentOf input) run es o) a (refuse STORE (opened run es o)))
     asked s a f =
-        rw (passes-is, passes-now N run es o sound (lentOf hand))
-        (either (fitting (current N o) (lentOf hand)) (λ b. Good N (opened run es o) hand (cond b s (no STORE hand)) (cond b a (refuse STORE (opened run es o))))
-        f (λ t. refuse-good N (opened run es o) hand stands STORE))
+        rw (passes-is, passes-now N run es o sound (lentOf input))
+        (either (fitting (current N o) (lentOf input)) (λ b. Good N (opened run es o) input (cond b s (no STORE input)) (cond b a (refuse STORE (opened run es o))))
+        f (λ t. refuse-good N (opened run es o) input stands STORE))

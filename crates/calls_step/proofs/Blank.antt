@@ -10,11 +10,11 @@ use Rattle.store.specs.Veiled.{zeroIf}
 use Rattle.store.proofs.Proved.{store-laws}
 use Rattle.calls_step.specs.declared.Mark.the-variants.{Fresh}
 use Rattle.ledger.specs.Call.{Call, restore, opens, cover, contains, covers, take, statement, write}
-use Rattle.calls_step.specs.Hand.{Hand, lentOf}
+use Rattle.calls_step.specs.Input.{Input, lentOf}
 use Rattle.calls_step.specs.Legal.{Turn, Each, Typed, Legal, lastLeft}
 use Rattle.calls_step.specs.Step.{step}
 use Rattle.calls_step.specs.Two.{CallsAlike, stores, same, Paired, AlikeAll}
-use Rattle.calls_step.specs.Wish.{Wish, Serves, WishesTyped}
+use Rattle.calls_step.specs.Request.{Request, Serves, RequestsTyped}
 use Rattle.calls_step.specs.Blank.{blankCall, Blankable, SameAnswers, Blanks}
 use Rattle.calls_step.proofs.Two.{two-runs}
 use Rattle.calls_step.proofs.Occurs.{occurs}
@@ -39,9 +39,9 @@ call-blank statement a = same statement
 call-blank write a = same write
 
 -- the calls and lent lengths that the blanked list is to have
-wishes : List Turn → List Wish
-wishes [] = []
-wishes (t ∷ ts) = record { call = blankCall (t .call); lent = lentOf (t .hand) } ∷ wishes ts
+requests : List Turn → List Request
+requests [] = []
+requests (t ∷ ts) = record { call = blankCall (t .call); lent = lentOf (t .input) } ∷ requests ts
 
 module _ (N : ℕ) (wide : N + 1 ≡ 256 ^ 4) where
   blank-typed : (c : Call) → Typed N c → Typed N (blankCall c)
@@ -54,28 +54,28 @@ module _ (N : ℕ) (wide : N + 1 ≡ 256 ^ 4) where
   blank-typed statement t = tt
   blank-typed write t = tt
 
-  wishes-typed : (g : Hand) (ts : List Turn) → Legal N g ts → WishesTyped N (wishes ts)
-  unfolding wishes
-  wishes-typed g [] l = tt
-  wishes-typed g (t ∷ ts) l = (blank-typed (t .call) (l .0), wishes-typed (lastLeft g (step N (t .call) (t .hand))) ts (l .2))
+  requests-typed : (g : Input) (ts : List Turn) → Legal N g ts → RequestsTyped N (requests ts)
+  unfolding requests
+  requests-typed g [] l = tt
+  requests-typed g (t ∷ ts) l = (blank-typed (t .call) (l .0), requests-typed (lastLeft g (step N (t .call) (t .input))) ts (l .2))
 
   -- a list that serves these wishes is paired with the first
-  paired : (ts us : List Turn) → Each (λ t. Blankable (t .call)) ts → Serves (wishes ts) us → Paired ts us
-  unfolding wishes
+  paired : (ts us : List Turn) → Each (λ t. Blankable (t .call)) ts → Serves (requests ts) us → Paired ts us
+  unfolding requests
   paired [] [] a s = tt
   paired [] (u ∷ us) a s = absurd s
   paired (t ∷ ts) [] a s = absurd s
   paired (t ∷ ts) (u ∷ us) a s = (subst (CallsAlike (t .call)) (sym (s .0)) (call-blank (t .call) (a .0)), sym (s .1), paired ts us (a .1) (s .2))
 
-  same-answers : (ts us : List Turn) → Serves (wishes ts) us → AlikeAll N ts us → SameAnswers N ts us
-  unfolding wishes
+  same-answers : (ts us : List Turn) → Serves (requests ts) us → AlikeAll N ts us → SameAnswers N ts us
+  unfolding requests
   same-answers [] [] s a = tt
   same-answers [] (u ∷ us) s a = absurd s
   same-answers (t ∷ ts) [] s a = absurd s
   same-answers (t ∷ ts) (u ∷ us) s a = (s .0, sym (s .1), a .0 .answer, same-answers ts us (s .2) (a .1))
 
-  pub blanked-list : (g : Hand) → g .mark ≡ Fresh → (ts : List Turn) → Legal N g ts → Each (λ t. Blankable (t .call)) ts → Blanks N g ts
+  pub blanked-list : (g : Input) → g .mark ≡ Fresh → (ts : List Turn) → Legal N g ts → Each (λ t. Blankable (t .call)) ts → Blanks N g ts
   blanked-list g m ts legal apart =
-      let served = occurs N wide g m (wishes ts) (wishes-typed g ts legal) in
+      let served = occurs N wide g m (requests ts) (requests-typed g ts legal) in
       let alike = two-runs N wide g g m m ts (served .turns) (paired ts (served .turns) apart (served .serves)) legal (served .legal) in
       record { turns = served .turns; legal = served .legal; answers = same-answers ts (served .turns) (served .serves) alike }

@@ -16,9 +16,9 @@ use Rattle.layout.specs.RowLaws.{Bytes}
 use Rattle.rows.specs.Values.{Range, Contact}
 use Rattle.rows.specs.Checks.{all}
 use Rattle.rows.specs.Rows.{range, contact}
-use Rattle.parts.specs.Parts.{paired, keys, chained, numbers}
-use Rattle.parts.specs.Parts as parts
-use Rattle.parts.proofs.Parts.{print-in-parts}
+use Rattle.contact_parts.specs.Parts.{paired, keys, chained, numbers}
+use Rattle.contact_parts.specs.Parts as parts
+use Rattle.contact_parts.proofs.Parts.{print-in-parts}
 use Rattle.numbers.specs.Ranges.{Received}
 use Rattle.rows.proofs.Tests.{and-both}
 use Rattle.ledger.specs.Ledger.{withNumbers}

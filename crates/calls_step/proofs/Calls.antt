@@ -22,7 +22,7 @@ use Rattle.store.specs.declared.Entry.{Entry}
 use Rattle.store.proofs.Lasting.{opened-lasts}
 use Rattle.calls_step.specs.declared.Mark.the-variants.{Opened}
 use Rattle.ledger.specs.Call.{Call, Answer, isGranted, truth, number, wrote, said, refused, contains, covers, take, statement, write}
-use Rattle.calls_step.specs.Hand.{Hand, leaves, no, lentOf}
+use Rattle.calls_step.specs.Input.{Input, leaves, no, lentOf}
 use Rattle.store.specs.Line.{lineOf, queuedOf}
 use Rattle.calls_step.specs.Step.{coveredIn, taking, writing, wroteRow, saidLine, lineIn, step}
 use Rattle.calls_step.specs.Step as steps
@@ -33,7 +33,7 @@ use Rattle.calls_step.proofs.Numbers.{known, valid-with}
 use Rattle.calls_step.specs.Stands.{HoldsAll, Sound, LastLeft}
 use Rattle.calls_step.proofs.Laid.{holds-with}
 use Rattle.calls_step.proofs.Good.{Next, Good, refuse-good}
-use Rattle.calls_step.proofs.Asking.{hand, stands, lists-hold, image-now, covered-now, expired-now, asked}
+use Rattle.calls_step.proofs.Asking.{input, stands, lists-hold, image-now, covered-now, expired-now, asked}
 
 -- 37
 pub in-order : (f t : ℕ) → isRange f t ≡ true → (1 ≤ f) × (f ≤ t)
@@ -45,8 +45,8 @@ module _ (N : ℕ) (wide : N + 1 ≡ 256 ^ 4) (run : List ℕ) (es : List Entry)
     abbrev here : Ledger
     here = opened run es o
 
-    abbrev given : Hand
-    given = hand N run es o ls out
+    abbrev given : Input
+    given = input N run es o ls out
 
     refuses : (q : ℕ) → Good N here given (no q given) (refuse q here)
     refuses q = refuse-good N here given (stands N run es o ls out sound same) q

@@ -13,19 +13,19 @@ use Rattle.rows.specs.Values as value
 use Rattle.rows.specs.Rows.{contact}
 use Rattle.rows.proofs.Tests.{and-both}
 use Rattle.contact.specs.declared.Contact.{Contact}
-use Rattle.contact_put.specs.Row as row
-use Rattle.contact_put.specs.Row.{counted, image, askedContact, writesContact, ContactTyped, ListsTyped}
-use Rattle.calls_step.specs.Hand.{Hand}
+use Rattle.contact_image.specs.Row as row
+use Rattle.contact_image.specs.Row.{counted, image, askedContact, writesContact, ContactTyped, ListsTyped}
+use Rattle.calls_step.specs.Input.{Input}
 use Rattle.calls_step.specs.Step.{passes}
-use Rattle.calls_step.specs.Aside.{sightOf, passesAside, isLength}
-use Rattle.calls_step.proofs.Aside.{passes-in-parts}
+use Rattle.calls_step.specs.Omitted.{sightOf, passesOmitted, isLength}
+use Rattle.calls_step.proofs.Omitted.{passes-in-parts}
 
 -- ---- write: past 34 the writer asks for room alone
-module _ (k : ℕ) (h : Hand) (ty : ContactTyped (h .contact)) (lt : ListsTyped (h .lists)) where
+module _ (k : ℕ) (h : Input) (ty : ContactTyped (h .contact)) (lt : ListsTyped (h .lists)) where
   pub passed-writes : passes k h ≡ true → (out : List ℕ) → writesContact (h .contact) (h .lists) out ≡ stored (image (h .contact) (h .lists)) out
   unfolding row.writesContact row.askedContact write.asked write.writes
   passed-writes e out =
-      let asked = and-both (isLength (askedContact (h .contact) (h .lists))) (passesAside (h .run) (h .entries) k (sightOf (h .contact) (h .lists))) (sym (passes-in-parts k h ty lt) ∙ e) .0 in
+      let asked = and-both (isLength (askedContact (h .contact) (h .lists))) (passesOmitted (h .run) (h .entries) k (sightOf (h .contact) (h .lists))) (sym (passes-in-parts k h ty lt) ∙ e) .0 in
       go (counted (h .contact) (h .lists)) (readRow (contact 3) (image (h .contact) (h .lists))) asked
     where
       go : (b : Bool) (y : Answer value.Contact) → isLength (cond b (write.sized y (length (image (h .contact) (h .lists)))) (write.refuses LISTS)) ≡ true

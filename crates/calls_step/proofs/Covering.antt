@@ -26,7 +26,7 @@ use Rattle.store.specs.declared.Entry.{Entry}
 use Rattle.store.proofs.Lasting.{opened-lasts}
 use Rattle.calls_step.specs.declared.Mark.the-variants.{Opened}
 use Rattle.ledger.specs.Call.{advanced, cover}
-use Rattle.calls_step.specs.Hand.{Hand, Left, leaves, no, lentOf}
+use Rattle.calls_step.specs.Input.{Input, Left, leaves, no, lentOf}
 use Rattle.calls_step.specs.Step.{renumbered, aboveAs, relisted, coveredIn, covering, step}
 use Rattle.calls_step.specs.Step as steps
 use Rattle.ledger.specs.Ledger.{Open, Ledger, opened, refuse, fitting, covered, current, coverNow, ledger}
@@ -36,7 +36,7 @@ use Rattle.calls_step.proofs.Numbers.{known, valid-with}
 use Rattle.calls_step.specs.Stands.{Holds, Sound}
 use Rattle.calls_step.proofs.Laid.{holds-with, laid-stored, holds-stored}
 use Rattle.calls_step.proofs.Good.{Good, refuse-good}
-use Rattle.calls_step.proofs.Asking.{hand, stands, lists-hold, covered-now, above-room, asked}
+use Rattle.calls_step.proofs.Asking.{input, stands, lists-hold, covered-now, above-room, asked}
 use Rattle.calls_step.proofs.Calls.{in-order}
 
 module _ (N : ℕ) (wide : N + 1 ≡ 256 ^ 4) (run : List ℕ) (es : List Entry) (o : Open) (ls : Lists) (out : List ℕ) (sound : Sound N run es o)
@@ -45,8 +45,8 @@ module _ (N : ℕ) (wide : N + 1 ≡ 256 ^ 4) (run : List ℕ) (es : List Entry)
     abbrev here : Ledger
     here = opened run es o
 
-    abbrev given : Hand
-    given = hand N run es o ls out
+    abbrev given : Input
+    given = input N run es o ls out
 
     -- ---- what the call leaves where the ranges were v
     abbrev leftOf : Received → Left

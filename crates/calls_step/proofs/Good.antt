@@ -12,26 +12,26 @@ use Rattle.store.specs.declared.Asked.the-variants as asks
 use Rattle.store.specs.Store as store
 use Rattle.store.specs.Store.{storeOf, asked, found, outcome}
 use Rattle.ledger.specs.Call.{Answer, isGranted, refused, refusedAt}
-use Rattle.calls_step.specs.Hand.{Hand, Left, leaves, no}
+use Rattle.calls_step.specs.Input.{Input, Left, leaves, no}
 use Rattle.calls_step.specs.Step.{restoring}
 use Rattle.ledger.specs.Ledger.{Ledger, Account, plain, refuse, restores}
 use Rattle.calls_step.specs.Agree.{standing, shown}
 use Rattle.calls_step.specs.Stands.{SoundLedger, StandsFor, LastLeft}
 
 module _ (N : ℕ) where
-  abbrev pub after : Account → Hand → Hand
+  abbrev pub after : Account → Input → Input
   after a h = standing N (a .state) (a .freed) (a .output ++ drop (length (a .output)) (h .out)) h
 
   -- granted: the state is sound, and what is left is its. Refused: the state stays
-  abbrev pub Next : Bool → Ledger → Hand → Account → Type 0
+  abbrev pub Next : Bool → Ledger → Input → Account → Type 0
   Next true l h a = SoundLedger N (a .state) × LastLeft N (a .state) (after a h)
   Next false l h a = a .state ≡ l
 
-  pub record Good (l : Ledger) (h : Hand) (s : Left) (a : Account) : Type 0 where
+  pub record Good (l : Ledger) (h : Input) (s : Left) (a : Account) : Type 0 where
     pub agrees : s ≡ shown N a h
     pub next : Next (isGranted (a .answer)) l h a
 
-  module _ (l : Ledger) (h : Hand) (stands : StandsFor N l h) where
+  module _ (l : Ledger) (h : Input) (stands : StandsFor N l h) where
     -- the state, and all that is handed in, stay
     stays : (a : Answer) → leaves a h ≡ shown N (plain a l) h
     stays a = ap (leaves a) (sym (stands .stands))

@@ -16,13 +16,13 @@ use Rattle.rows.specs.Values.{Range, Contact}
 use Rattle.rows.specs.Rows.{chain, skipped, contact}
 use Rattle.put.specs.Put.{put}
 use Rattle.put.proofs.Put.{put-front}
-use Rattle.lists.specs.Places.{printPlaces}
+use Rattle.contact_lists.specs.Places.{printPlaces}
 use Rattle.numbers.specs.Ranges.{Received}
 use Rattle.received.specs.Lent.{flat, stored}
 use Rattle.received.specs.Lent as lent
 use Rattle.rows.proofs.Tests.{order}
 use Rattle.received.proofs.Pairs.{length-flat}
-use Rattle.lent.proofs.Laws.{chains-filled, skipped-filled}
+use Rattle.contact_lent.proofs.Laws.{chains-filled, skipped-filled}
 use Rattle.contact.specs.Contact.{Lists, contactOf, longEnough, filled}
 use Rattle.contact.proofs.Counts.{Five, five}
 use Rattle.contact_laws.proofs.Back.{fits-of}

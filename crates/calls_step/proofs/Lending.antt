@@ -11,15 +11,15 @@ use Rattle.layout.specs.Layout as layout
 use Rattle.layout.specs.RowLaws.{Bytes}
 use Rattle.rows.specs.Utf8 as utf
 use Rattle.put.specs.Put as puts
-use Rattle.lists.specs.Places as places
-use Rattle.lent.specs.Lent as lents
+use Rattle.contact_lists.specs.Places as places
+use Rattle.contact_lent.specs.Lent as lents
 use Rattle.numbers.specs.Ranges as ranges
 use Rattle.received.specs.Change as changes
 use Rattle.received.specs.Lent as received
 use Rattle.numbers.specs.Sets as sets
-use Rattle.contact_put.specs.Row as row
+use Rattle.contact_image.specs.Row as row
 use Rattle.ledger.specs.Call.{Call, restore, opens, cover, contains, take, statement, write, Answer, granted, advanced, truth, number, wrote, said, refused}
-use Rattle.calls_step.specs.Hand.{Hand}
+use Rattle.calls_step.specs.Input.{Input}
 use Rattle.numbers.specs.Decimal as decimals
 use Rattle.store.specs.Line as lines
 use Rattle.calls_step.specs.Step as steps
@@ -27,7 +27,7 @@ use Rattle.ledger.specs.Ledger.{Ledger, nothing, ledger}
 use Rattle.ledger.specs.Ledger as ledgers
 use Rattle.calls_step.specs.Legal.{Turn, made, Legal}
 use Rattle.calls_step.specs.Agree.{AgreesAll}
-use Rattle.calls_step.specs.Wish.{Wish, Serves, WishesTyped}
+use Rattle.calls_step.specs.Request.{Request, Serves, RequestsTyped}
 use Rattle.calls_step.proofs.Bytes.{bytes-tested}
 use Rattle.calls_step.proofs.Occurs as occurs
 use Rattle.calls_step.proofs.Every.{every-list}
@@ -35,10 +35,10 @@ use Rattle.calls_step.proofs.Occurs.{serving, served, serving-legal}
 use Rattle.calls_step.proofs.Answers.{N, run, entries, fresh, line}
 
 -- a call, with so many numbers lent for `above`, `unacked` and expired ranges, and so many bytes of output
-abbrev with : (above unacked expired out : ℕ) → Call → Wish
+abbrev with : (above unacked expired out : ℕ) → Call → Request
 with above unacked expired out c = record { call = c; lent = record { chains = 0; skipped = 0; above = above; unacked = unacked; expired = expired; out = out } }
 
-abbrev before : Hand
+abbrev before : Input
 before = fresh [] 0
 
 abbrev answersOf : List Turn → List Answer
@@ -46,16 +46,16 @@ answersOf [] = []
 answersOf (t ∷ ts) = made N t .answer ∷ answersOf ts
 
 -- what the ledger answers, which is fed the calls and the lent lengths alone; numbers go up to 16
-abbrev ledgerSays : List Wish → Ledger → List Answer
+abbrev ledgerSays : List Request → Ledger → List Answer
 ledgerSays [] l = []
 ledgerSays (w ∷ ws) l = let a = ledger 16 (w .call) (w .lent) l in a .answer ∷ ledgerSays ws (a .state)
 
-abbrev sample : Wish
+abbrev sample : Request
 sample = with 0 0 0 0 (restore (run 3) entries)
 
 -- ---- longer, and shorter again
 -- one pair for 4..4 is too few for 6..9 beside it, two are enough; then two pairs and a half, 15 bytes of output for a line of 16, and 16; and all longer for write
-abbrev longer : List Wish
+abbrev longer : List Request
 longer =
     sample
     ∷ with 2 1 2 0 (opens 1)
@@ -75,7 +75,7 @@ longerSays =
 -- ---- too short
 -- 34 with one pair for two ranges, and with no place for unacked or half a pair for expired: each time the same call is granted with places enough.
 -- 36 of an open leaves the contact open
-abbrev short : List Wish
+abbrev short : List Request
 short =
     sample
     ∷ with 4 1 2 0 (opens 1)
@@ -94,7 +94,7 @@ shortSays =
     granted ∷ granted ∷ advanced false ∷ refused STORE ∷ truth true ∷ refused STORE ∷ refused STORE ∷ number 4 ∷ refused LISTS ∷ truth true ∷ []
 
 -- ---- the turns: the calls with these lengths
-abbrev turns : List Wish → List Turn
+abbrev turns : List Request → List Turn
 turns ws = serving N refl ws before
 
 both-served : Serves longer (turns longer) × Serves short (turns short)
@@ -105,10 +105,10 @@ run-bytes : Bytes (run 3)
 unfolding layout.print form.bytesOf form.printMany
 run-bytes = bytes-tested (run 3) refl
 
-longer-typed : WishesTyped N longer
+longer-typed : RequestsTyped N longer
 longer-typed = (run-bytes, (tt, (omega arith, (omega arith, (tt, (tt, (tt, (tt, tt))))))))
 
-short-typed : WishesTyped N short
+short-typed : RequestsTyped N short
 short-typed = (run-bytes, (tt, (omega arith, (tt, (tt, (tt, (tt, (tt, (tt, (tt, tt))))))))))
 
 both-legal : Legal N before (turns longer) × Legal N before (turns short)

@@ -15,7 +15,7 @@ use Rattle.layout.specs.Write as write
 use Rattle.rows.specs.Values.{Contact}
 use Rattle.rows.specs.Rows.{chain, skipped, contact}
 use Rattle.put.proofs.Put.{length-put}
-use Rattle.lists.specs.Places.{printPlaces}
+use Rattle.contact_lists.specs.Places.{printPlaces}
 use Rattle.numbers.specs.Ranges.{Received, inserted, isRange}
 use Rattle.received.specs.Change.{changeOf}
 use Rattle.received.specs.Lent as received
@@ -23,28 +23,28 @@ use Rattle.received.specs.Lent.{flat, fits, stored, listAfter}
 use Rattle.received.specs.declared.Change.{Change}
 use Rattle.received.specs.declared.Planned.the-variants as planned
 use Rattle.contact.specs.Contact.{longEnough}
-use Rattle.contact_put.specs.Row.{image}
+use Rattle.contact_image.specs.Row.{image}
 use Rattle.store.specs.declared.Entry.{Entry}
 use Rattle.store.specs.Store as store
 use Rattle.store.specs.Store.{storeOf, storePasses, partOf, Outcome, contactIn}
 use Rattle.calls_step.specs.declared.Mark.{Mark}
 use Rattle.calls_step.specs.declared.Mark.the-variants.{Fresh, Restored, Opened}
 use Rattle.ledger.specs.Call.{Call, restore, opens, cover, contains, covers, take, statement, write}
-use Rattle.calls_step.specs.Hand.{Hand, Left, lentOf}
+use Rattle.calls_step.specs.Input.{Input, Left, lentOf}
 use Rattle.ledger.specs.Call as call
 use Rattle.calls_step.specs.Step.{restoring, onStore, passes, onOpened, filling, opening, coveredIn, covering, writing, wroteRow, saidLine, lineIn, step}
 use Rattle.calls_step.specs.Step as steps
 
 -- as long as before
-record Long (h : Hand) (l : Left) : Type 0 where
+record Long (h : Input) (l : Left) : Type 0 where
   pub long : lentOf (l .after) ≡ lentOf h
 
-module _ {h : Hand} where
+module _ {h : Input} where
   both-long : (b : Bool) {x y : Left} → Long h x → Long h y → Long h (cond b x y)
   both-long true p q = p
   both-long false p q = q
 
-module _ (h : Hand) where
+module _ (h : Input) where
   abbrev Same : Left → Type 0
   Same l = Long h l
 

@@ -21,7 +21,7 @@ pub mod AlikeCalls
 pub mod AlikeLedgers
 pub mod Two
 pub mod Blank
-pub mod Aside
+pub mod Omitted
 pub mod Output
 pub mod Contracts
 pub mod Replay

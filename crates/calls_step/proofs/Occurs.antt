@@ -12,15 +12,15 @@ use Rattle.contact.specs.Contact.{contactOf}
 use Rattle.contact.specs.declared.Contact.{Contact as Struct}
 use Rattle.calls_step.specs.declared.Mark.{Mark}
 use Rattle.calls_step.specs.declared.Mark.the-variants.{Fresh, Restored, Opened}
-use Rattle.calls_step.specs.Hand.{Hand, lentOf}
+use Rattle.calls_step.specs.Input.{Input, lentOf}
 use Rattle.ledger.specs.Call.{Lent}
 use Rattle.calls_step.specs.Step.{step}
 use Rattle.ledger.specs.Ledger.{Ledger, nothing, restored, opened, current, ledger}
-use Rattle.calls_step.specs.Legal.{Turn, SameItems, SameLists, StoreAgain, FieldsAgain, Handed, lastLeft, made, Legal}
+use Rattle.calls_step.specs.Legal.{Turn, SameItems, SameLists, StoreAgain, FieldsAgain, Continues, lastLeft, made, Legal}
 use Rattle.calls_step.specs.Replay.{turn}
-use Rattle.calls_step.specs.Wish.{Wish, Serves, WishesTyped, Served}
+use Rattle.calls_step.specs.Request.{Request, Serves, RequestsTyped, Served}
 use Rattle.calls_step.specs.Stands.{Holds, HoldsAll, LastLeft}
-use Rattle.calls_step.proofs.Stands.{handed-stands}
+use Rattle.calls_step.proofs.Stands.{continued-stands}
 use Rattle.calls_step.proofs.Every.{Kept, begun, call-good, kept-next}
 
 -- ---- a list of n places, with those of l as far as it goes
@@ -53,7 +53,7 @@ module _ (n c : ℕ) (items l : List ℕ) where
   items-1 h = fitted-front (1 * min c (length (fitted n l) / 1)) n l (omega (arith, fitted-long n l)) (omega (arith, holds-room 1 c items l h))
 
 -- ---- what was left, with other lengths lent
-unfoldable pub again : Hand → Lent → Hand
+unfoldable pub again : Input → Lent → Input
 again g e = record {
   mark = g .mark;
   run = g .run;
@@ -69,7 +69,7 @@ again g e = record {
   out = zeros (e .out);
 }
 
-lent-again : (g : Hand) (e : Lent) → lentOf (again g e) ≡ e
+lent-again : (g : Input) (e : Lent) → lentOf (again g e) ≡ e
 unfolding again
 lent-again g e = λ i. record {
   chains = fitted-long (e .chains) (g .lists .chains) i;
@@ -80,13 +80,13 @@ lent-again g e = λ i. record {
   out = length-replicate {A = ℕ} (e .out) 0 i;
 }
 
-store-again : (m : Mark) (g : Hand) (e : Lent) → StoreAgain m g (again g e)
+store-again : (m : Mark) (g : Input) (e : Lent) → StoreAgain m g (again g e)
 unfolding again
 store-again Fresh g e = tt
 store-again Restored g e = record { run = refl; entries = refl }
 store-again (Opened k) g e = record { run = refl; entries = refl }
 
-lists-again : (v : Contact) (g : Hand) (e : Lent) → g .contact ≡ contactOf v → HoldsAll v (g .lists) → SameLists (g .contact) (g .lists) (again g e .lists)
+lists-again : (v : Contact) (g : Input) (e : Lent) → g .contact ≡ contactOf v → HoldsAll v (g .lists) → SameLists (g .contact) (g .lists) (again g e .lists)
 unfolding again
 lists-again v g e c h =
     subst (λ (x : Struct). SameLists x (g .lists) (again g e .lists)) (sym c)
@@ -99,35 +99,35 @@ lists-again v g e c h =
     })
 
 module _ (N : ℕ) (wide : N + 1 ≡ 256 ^ 4) where
-  fields-again : (l : Ledger) (g : Hand) (e : Lent) → LastLeft N l g → FieldsAgain (g .mark) g (again g e)
+  fields-again : (l : Ledger) (g : Input) (e : Lent) → LastLeft N l g → FieldsAgain (g .mark) g (again g e)
   unfolding again
   fields-again nothing g e k = subst (λ (m : Mark). FieldsAgain m g (again g e)) (sym k) tt
   fields-again (restored run es) g e k = subst (λ (m : Mark). FieldsAgain m g (again g e)) (sym (k .0)) tt
   fields-again (opened run es o) g e k = subst (λ (m : Mark). FieldsAgain m g (again g e)) (sym (k .0)) (refl, lists-again (current N o) g e (k .2 .contact) (k .2 .lists))
 
-  handed-again : (l : Ledger) (g : Hand) (e : Lent) → LastLeft N l g → Handed g (again g e)
+  continued-again : (l : Ledger) (g : Input) (e : Lent) → LastLeft N l g → Continues g (again g e)
   unfolding again
-  handed-again l g e k = record { mark = refl; store = store-again (g .mark) g e; fields = fields-again l g e k }
+  continued-again l g e k = record { mark = refl; store = store-again (g .mark) g e; fields = fields-again l g e k }
 
   -- ---- the calls, each handed what was left with the lengths that are to be lent to it
-  abbrev pub serving : List Wish → Hand → List Turn
+  abbrev pub serving : List Request → Input → List Turn
   serving [] g = []
   serving (w ∷ ws) g = let t = turn (w .call) (again g (w .lent)) in t ∷ serving ws (lastLeft g (made N t))
 
-  pub served : (ws : List Wish) (g : Hand) → Serves ws (serving ws g)
+  pub served : (ws : List Request) (g : Input) → Serves ws (serving ws g)
   served [] g = tt
   served (w ∷ ws) g = (refl, lent-again g (w .lent), served ws _)
 
-  all-legal : (ws : List Wish) → WishesTyped N ws → (l : Ledger) (g : Hand) → Kept N wide l g → Legal N g (serving ws g)
+  all-legal : (ws : List Request) → RequestsTyped N ws → (l : Ledger) (g : Input) → Kept N wide l g → Legal N g (serving ws g)
   all-legal [] t l g k = tt
   all-legal (w ∷ ws) t l g k =
       let h = again g (w .lent) in
-      let given = handed-again l g (w .lent) (k .left) in
-      let good = call-good N wide (w .call) (t .0) l (k .sound) h (handed-stands N l g h (k .left) given) in
+      let given = continued-again l g (w .lent) (k .left) in
+      let good = call-good N wide (w .call) (t .0) l (k .sound) h (continued-stands N l g h (k .left) given) in
       (t .0, given, all-legal ws (t .1) (ledger N (w .call) (lentOf h) l .state) (lastLeft g (step N (w .call) h)) (kept-next N wide l g h _ _ k good))
 
-  pub serving-legal : (g : Hand) → g .mark ≡ Fresh → (ws : List Wish) → WishesTyped N ws → Legal N g (serving ws g)
+  pub serving-legal : (g : Input) → g .mark ≡ Fresh → (ws : List Request) → RequestsTyped N ws → Legal N g (serving ws g)
   serving-legal g m ws t = all-legal ws t nothing g (begun N wide g m)
 
-  pub occurs : (g : Hand) → g .mark ≡ Fresh → (ws : List Wish) → WishesTyped N ws → Served N g ws
+  pub occurs : (g : Input) → g .mark ≡ Fresh → (ws : List Request) → RequestsTyped N ws → Served N g ws
   occurs g m ws t = record { turns = serving ws g; legal = serving-legal g m ws t; serves = served ws g }

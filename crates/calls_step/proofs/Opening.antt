@@ -28,7 +28,7 @@ use Rattle.store.proofs.Opened.{just-opened}
 use Rattle.calls_step.specs.declared.Mark.{Mark}
 use Rattle.calls_step.specs.declared.Mark.the-variants.{Opened}
 use Rattle.ledger.specs.Call.{granted}
-use Rattle.calls_step.specs.Hand.{Hand, leaves, no, lentOf}
+use Rattle.calls_step.specs.Input.{Input, leaves, no, lentOf}
 use Rattle.calls_step.specs.Step.{filling, opening}
 use Rattle.ledger.specs.Ledger.{Ledger, opened, plain, refuse, openOf, fills, finds, openIn, current}
 use Rattle.calls_step.specs.Agree.{laidLists}
@@ -91,7 +91,7 @@ module _ (N : ℕ) (wide : 256 ^ 4 ≤ N + 1) (run : List ℕ) (es : List Entry)
       going = subst (λ (c : Contact). asked (openedIn run es k c) ≡ Going) (sym now) passes;
     }
 
-    left-fields : (h : Hand) → longEnough v (h .lists) ≡ true → (m : Mark) → LeftFields (current N (openOf k v))
+    left-fields : (h : Input) → longEnough v (h .lists) ≡ true → (m : Mark) → LeftFields (current N (openOf k v))
         (record { mark = m; run = run; entries = es; contact = contactOf (current N (openOf k v)); lists = laidLists (current N (openOf k v)) 0 (h .lists); out = h .out })
     left-fields h enough m = record {
       contact = refl;
@@ -100,36 +100,36 @@ module _ (N : ℕ) (wide : 256 ^ 4 ≤ N + 1) (run : List ℕ) (es : List Entry)
 
   -- ---- 34, 35, 36
   module _ (m : Mark) (c : Struct) (ls : Lists) (out : List ℕ) (l : Ledger) where
-    abbrev hand : Hand
-    hand = record { mark = m; run = run; entries = es; contact = c; lists = ls; out = out }
+    abbrev input : Input
+    input = record { mark = m; run = run; entries = es; contact = c; lists = ls; out = out }
 
     -- what a granted open leaves
-    abbrev leftBy : Struct → Lists → Hand
+    abbrev leftBy : Struct → Lists → Input
     leftBy fields lists = record { mark = Opened (record { 0 = k }); run = run; entries = es; contact = fields; lists = lists; out = out }
 
-    module _ (stands : StandsFor N l hand) where
+    module _ (stands : StandsFor N l input) where
       granted-good : (e : Entry) → contactIn es k ≡ some e → (v : Contact) → readRow (contact (e .version)) (partOf run e) ≡ accepted v → longEnough v ls ≡ true
-          → Good N l hand (leaves granted (leftBy (contactOf v) (filled v ls))) (plain granted (opened run es (openOf k v)))
+          → Good N l input (leaves granted (leftBy (contactOf v) (filled v ls))) (plain granted (opened run es (openOf k v)))
       granted-good e at v read enough = record {
         agrees = subst (λ (u : Contact). leaves granted (leftBy (contactOf v) (filled v ls)) ≡ leaves granted (leftBy (contactOf u) (laidLists u 0 ls))) (sym (now e at v read))
             (λ i. leaves granted (leftBy (contactOf v) (sym (laid-filled v (valid e at v read) ls enough) i)));
-        next = (sound-open e at v read, (refl, record { run = refl; entries = refl }, left-fields e at v read hand enough (Opened (record { 0 = k }))));
+        next = (sound-open e at v read, (refl, record { run = refl; entries = refl }, left-fields e at v read input enough (Opened (record { 0 = k }))));
       }
 
       filling-good : (e : Entry) → contactIn es k ≡ some e → (y : Answer Contact) → readRow (contact (e .version)) (partOf run e) ≡ y
-          → Good N l hand (filling k hand y) (fills k (lentOf hand) run es l y)
-      filling-good e at (refusedBy q) r = refuse-good N l hand stands q
+          → Good N l input (filling k input y) (fills k (lentOf input) run es l y)
+      filling-good e at (refusedBy q) r = refuse-good N l input stands q
       filling-good e at (accepted v) r =
           either (longEnough v ls)
-          (λ b. Good N l hand
-          (cond b (leaves granted (leftBy (contactOf v) (filled v ls))) (no LISTS hand))
+          (λ b. Good N l input
+          (cond b (leaves granted (leftBy (contactOf v) (filled v ls))) (no LISTS input))
           (cond b (plain granted (opened run es (openOf k v))) (refuse LISTS l)))
           (λ t. granted-good e at v r t)
-          (λ t. refuse-good N l hand stands LISTS)
+          (λ t. refuse-good N l input stands LISTS)
 
-      finding-good : (x : Option Entry) → contactIn es k ≡ x → Good N l hand (opening k hand x) (finds k (lentOf hand) run es l x)
-      finding-good none at = refuse-good N l hand stands «CONTACT_STORED»
+      finding-good : (x : Option Entry) → contactIn es k ≡ x → Good N l input (opening k input x) (finds k (lentOf input) run es l x)
+      finding-good none at = refuse-good N l input stands «CONTACT_STORED»
       finding-good (some e) at = filling-good e at (readRow (contact (e .version)) (partOf run e)) refl
 
-      pub open-good : Good N l hand (cond (storePasses run es) (opening k hand (contactIn es k)) (no STORE hand)) (openIn k (lentOf hand) run es l)
+      pub open-good : Good N l input (cond (storePasses run es) (opening k input (contactIn es k)) (no STORE input)) (openIn k (lentOf input) run es l)
       open-good = rw (sound .going) (finding-good (contactIn es k) refl)

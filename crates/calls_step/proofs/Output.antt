@@ -20,7 +20,7 @@ use Rattle.store.specs.Store as store
 use Rattle.calls_step.specs.declared.Mark.{Mark}
 use Rattle.calls_step.specs.declared.Mark.the-variants.{Fresh, Restored, Opened}
 use Rattle.ledger.specs.Call.{Call, restore, opens, cover, contains, covers, take, statement, write, hasOutput}
-use Rattle.calls_step.specs.Hand.{Hand, Left, leaves}
+use Rattle.calls_step.specs.Input.{Input, Left, leaves}
 use Rattle.calls_step.specs.Step.{restoring, onStore, passes, onOpened, filling, opening, output, coveredIn, covering, step}
 use Rattle.numbers.specs.Ranges.{isRange}
 use Rattle.calls_step.specs.Step as steps
@@ -37,7 +37,7 @@ module _ {o : List ℕ} where
   cond-besides true p q = p
   cond-besides false p q = q
 
-module _ (o : List ℕ) (h : Hand) where
+module _ (o : List ℕ) (h : Input) where
   restoring-besides : (run : List ℕ) (es : List Entry) (x : Outcome) → Besides o (restoring run es (output o h) x) (restoring run es h x)
   restoring-besides run es (store.granted f) = same refl
   restoring-besides run es (store.refused q i) = same refl
@@ -64,14 +64,14 @@ module _ (o : List ℕ) (h : Hand) where
   covering-besides f t (planned.Change c) = same refl
   covering-besides f t (planned.Refused q) = same refl
 
-  pub output-aside : (N : ℕ) (c : Call) → hasOutput c ≡ false → Besides o (step N c (output o h)) (step N c h)
+  pub output-omitted : (N : ℕ) (c : Call) → hasOutput c ≡ false → Besides o (step N c (output o h)) (step N c h)
   unfolding steps.step
-  output-aside N (restore run es) q = restoring-besides run es (store.restore (storeOf run es))
-  output-aside N (opens k) q = store-besides (h .mark) (opening-besides k (contactIn (h .entries) k))
-  output-aside N (cover f t) q =
+  output-omitted N (restore run es) q = restoring-besides run es (store.restore (storeOf run es))
+  output-omitted N (opens k) q = store-besides (h .mark) (opening-besides k (contactIn (h .entries) k))
+  output-omitted N (cover f t) q =
       opened-besides (h .mark) _ _ (λ k. cond-besides (isRange f t) (covering-besides f t (planOf (coveredIn h) (length (h .lists .above)) f t)) (same refl))
-  output-aside N (contains m) q = opened-besides (h .mark) _ _ (λ k. same refl)
-  output-aside N (covers f t) q = opened-besides (h .mark) _ _ (λ k. cond-besides (isRange f t) (same refl) (same refl))
-  output-aside N take q = opened-besides (h .mark) _ _ (λ k. cond-besides (ltb (h .contact .«sent_msgno») N) (same refl) (same refl))
-  output-aside N statement q = absurd (true≢false q)
-  output-aside N write q = absurd (true≢false q)
+  output-omitted N (contains m) q = opened-besides (h .mark) _ _ (λ k. same refl)
+  output-omitted N (covers f t) q = opened-besides (h .mark) _ _ (λ k. cond-besides (isRange f t) (same refl) (same refl))
+  output-omitted N take q = opened-besides (h .mark) _ _ (λ k. cond-besides (ltb (h .contact .«sent_msgno») N) (same refl) (same refl))
+  output-omitted N statement q = absurd (true≢false q)
+  output-omitted N write q = absurd (true≢false q)

@@ -17,14 +17,14 @@ use Rattle.received.specs.Lent.{fits}
 use Rattle.received.specs.declared.Change.{Change}
 use Rattle.received.specs.declared.Planned.the-variants as planned
 use Rattle.contact.specs.Contact.{longEnough}
-use Rattle.contact_put.specs.Row.{image}
+use Rattle.contact_image.specs.Row.{image}
 use Rattle.store.specs.declared.Entry.{Entry}
 use Rattle.store.specs.Store as store
 use Rattle.store.specs.Store.{storeOf, storePasses, partOf, Outcome, contactIn}
 use Rattle.calls_step.specs.declared.Mark.{Mark}
 use Rattle.calls_step.specs.declared.Mark.the-variants.{Fresh, Restored, Opened}
 use Rattle.ledger.specs.Call.{Call, restore, opens, cover, contains, covers, take, statement, write, isGranted}
-use Rattle.calls_step.specs.Hand.{Hand, Left}
+use Rattle.calls_step.specs.Input.{Input, Left}
 use Rattle.ledger.specs.Call as call
 use Rattle.calls_step.specs.Step.{restoring, onStore, passes, onOpened, filling, opening, coveredIn, covering, writing, wroteRow, saidLine, lineIn, step}
 use Rattle.numbers.specs.Ranges.{isRange}
@@ -32,10 +32,10 @@ use Rattle.calls_step.specs.Step as steps
 use Rattle.calls_step.specs.Proved.{NothingWritten}
 
 -- where the answer is a no, what was handed in stands there
-pub record Keeps (h : Hand) (l : Left) : Type 0 where
+pub record Keeps (h : Input) (l : Left) : Type 0 where
   pub keeps : isGranted (l .answer) ≡ false → l .after ≡ h
 
-module _ {h : Hand} where
+module _ {h : Input} where
   same : {l : Left} → l .after ≡ h → Keeps h l
   same e = record { keeps = λ r. e }
 
@@ -46,7 +46,7 @@ module _ {h : Hand} where
   cond-keeps true p q = p
   cond-keeps false p q = q
 
-module _ (h : Hand) where
+module _ (h : Input) where
   restoring-keeps : (run : List ℕ) (es : List Entry) (o : Outcome) → Keeps h (restoring run es h o)
   restoring-keeps run es (store.granted f) = yes-keeps refl
   restoring-keeps run es (store.refused q i) = same refl

@@ -11,18 +11,18 @@ use Rattle.received.proofs.Proved.{proved}
 use Rattle.contact.specs.Contact.{contactOf}
 use Rattle.contact.specs.declared.Contact.{Contact as Struct}
 use Rattle.calls_step.specs.declared.Mark.{Mark}
-use Rattle.calls_step.specs.Hand.{Hand}
+use Rattle.calls_step.specs.Input.{Input}
 use Rattle.ledger.specs.Ledger.{Ledger, nothing, restored, opened, openOf, coveredBy, withNumbers, covered, current}
-use Rattle.calls_step.specs.Legal.{SameStore, SameLists, Handed, StoreAgain, FieldsAgain}
+use Rattle.calls_step.specs.Legal.{SameStore, SameLists, Continues, StoreAgain, FieldsAgain}
 use Rattle.calls_step.specs.Stands.{StandsFor, LastLeft}
 use Rattle.calls_step.proofs.Numbers.{known}
 use Rattle.calls_step.proofs.Laid.{laid-again}
 
 module _ (N : ℕ) where
   -- what is handed in of it stands for the state
-  pub handed-stands : (l : Ledger) (g h : Hand) → LastLeft N l g → Handed g h → StandsFor N l h
-  handed-stands nothing g h k e = record { stands = λ i. record { mark = sym (e .mark ∙ k) i; run = h .run; entries = h .entries; contact = h .contact; lists = h .lists; out = h .out } }
-  handed-stands (restored run es) g h k e =
+  pub continued-stands : (l : Ledger) (g h : Input) → LastLeft N l g → Continues g h → StandsFor N l h
+  continued-stands nothing g h k e = record { stands = λ i. record { mark = sym (e .mark ∙ k) i; run = h .run; entries = h .entries; contact = h .contact; lists = h .lists; out = h .out } }
+  continued-stands (restored run es) g h k e =
       let s : SameStore g h = subst (λ (m : Mark). StoreAgain m g h) (k .0) (e .store) in
       record {
         stands = λ i. record {
@@ -34,7 +34,7 @@ module _ (N : ℕ) where
           out = h .out;
         };
       }
-  handed-stands (opened run es o) g h k e =
+  continued-stands (opened run es o) g h k e =
       let s : SameStore g h = subst (λ (m : Mark). StoreAgain m g h) (k .0) (e .store) in
       let f : (h .contact ≡ g .contact) × SameLists (g .contact) (g .lists) (h .lists) = subst (λ (m : Mark). FieldsAgain m g h) (k .0) (e .fields) in
       let c : SameLists (contactOf (current N o)) (g .lists) (h .lists) = subst (λ (c : Struct). SameLists c (g .lists) (h .lists)) (k .2 .contact) (f .1) in

@@ -22,7 +22,7 @@ use Rattle.received.specs.declared.Planned.the-variants as planned
 use Rattle.contact.specs.Contact.{Lists, contactOf, longEnough}
 use Rattle.contact.specs.declared.Contact.{Contact as Struct}
 use Rattle.numbers.specs.Lists.{within}
-use Rattle.contact_put.specs.Row.{image}
+use Rattle.contact_image.specs.Row.{image}
 use Rattle.contact_laws.proofs.Back.{fits-of}
 use Rattle.store.specs.declared.Entry.{Entry}
 use Rattle.store.specs.declared.Asked.{Asked}
@@ -35,7 +35,7 @@ use Rattle.store.proofs.Tests.{is-of}
 use Rattle.store.proofs.Accepted.{going-quiet}
 use Rattle.calls_step.specs.declared.Mark.the-variants.{Fresh, Restored}
 use Rattle.ledger.specs.Call.{Call, restore, opens, cover, contains, covers, take, statement, write, granted, advanced, truth, number, wrote, said, refused, refusedAt}
-use Rattle.calls_step.specs.Hand.{Hand, Left, no, lentOf}
+use Rattle.calls_step.specs.Input.{Input, Left, no, lentOf}
 use Rattle.ledger.specs.Call as call
 use Rattle.calls_step.specs.Step.{restoring, passes, filling, opening, covering, writing, step}
 use Rattle.numbers.specs.Ranges.{isRange}
@@ -46,7 +46,7 @@ use Rattle.calls_step.specs.Agree.{laidLists}
 use Rattle.calls_step.specs.Stuck.{placesFor, Unstuck}
 use Rattle.calls_step.specs.Stands.{SoundStore, Sound, SoundLedger, StandsFor}
 use Rattle.calls_step.proofs.Opening.{found-at}
-use Rattle.calls_step.proofs.Asking.{hand, passes-is}
+use Rattle.calls_step.proofs.Asking.{input, passes-is}
 use Rattle.calls_step.proofs.Every.{each-turn, begun}
 
 -- ---- answers that are 34
@@ -72,7 +72,7 @@ either-other true x y o p = o
 either-other false x y o p = p
 
 -- ---- restore
-restore-other : (run : List ℕ) (es : List Entry) (h : Hand) → Other (restoring run es h (store.restore (storeOf run es)))
+restore-other : (run : List ℕ) (es : List Entry) (h : Input) → Other (restoring run es h (store.restore (storeOf run es)))
 restore-other run es h = go (asked (storeOf run es))
   where
     go : (x : Asked) → Other (restoring run es h (outcome x (found (storeOf run es))))
@@ -89,24 +89,24 @@ module _ (run : List ℕ) (es : List Entry) (sound : SoundStore run es) (k : ℕ
       subst (λ (x : Entry). refusalIn (readRow (layoutOf (kindOf (x .kind)) (x .version)) (partOf run x)) ≡ none) (f .is-there) quiet in
       subst (λ (n : ℕ). refusalIn (readRow (layoutOf (kindOf n) (e .version)) (partOf run e)) ≡ none) (is-of CONTACT k e (f .of-it) .0) here
 
-  filling-other : (h : Hand) (y : Answer Contact) → refusalIn y ≡ none → Other (filling k h y)
+  filling-other : (h : Input) (y : Answer Contact) → refusalIn y ≡ none → Other (filling k h y)
   filling-other h (accepted v) e = either-other (longEnough v (h .lists)) _ _ (record { other = refl }) (record { other = refl })
   filling-other h (refusedBy q) e = absurd (some≢none e)
 
-  opening-other : (h : Hand) → h .run ≡ run → (x : Option Entry) → contactIn es k ≡ x → Other (opening k h x)
+  opening-other : (h : Input) → h .run ≡ run → (x : Option Entry) → contactIn es k ≡ x → Other (opening k h x)
   opening-other h r none e = record { other = refl }
   opening-other h r (some e) at =
       filling-other h (readRow (contact (e .version)) (partOf (h .run) e)) (subst (λ (x : List ℕ). refusalIn (readRow (contact (e .version)) (partOf x e)) ≡ none) (sym r) (row-passes e at))
 
-  open-other : (h : Hand) → h .run ≡ run → Other (cond (storePasses run es) (opening k h (contactIn es k)) (no STORE h))
+  open-other : (h : Input) → h .run ≡ run → Other (cond (storePasses run es) (opening k h (contactIn es k)) (no STORE h))
   open-other h r = rw (sound .going) (opening-other h r (contactIn es k) refl)
 
 -- ---- the calls on an open contact, past 34
-covering-other : (f t : ℕ) (h : Hand) (b : Bool) (c : Change) → Other (covering f t h (cond b (planned.Change c) (planned.Refused «RANGES_FIT»)))
+covering-other : (f t : ℕ) (h : Input) (b : Bool) (c : Change) → Other (covering f t h (cond b (planned.Change c) (planned.Refused «RANGES_FIT»)))
 covering-other f t h true c = record { other = refl }
 covering-other f t h false c = record { other = refl }
 
-writing-other : (answer : writer.Written → call.Answer) (h : Hand) (bytes : List ℕ) → is34 (answer (writer.wrote (length bytes))) ≡ false → is34 (answer (writer.refuses OUTPUT)) ≡ false
+writing-other : (answer : writer.Written → call.Answer) (h : Input) (bytes : List ℕ) → is34 (answer (writer.wrote (length bytes))) ≡ false → is34 (answer (writer.refuses OUTPUT)) ≡ false
     → Other (writing answer h (writer.stored bytes (h .out)))
 writing-other answer h bytes e r = go (leb (length bytes) (length (h .out)))
   where
@@ -121,7 +121,7 @@ few-enough n items few = either (leb n items) (λ b. b && leb n 65535 ≡ b) (λ
 
 module _ (N : ℕ) (wide : N + 1 ≡ 256 ^ 4) where
   module _ (run : List ℕ) (es : List Entry) (o : Open) (ls : Lists) (out : List ℕ) (sound : Sound N run es o) (same : laidLists (current N o) 0 ls ≡ ls) where
-    fitting-is : fitting (current N o) (lentOf (hand N run es o ls out)) ≡ placesFor (contactOf (current N o)) ls
+    fitting-is : fitting (current N o) (lentOf (input N run es o ls out)) ≡ placesFor (contactOf (current N o)) ls
     fitting-is =
         let k = fits-of 3 (current N o) (sound .now .fits) in
         rw (
@@ -133,18 +133,18 @@ module _ (N : ℕ) (wide : N + 1 ≡ 256 ^ 4) where
         )
 
     -- 34, or another answer
-    wants : (s : Left) → Other s → cond (passes (o .id) (hand N run es o ls out)) s (no STORE (hand N run es o ls out)) .answer ≡ refused STORE → placesFor (contactOf (current N o)) ls ≡ false
+    wants : (s : Left) → Other s → cond (passes (o .id) (input N run es o ls out)) s (no STORE (input N run es o ls out)) .answer ≡ refused STORE → placesFor (contactOf (current N o)) ls ≡ false
     wants s other e =
         either (placesFor (contactOf (current N o)) ls)
-        (λ b. cond b s (no STORE (hand N run es o ls out)) .answer ≡ refused STORE → b ≡ false)
+        (λ b. cond b s (no STORE (input N run es o ls out)) .answer ≡ refused STORE → b ≡ false)
         (λ t q. absurd (not-34 s other q))
         (λ t q. refl)
         (rw (passes-is N run es o ls out sound same ∙ fitting-is) at e)
 
-    abbrev given : Hand
-    given = hand N run es o ls out
+    abbrev given : Input
+    given = input N run es o ls out
 
-    on-opened : (c : Call) → Unstuck N (record { call = c; hand = given })
+    on-opened : (c : Call) → Unstuck N (record { call = c; input = given })
     unfolding steps.step
     on-opened (restore run′ es′) e = not-34 _ (restore-other run′ es′ given) e
     on-opened (opens k) e = not-34 _ (open-other run es (sound .store) k given refl) e
@@ -158,7 +158,7 @@ module _ (N : ℕ) (wide : N + 1 ≡ 256 ^ 4) where
 
   -- ---- while no contact is open
   module _ (run : List ℕ) (es : List Entry) (fields : Struct) (ls : Lists) (out : List ℕ) where
-    on-nothing : (c : Call) → Unstuck N (record { call = c; hand = record { mark = Fresh; run = run; entries = es; contact = fields; lists = ls; out = out } })
+    on-nothing : (c : Call) → Unstuck N (record { call = c; input = record { mark = Fresh; run = run; entries = es; contact = fields; lists = ls; out = out } })
     unfolding steps.step
     on-nothing (restore run′ es′) e = not-34 _ (restore-other run′ es′ _) e
     on-nothing (opens k) e = tt
@@ -169,7 +169,7 @@ module _ (N : ℕ) (wide : N + 1 ≡ 256 ^ 4) where
     on-nothing statement e = tt
     on-nothing write e = tt
 
-    on-restored : SoundStore run es → (c : Call) → Unstuck N (record { call = c; hand = record { mark = Restored; run = run; entries = es; contact = fields; lists = ls; out = out } })
+    on-restored : SoundStore run es → (c : Call) → Unstuck N (record { call = c; input = record { mark = Restored; run = run; entries = es; contact = fields; lists = ls; out = out } })
     unfolding steps.step
     on-restored s (restore run′ es′) e = not-34 _ (restore-other run′ es′ _) e
     on-restored s (opens k) e = not-34 _ (open-other run es s k _ refl) e
@@ -180,14 +180,14 @@ module _ (N : ℕ) (wide : N + 1 ≡ 256 ^ 4) where
     on-restored s statement e = tt
     on-restored s write e = tt
 
-  abbrev At : Call → Hand → Type 0
-  At c h = Unstuck N (record { call = c; hand = h })
+  abbrev At : Call → Input → Type 0
+  At c h = Unstuck N (record { call = c; input = h })
 
-  unstuck : (c : Call) → Typed N c → (l : Ledger) → SoundLedger N l → (h : Hand) → StandsFor N l h → At c h
+  unstuck : (c : Call) → Typed N c → (l : Ledger) → SoundLedger N l → (h : Input) → StandsFor N l h → At c h
   unstuck c t nothing s h e = subst (At c) (e .stands) (on-nothing (h .run) (h .entries) (h .contact) (h .lists) (h .out) c)
   unstuck c t (restored run es) s h e = subst (At c) (e .stands) (on-restored run es (h .contact) (h .lists) (h .out) s c)
   unstuck c t (opened run es o) s h e =
-      subst (At c) (e .stands) (on-opened run es o (laidLists (current N o) 0 (h .lists)) (h .out) s (ap (λ (g : Hand). laidLists (current N o) 0 (g .lists)) (e .stands)) c)
+      subst (At c) (e .stands) (on-opened run es o (laidLists (current N o) 0 (h .lists)) (h .out) s (ap (λ (g : Input). laidLists (current N o) 0 (g .lists)) (e .stands)) c)
 
-  pub never-stuck : (g : Hand) → g .mark ≡ Fresh → (ts : List Turn) → Legal N g ts → Each (Unstuck N) ts
+  pub never-stuck : (g : Input) → g .mark ≡ Fresh → (ts : List Turn) → Legal N g ts → Each (Unstuck N) ts
   never-stuck g m ts legal = each-turn N wide (Unstuck N) unstuck ts nothing g (begun N wide g m) legal

@@ -10,13 +10,13 @@ use Rattle.layout.specs.Layout as layout
 use Rattle.rows.specs.Utf8 as utf
 use Rattle.rows.specs.Rows.{contact}
 use Rattle.put.specs.Put as puts
-use Rattle.lists.specs.Places as places
-use Rattle.lent.specs.Lent as lents
+use Rattle.contact_lists.specs.Places as places
+use Rattle.contact_lent.specs.Lent as lents
 use Rattle.numbers.specs.Ranges as ranges
 use Rattle.received.specs.Change as changes
 use Rattle.received.specs.Lent as received
 use Rattle.numbers.specs.Sets as sets
-use Rattle.contact_put.specs.Row as row
+use Rattle.contact_image.specs.Row as row
 use Rattle.store.specs.Kinds.{DEVICE, CONTACT}
 use Rattle.ledger.specs.Call.{Call, restore, opens, cover, contains, Answer, granted, advanced, truth, refused, refusedAt}
 use Rattle.calls_step.specs.Step as steps

@@ -14,16 +14,16 @@ use Rattle.layout.specs.Veil.{hide}
 use Rattle.layout.proofs.Hide.{hide-outside}
 use Rattle.rows.specs.Utf8 as utf
 use Rattle.put.specs.Put as puts
-use Rattle.lists.specs.Places as places
-use Rattle.lent.specs.Lent as lents
+use Rattle.contact_lists.specs.Places as places
+use Rattle.contact_lent.specs.Lent as lents
 use Rattle.numbers.specs.Ranges as ranges
 use Rattle.received.specs.Change as changes
 use Rattle.received.specs.Lent as received
-use Rattle.contact_put.specs.Row as row
+use Rattle.contact_image.specs.Row as row
 use Rattle.store.specs.Store.{entryAt, partOf}
 use Rattle.store.specs.Veiled.{veiledIn, VeilEqual}
 use Rattle.ledger.specs.Call.{Call, restore, opens, Answer, granted, advanced, truth, number, wrote, said}
-use Rattle.calls_step.specs.Hand.{Hand}
+use Rattle.calls_step.specs.Input.{Input}
 use Rattle.numbers.specs.Decimal as decimals
 use Rattle.store.specs.Line as lines
 use Rattle.calls_step.specs.Step as steps
@@ -32,7 +32,7 @@ use Rattle.ledger.specs.Ledger.{nothing}
 use Rattle.calls_step.specs.Replay.{replay, answers, left, ledgerAnswers, AllTyped}
 use Rattle.calls_step.specs.Two.{AlikeAll}
 use Rattle.calls_step.proofs.Bytes.{bytes-tested}
-use Rattle.calls_step.proofs.Again.{handed-again}
+use Rattle.calls_step.proofs.Again.{continued-again}
 use Rattle.calls_step.proofs.Replay.{replay-legal, replay-answers, stores-paired}
 use Rattle.calls_step.proofs.Two.{two-runs}
 use Rattle.calls_step.proofs.Answers.{N, veiledBy, runOf, four, entries, six, line, rowBytes, fresh, lent, pairs2}
@@ -82,7 +82,7 @@ differ = (refl, refl)
 abbrev eight : (d : ℕ) → List Call
 eight d = restore (stored d) entries ∷ opens 1 ∷ six
 
-abbrev before : Hand
+abbrev before : Input
 before = fresh pairs2 320
 
 -- the line is `S,1,4,1,4,0,1,1`
@@ -112,7 +112,7 @@ abbrev turns : (d : ℕ) → List Turn
 turns d = replay N (eight d) before
 
 both-legal : Legal N before (turns 0) × Legal N before (turns 100)
-both-legal = (replay-legal N (eight 0) (typed 0 (bytes .0)) before before (handed-again before), replay-legal N (eight 100) (typed 100 (bytes .1)) before before (handed-again before))
+both-legal = (replay-legal N (eight 0) (typed 0 (bytes .0)) before before (continued-again before), replay-legal N (eight 100) (typed 100 (bytes .1)) before before (continued-again before))
 
 as-ledger : (answers N (eight 0) before ≡ ledgerAnswers N (eight 0) (lent 4 320) nothing) × (answers N (eight 100) before ≡ ledgerAnswers N (eight 100) (lent 4 320) nothing)
 as-ledger = (replay-answers N refl (eight 0) before refl (typed 0 (bytes .0)), replay-answers N refl (eight 100) before refl (typed 100 (bytes .1)))

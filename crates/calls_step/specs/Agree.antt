@@ -9,12 +9,12 @@ use Rattle.layout.specs.Layout.{group}
 use Rattle.rows.specs.Values as value
 use Rattle.rows.specs.Rows.{chain, skipped}
 use Rattle.put.specs.Put.{put}
-use Rattle.lists.specs.Places.{printPlaces}
+use Rattle.contact_lists.specs.Places.{printPlaces}
 use Rattle.numbers.specs.Lists.{«CHAIN_PLACE», «SKIPPED_PLACE», «RANGE_PLACE»}
 use Rattle.received.specs.Lent.{flat}
 use Rattle.contact.specs.Contact.{Lists, contactOf}
 use Rattle.calls_step.specs.declared.Mark.the-variants.{Fresh, Restored, Opened}
-use Rattle.calls_step.specs.Hand.{Hand, Left, leaves, lentOf}
+use Rattle.calls_step.specs.Input.{Input, Left, leaves, lentOf}
 use Rattle.ledger.specs.Ledger.{Ledger, nothing, restored, opened, Account, current, ledger}
 use Rattle.calls_step.specs.Legal.{Turn, made}
 
@@ -33,7 +33,7 @@ laidLists v freed l = record {
 }
 
 module _ (N : ℕ) where
-  abbrev pub standing : Ledger → (freed : ℕ) → (out : List ℕ) → Hand → Hand
+  abbrev pub standing : Ledger → (freed : ℕ) → (out : List ℕ) → Input → Input
   standing nothing freed out h = record { mark = Fresh; run = h .run; entries = h .entries; contact = h .contact; lists = h .lists; out = out }
   standing (restored run es) freed out h = record { mark = Restored; run = run; entries = es; contact = h .contact; lists = h .lists; out = out }
   standing (opened run es o) freed out h = record {
@@ -46,14 +46,14 @@ module _ (N : ℕ) where
   }
 
   -- what is written stands at the front of the output; what stands behind it stays
-  abbrev pub shown : Account → Hand → Left
+  abbrev pub shown : Account → Input → Left
   shown a h = leaves (a .answer) (standing (a .state) (a .freed) (a .output ++ drop (length (a .output)) (h .out)) h)
 
   -- what the ledger says of a turn: it is fed the call and the lent lengths
   abbrev pub booked : Turn → Ledger → Account
-  booked t l = ledger N (t .call) (lentOf (t .hand)) l
+  booked t l = ledger N (t .call) (lentOf (t .input)) l
 
   -- a list of calls agrees with the ledger, call by call: the answer, and all that stands afterwards
   abbrev pub AgreesAll : Ledger → List Turn → Type 0
   AgreesAll l [] = Unit {0}
-  AgreesAll l (t ∷ ts) = let a = booked t l in (made N t ≡ shown a (t .hand)) × AgreesAll (a .state) ts
+  AgreesAll l (t ∷ ts) = let a = booked t l in (made N t ≡ shown a (t .input)) × AgreesAll (a .state) ts

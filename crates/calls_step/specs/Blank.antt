@@ -5,7 +5,7 @@ use mathlib.Core.List.{List, [], _∷_}
 use mathlib.Core.Path.{_≡_}
 use Rattle.store.specs.Veiled.{blanked, Apart}
 use Rattle.ledger.specs.Call.{Call, restore, opens, cover, contains, covers, take, statement, write}
-use Rattle.calls_step.specs.Hand.{Hand, lentOf}
+use Rattle.calls_step.specs.Input.{Input, lentOf}
 use Rattle.calls_step.specs.Legal.{Turn, made, Legal}
 
 -- the call, on the store with 0 for each byte that some row veils
@@ -37,9 +37,9 @@ module _ (N : ℕ) where
   SameAnswers [] (u ∷ us) = ⊥
   SameAnswers (t ∷ ts) [] = ⊥
   SameAnswers (t ∷ ts) (u ∷ us) =
-      (u .call ≡ blankCall (t .call)) × (lentOf (t .hand) ≡ lentOf (u .hand)) × (made N t .answer ≡ made N u .answer) × SameAnswers ts us
+      (u .call ≡ blankCall (t .call)) × (lentOf (t .input) ≡ lentOf (u .input)) × (made N t .answer ≡ made N u .answer) × SameAnswers ts us
 
-  pub record Blanks (g : Hand) (ts : List Turn) : Type 0 where
+  pub record Blanks (g : Input) (ts : List Turn) : Type 0 where
     pub turns : List Turn
     pub legal : Legal N g turns
     pub answers : SameAnswers ts turns

@@ -14,13 +14,13 @@ use Rattle.contact.specs.Contact.{Lists}
 use Rattle.calls_step.specs.declared.Mark.{Mark}
 use Rattle.calls_step.specs.declared.Mark.the-variants.{Fresh, Restored, Opened}
 use Rattle.ledger.specs.Call.{Call, restore, opens, cover, contains, covers, take, statement, write, isGranted}
-use Rattle.calls_step.specs.Hand.{Hand, Left}
+use Rattle.calls_step.specs.Input.{Input, Left}
 use Rattle.calls_step.specs.Step.{step}
 
 -- a call, with what it is handed
 pub record Turn : Type 0 where
   pub call : Call
-  pub hand : Hand
+  pub input : Input
 
 -- of each turn of a list
 abbrev pub Each : (Turn → Type 0) → List Turn → Type 0
@@ -32,7 +32,7 @@ abbrev pub SameItems : (w n : ℕ) → (left lent : List ℕ) → Type 0
 SameItems w n left lent = list.take (w * min n (length lent / w)) lent ≡ list.take (w * min n (length lent / w)) left
 
 -- g is what was left, h what is handed in
-pub record SameStore (g h : Hand) : Type 0 where
+pub record SameStore (g h : Input) : Type 0 where
   pub run : h .run ≡ g .run
   pub entries : h .entries ≡ g .entries
 
@@ -44,29 +44,29 @@ pub record SameLists (c : Contact) (left lent : Lists) : Type 0 where
   pub expired : SameItems «RANGE_PLACE» (c .expired) (left .expired) (lent .expired)
 
 -- while no store is restored, any store may be handed in; while no contact is open, any fields and lists
-abbrev pub StoreAgain : Mark → (g h : Hand) → Type 0
+abbrev pub StoreAgain : Mark → (g h : Input) → Type 0
 StoreAgain Fresh g h = Unit {0}
 StoreAgain Restored g h = SameStore g h
 StoreAgain (Opened k) g h = SameStore g h
 
-abbrev pub FieldsAgain : Mark → (g h : Hand) → Type 0
+abbrev pub FieldsAgain : Mark → (g h : Input) → Type 0
 FieldsAgain Fresh g h = Unit {0}
 FieldsAgain Restored g h = Unit {0}
 FieldsAgain (Opened k) g h = (h .contact ≡ g .contact) × SameLists (g .contact) (g .lists) (h .lists)
 
-pub record Handed (g h : Hand) : Type 0 where
+pub record Continues (g h : Input) : Type 0 where
   pub mark : h .mark ≡ g .mark
   pub store : StoreAgain (g .mark) g h
   pub fields : FieldsAgain (g .mark) g h
 
 -- what was left last, once a call has left this: by a granted call what it leaves, by a refused one what was left before
-abbrev pub lastLeft : Hand → Left → Hand
+abbrev pub lastLeft : Input → Left → Input
 lastLeft g l = cond (isGranted (l .answer)) (l .after) g
 
 module _ (N : ℕ) where
   -- what a turn leaves: the call made of what it is handed
   abbrev pub made : Turn → Left
-  made t = step N (t .call) (t .hand)
+  made t = step N (t .call) (t .input)
 
   -- what the arguments' types say: a run is of bytes, a message number at most N
   abbrev pub Typed : Call → Type 0
@@ -80,6 +80,6 @@ module _ (N : ℕ) where
   Typed write = Unit {0}
 
   -- lent lengths, outputs, and what stands behind the items vary freely from call to call
-  abbrev pub Legal : Hand → List Turn → Type 0
+  abbrev pub Legal : Input → List Turn → Type 0
   Legal g [] = Unit {0}
-  Legal g (t ∷ ts) = Typed (t .call) × Handed g (t .hand) × Legal (lastLeft g (made t)) ts
+  Legal g (t ∷ ts) = Typed (t .call) × Continues g (t .input) × Legal (lastLeft g (made t)) ts

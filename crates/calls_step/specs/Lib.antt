@@ -1,11 +1,11 @@
-pub mod Hand
+pub mod Input
 pub mod Step
-pub mod Aside
+pub mod Omitted
 pub mod Legal
 pub mod Agree
 pub mod Stands
 pub mod Stuck
-pub mod Wish
+pub mod Request
 pub mod Two
 pub mod Replay
 pub mod Blank

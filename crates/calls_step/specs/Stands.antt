@@ -1,5 +1,5 @@
 -- Which memory stands for a state of the ledger, what is known of a state that calls come to, and what the last granted call has left of it. A call may be lent
--- other lengths than the one before it; what was left last is what it is handed as much of as it is lent (`Handed`).
+-- other lengths than the one before it; what was left last is what it is handed as much of as it is lent (`Continues`).
 -- Assumes nothing.
 use Prim.Native.Nat.{ℕ, _*_, _≤_}
 use mathlib.Core.List.{List}
@@ -10,7 +10,7 @@ use Rattle.layout.specs.Layout.{print, group}
 use Rattle.layout.specs.RowLaws.{Bytes, Valid}
 use Rattle.rows.specs.Values.{Contact}
 use Rattle.rows.specs.Rows.{contact, chain, skipped}
-use Rattle.lists.specs.Places.{printPlaces}
+use Rattle.contact_lists.specs.Places.{printPlaces}
 use Rattle.numbers.specs.Lists.{«CHAIN_PLACE», «SKIPPED_PLACE», «RANGE_PLACE»}
 use Rattle.received.specs.Lent.{flat}
 use Rattle.numbers.specs.Sets.{Records}
@@ -20,7 +20,7 @@ use Rattle.store.specs.declared.Asked.the-variants.{Going}
 use Rattle.store.specs.Kinds.{CONTACT}
 use Rattle.store.specs.Store.{storeOf, openedIn, asked, before}
 use Rattle.calls_step.specs.declared.Mark.the-variants.{Fresh, Restored, Opened}
-use Rattle.calls_step.specs.Hand.{Hand}
+use Rattle.calls_step.specs.Input.{Input}
 use Rattle.ledger.specs.Ledger.{Open, Ledger, nothing, restored, opened, covered, current}
 use Rattle.calls_step.specs.Agree.{standing}
 
@@ -43,11 +43,11 @@ pub record SoundStore (run : List ℕ) (es : List Entry) : Type 0 where
   pub going : asked (storeOf run es) ≡ Going
 
 -- ---- what the last granted call left: the store, and a contact's fields and items
-pub record LeftStore (r : List ℕ) (es : List Entry) (g : Hand) : Type 0 where
+pub record LeftStore (r : List ℕ) (es : List Entry) (g : Input) : Type 0 where
   pub run : g .run ≡ r
   pub entries : g .entries ≡ es
 
-pub record LeftFields (v : Contact) (g : Hand) : Type 0 where
+pub record LeftFields (v : Contact) (g : Input) : Type 0 where
   pub contact : g .contact ≡ contactOf v
   pub lists : HoldsAll v (g .lists)
 
@@ -69,11 +69,11 @@ module _ (N : ℕ) where
   SoundLedger (opened run es o) = Sound run es o
 
   -- ---- a hand-in stands for the ledger's state: it is what would stand there by it
-  pub record StandsFor (l : Ledger) (h : Hand) : Type 0 where
+  pub record StandsFor (l : Ledger) (h : Input) : Type 0 where
     pub stands : standing N l 0 (h .out) h ≡ h
 
   -- ---- this is what was left last in the state
-  abbrev pub LastLeft : Ledger → Hand → Type 0
+  abbrev pub LastLeft : Ledger → Input → Type 0
   LastLeft nothing g = g .mark ≡ Fresh
   LastLeft (restored run es) g = (g .mark ≡ Restored) × LeftStore run es g
   LastLeft (opened run es o) g = (g .mark ≡ Opened (record { 0 = o .id })) × LeftStore run es g × LeftFields (current N o) g

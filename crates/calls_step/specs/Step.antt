@@ -20,41 +20,41 @@ use Rattle.received.specs.declared.Planned.{Planned}
 use Rattle.received.specs.declared.Planned.the-variants as planned
 use Rattle.contact.specs.Contact.{Lists, contactOf, longEnough, filled}
 use Rattle.contact.specs.declared.Contact.{Contact}
-use Rattle.contact_put.specs.Row.{counted, image}
+use Rattle.contact_image.specs.Row.{counted, image}
 use Rattle.store.specs.declared.Entry.{Entry}
 use Rattle.store.specs.Store as store
 use Rattle.store.specs.Store.{storeOf, contactIn, partOf, storePasses, replacedPasses}
 use Rattle.calls_step.specs.declared.Mark.{Mark}
 use Rattle.calls_step.specs.declared.Mark.the-variants.{Fresh, Restored, Opened}
 use Rattle.ledger.specs.Call.{Call, restore, opens, cover, contains, covers, take, statement, write, Answer, granted, advanced, truth, number, wrote, said, refused, refusedAt}
-use Rattle.calls_step.specs.Hand.{Hand, Left, leaves, no}
+use Rattle.calls_step.specs.Input.{Input, Left, leaves, no}
 use Rattle.store.specs.Line.{lineOf, queuedOf}
 
 -- ---- restore writes to nothing lent: it leaves another store, and no contact open
-abbrev pub restoring : (run : List ℕ) → List Entry → Hand → store.Outcome → Left
+abbrev pub restoring : (run : List ℕ) → List Entry → Input → store.Outcome → Left
 restoring run es h (store.granted f) = leaves granted (record { mark = Restored; run = run; entries = es; contact = h .contact; lists = h .lists; out = h .out })
 restoring run es h (store.refused q i) = leaves (refusedAt q i) h
 
 -- ---- 34
 -- for open: store restored, and would it pass 1 to 33?
-abbrev pub onStore : Mark → Hand → Left → Left
+abbrev pub onStore : Mark → Input → Left → Left
 onStore Fresh h then = no STORE h
 onStore Restored h then = cond (storePasses (h .run) (h .entries)) then (no STORE h)
 onStore (Opened id) h then = cond (storePasses (h .run) (h .entries)) then (no STORE h)
 
 -- for the others: would it pass with the opened fields in place of that contact's row, and no count above its list's length?
-abbrev pub passes : (contact : ℕ) → Hand → Bool
+abbrev pub passes : (contact : ℕ) → Input → Bool
 passes k h = counted (h .contact) (h .lists) && replacedPasses (h .run) (h .entries) k (image (h .contact) (h .lists))
 
 -- ... and a contact open
-abbrev pub onOpened : Mark → Hand → (ℕ → Left) → Left
+abbrev pub onOpened : Mark → Input → (ℕ → Left) → Left
 onOpened Fresh h then = no STORE h
 onOpened Restored h then = no STORE h
 onOpened (Opened id) h then = cond (passes (id .0) h) (then (id .0)) (no STORE h)
 
 -- ---- open
 -- 36, and what reading the row leaves
-abbrev pub filling : (contact : ℕ) → Hand → layout.Answer value.Contact → Left
+abbrev pub filling : (contact : ℕ) → Input → layout.Answer value.Contact → Left
 filling k h (layout.accepted v) =
     cond (longEnough v (h .lists))
     (leaves granted (record { mark = Opened (record { 0 = k }); run = h .run; entries = h .entries; contact = contactOf v; lists = filled v (h .lists); out = h .out }))
@@ -62,7 +62,7 @@ filling k h (layout.accepted v) =
 filling k h (layout.refusedBy q) = no q h
 
 -- 35
-abbrev pub opening : (contact : ℕ) → Hand → Option Entry → Left
+abbrev pub opening : (contact : ℕ) → Input → Option Entry → Left
 opening k h none = no «CONTACT_STORED» h
 opening k h (some e) = filling k h (readRow (rows.contact (e .version)) (partOf (h .run) e))
 
@@ -100,25 +100,25 @@ renumbered sent contiguous above c = record {
 abbrev pub aboveAs : List ℕ → Lists → Lists
 aboveAs above l = record { chains = l .chains; skipped = l .skipped; above = above; unacked = l .unacked; expired = l .expired }
 
-abbrev pub relisted : Contact → Lists → Hand → Hand
+abbrev pub relisted : Contact → Lists → Input → Input
 relisted c l h = record { mark = h .mark; run = h .run; entries = h .entries; contact = c; lists = l; out = h .out }
 
-abbrev pub output : List ℕ → Hand → Hand
+abbrev pub output : List ℕ → Input → Input
 output out h = record { mark = h .mark; run = h .run; entries = h .entries; contact = h .contact; lists = h .lists; out = out }
 
 -- ---- cover, contains, covers
-abbrev pub coveredIn : Hand → Received
+abbrev pub coveredIn : Input → Received
 coveredIn h = receivedIn (h .contact .contiguous) (h .contact .above) (h .lists .above)
 
 -- 38. The answer is whether contiguous moved; list places that cover frees become 0
-abbrev pub covering : (from to : ℕ) → Hand → Planned → Left
+abbrev pub covering : (from to : ℕ) → Input → Planned → Left
 covering f t h (planned.Change c) =
     leaves (advanced (c .moved))
     (relisted (renumbered (h .contact .«sent_msgno») (c .contiguous) (c .count) (h .contact)) (aboveAs (listAfter (coveredIn h) (h .lists .above) f t) (h .lists)) h)
 covering f t h (planned.Refused q) = no q h
 
 -- ---- statement, write: 40
-abbrev pub writing : (writer.Written → Answer) → Hand → writer.Left → Left
+abbrev pub writing : (writer.Written → Answer) → Input → writer.Left → Left
 writing answer h w = leaves (answer (w .answer)) (output (w .out) h)
 
 abbrev pub wroteRow : writer.Written → Answer
@@ -129,21 +129,21 @@ abbrev pub saidLine : List ℕ → writer.Written → Answer
 saidLine line (writer.wrote n) = said n line
 saidLine line (writer.refuses q) = refused q
 
-abbrev pub lineIn : (contact : ℕ) → Hand → List ℕ
+abbrev pub lineIn : (contact : ℕ) → Input → List ℕ
 lineIn k h =
     lineOf k (h .contact .«sent_msgno») (h .contact .«peer_acked») (h .contact .contiguous) (size (pairs (h .contact .above) (h .lists .above)))
     (queuedOf k (h .entries)) (size (pairs (h .contact .expired) (h .lists .expired)))
 
 module _ (N : ℕ) where
   -- ---- take: 39
-  abbrev pub taking : Hand → Left
+  abbrev pub taking : Input → Left
   taking h =
       let c = h .contact in
       cond (ltb (c .«sent_msgno») N)
       (leaves (number (c .«sent_msgno» + 1)) (relisted (renumbered (c .«sent_msgno» + 1) (c .contiguous) (c .above) c) (h .lists) h))
       (no «MSGNO_LEFT» h)
 
-  unfoldable pub step : Call → Hand → Left
+  unfoldable pub step : Call → Input → Left
   step (restore run es) h = restoring run es h (store.restore (storeOf run es))
   step (opens k) h = onStore (h .mark) h (opening k h (contactIn (h .entries) k))
   step (cover f t) h = onOpened (h .mark) h (λ k. cond (isRange f t) (covering f t h (planOf (coveredIn h) (length (h .lists .above)) f t)) (no RANGE h))

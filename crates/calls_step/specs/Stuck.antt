@@ -10,7 +10,7 @@ use Rattle.contact.specs.Contact.{Lists, lengthsOf, countsOf}
 use Rattle.calls_step.specs.declared.Mark.{Mark}
 use Rattle.calls_step.specs.declared.Mark.the-variants.{Fresh, Restored, Opened}
 use Rattle.ledger.specs.Call.{Call, restore, opens, cover, contains, covers, take, statement, write, refused}
-use Rattle.calls_step.specs.Hand.{Hand}
+use Rattle.calls_step.specs.Input.{Input}
 use Rattle.calls_step.specs.Legal.{Turn, made}
 
 -- each list has places for as many items as are counted
@@ -18,7 +18,7 @@ abbrev pub placesFor : Contact → Lists → Bool
 placesFor c l = roomFor (countsOf c) (lengthsOf l)
 
 -- of a call on an open contact
-abbrev pub Wanting : Mark → Hand → Type 0
+abbrev pub Wanting : Mark → Input → Type 0
 Wanting Fresh h = Unit {0}
 Wanting Restored h = Unit {0}
 Wanting (Opened k) h = placesFor (h .contact) (h .lists) ≡ false
@@ -29,7 +29,7 @@ WantingStore Restored = ⊥
 WantingStore (Opened k) = ⊥
 
 -- restore is not asked 34
-abbrev pub Excuse : Call → Hand → Type 0
+abbrev pub Excuse : Call → Input → Type 0
 Excuse (restore run es) h = ⊥
 Excuse (opens k) h = WantingStore (h .mark)
 Excuse (cover f t) h = Wanting (h .mark) h
@@ -40,4 +40,4 @@ Excuse statement h = Wanting (h .mark) h
 Excuse write h = Wanting (h .mark) h
 
 abbrev pub Unstuck : (N : ℕ) → Turn → Type 0
-Unstuck N t = made N t .answer ≡ refused STORE → Excuse (t .call) (t .hand)
+Unstuck N t = made N t .answer ≡ refused STORE → Excuse (t .call) (t .input)

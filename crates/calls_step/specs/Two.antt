@@ -14,7 +14,7 @@ use Rattle.store.specs.Veiled.{VeilEqual, ContactAlike}
 use Rattle.calls_step.specs.declared.Mark.{Mark}
 use Rattle.calls_step.specs.declared.Mark.the-variants.{Fresh, Restored, Opened}
 use Rattle.ledger.specs.Call.{Call, restore, Answer, granted, advanced, truth, number, wrote, said, refused, refusedAt}
-use Rattle.calls_step.specs.Hand.{Hand, Left, lentOf}
+use Rattle.calls_step.specs.Input.{Input, Left, lentOf}
 use Rattle.ledger.specs.Ledger.{Open, Ledger, nothing, restored, opened, current}
 use Rattle.calls_step.specs.Legal.{Turn, made}
 use Rattle.calls_step.specs.Agree.{laidLists}
@@ -29,7 +29,7 @@ abbrev pub Paired : List Turn → List Turn → Type 0
 Paired [] [] = Unit {0}
 Paired [] (u ∷ us) = ⊥
 Paired (t ∷ ts) [] = ⊥
-Paired (t ∷ ts) (u ∷ us) = CallsAlike (t .call) (u .call) × (lentOf (t .hand) ≡ lentOf (u .hand)) × Paired ts us
+Paired (t ∷ ts) (u ∷ us) = CallsAlike (t .call) (u .call) × (lentOf (t .input) ≡ lentOf (u .input)) × Paired ts us
 
 -- ---- rows of one length, the same outside the veiled bytes
 pub record RowsAlike (row row′ : List ℕ) : Type 0 where
@@ -48,19 +48,19 @@ WrittenAlike (refused q) out out′ = Unit {0}
 WrittenAlike (refusedAt q i) out out′ = Unit {0}
 
 -- ---- opened fields and lists are those of a contact v: its items stand in the lists, as far as these go
-pub record FieldsOf (v : Contact) (h : Hand) : Type 0 where
+pub record FieldsOf (v : Contact) (h : Input) : Type 0 where
   pub contact : h .contact ≡ contactOf v
   pub lists : laidLists v 0 (h .lists) ≡ h .lists
 
 -- ... of two that are alike outside veiled fields
-pub record FieldsAlike (h h′ : Hand) : Type 0 where
+pub record FieldsAlike (h h′ : Input) : Type 0 where
   pub its : Contact
   pub others : Contact
   pub alike : ContactAlike its others
   pub first : FieldsOf its h
   pub second : FieldsOf others h′
 
-abbrev pub OpenedAlike : Mark → (h h′ : Hand) → Type 0
+abbrev pub OpenedAlike : Mark → (h h′ : Input) → Type 0
 OpenedAlike Fresh h h′ = Unit {0}
 OpenedAlike Restored h h′ = Unit {0}
 OpenedAlike (Opened id) h h′ = FieldsAlike h h′

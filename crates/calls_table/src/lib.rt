@@ -1,33 +1,33 @@
-// The calls of document 01 for a program, which has its entries as places: each fills a table, lends its first entries and makes the call.
+// The calls of document 01 for a program, which has its entries as records: each fills a table, lends its first entries and makes the call.
 // A count above the table's length counts as that length.
 use calls::RestoreLeft;
+use calls_dispatch::Call;
+use calls_open::Left;
 use calls_step::Mark;
 use contact::Contact;
-use dispatch::Call;
-use opened::Left;
-use table::ENTRIES;
+use sheet_entries::ENTRIES;
 ghost use mathlib.Core.Path.{_≡_};
 ghost use Prim.Native.Nat.{min};
 ghost use Rattle.contact.specs.Contact.{listsBefore, listsAfter};
 ghost use Rattle.calls_step.specs.Step.{step};
 ghost use Rattle.calls_step.specs.Proved.{HIGHEST};
-ghost use Rattle.dispatch.specs.Dispatch.{callOf, handOf, leftOf};
+ghost use Rattle.calls_dispatch.specs.Dispatch.{callOf, inputOf, leftOf};
 ghost use Rattle.calls.specs.Calls.{RestoreSteps};
-ghost use Rattle.table.specs.Table.{ENTRIES, entriesFrom};
+ghost use Rattle.sheet_entries.specs.Table.{ENTRIES, entriesFrom};
 
-pub fn restore(run: &[u8], places: &[u64], n: usize, mark: Mark) -> RestoreLeft
-    ensures { λ r. ⌜ RestoreSteps mark (now (run .entry)) (entriesFrom (min n ENTRIES) (now (places .entry))) r ⌝ }
+pub fn restore(run: &[u8], records: &[u64], n: usize, mark: Mark) -> RestoreLeft
+    ensures { λ r. ⌜ RestoreSteps mark (now (run .entry)) (entriesFrom (min n ENTRIES) (now (records .entry))) r ⌝ }
 {
-    let blank = table::no_entry();
+    let blank = sheet_entries::no_entry();
     let mut table = [blank; ENTRIES];
-    let count = table::fill(places, n, &mut table[..]);
+    let count = sheet_entries::fill(records, n, &mut table[..]);
     calls::restore(run, &table[..count], mark)
 }
 
 // Any call but restore.
 pub fn step(
     run: &[u8],
-    places: &[u64],
+    records: &[u64],
     n: usize,
     call: Call,
     mark: Mark,
@@ -39,12 +39,12 @@ pub fn step(
     expired: &mut [u32],
     out: &mut [u8],
 ) -> Left
-    ensures { λ r. ⌜ (let h = handOf mark (now (run .entry)) (entriesFrom (min n ENTRIES) (now (places .entry))) contact (listsBefore chains skipped above unacked expired) (now (out .entry)) in
+    ensures { λ r. ⌜ (let h = inputOf mark (now (run .entry)) (entriesFrom (min n ENTRIES) (now (records .entry))) contact (listsBefore chains skipped above unacked expired) (now (out .entry)) in
         leftOf r h (listsAfter chains skipped above unacked expired) (now (out .exit)) ≡ step HIGHEST (callOf call) h) ⌝ }
 {
-    let blank = table::no_entry();
+    let blank = sheet_entries::no_entry();
     let mut table = [blank; ENTRIES];
-    let count = table::fill(places, n, &mut table[..]);
+    let count = sheet_entries::fill(records, n, &mut table[..]);
     calls::step(
         run,
         &table[..count],

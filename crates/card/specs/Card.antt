@@ -50,7 +50,7 @@ cardFrom input n = record {
 }
 
 -- the runs lie in the input
-pub record Places (input : List ℕ) (n : CardAt) : Type 0 where
+pub record Offsets (input : List ℕ) (n : CardAt) : Type 0 where
   pub «name_len» : n .«name_len» ≤ 48
   pub name : 38 + n .«name_len» ≤ length input
   pub «static_ek» : kci (n .caps) ≡ true → 38 + n .«name_len» + 1184 ≤ length input
@@ -63,9 +63,9 @@ abbrev pub fieldRefusal : CardField → ℕ
 fieldRefusal (cardField.Value n next) = 0
 fieldRefusal (cardField.Refused q) = q
 
-abbrev pub FieldPlaced : List ℕ → CardField → Type 0
-FieldPlaced input (cardField.Value n next) = Places input n
-FieldPlaced input (cardField.Refused q) = Unit {0}
+abbrev pub FieldOffsets : List ℕ → CardField → Type 0
+FieldOffsets input (cardField.Value n next) = Offsets input n
+FieldOffsets input (cardField.Refused q) = Unit {0}
 
 abbrev pub checkSays : List ℕ → CardCheck → Answer value.Card
 checkSays input (check.Fields n) = accepted (cardFrom input n)
@@ -76,7 +76,7 @@ checkRefusal (check.Fields n) = 0
 checkRefusal (check.Refused q) = q
 
 abbrev pub Placed : List ℕ → CardCheck → Type 0
-Placed input (check.Fields n) = Places input n
+Placed input (check.Fields n) = Offsets input n
 Placed input (check.Refused q) = Unit {0}
 
 -- ---- decoding: 0 stands where the name length or KCI leaves something out, and everywhere after a refusal

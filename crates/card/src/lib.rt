@@ -18,7 +18,7 @@ ghost use Rattle.put.specs.Put.{Wrote};
 ghost use Rattle.rows.specs.Checks.{kci};
 ghost use Rattle.rows.specs.Rows.{card, cardRow};
 ghost use Rattle.rows.specs.Answers.{writtenSays, leaves};
-ghost use Rattle.card.specs.Card.{keySays, KeyEnds, fieldSays, FieldPlaced, fieldRefusal, checkSays, Placed, checkRefusal};
+ghost use Rattle.card.specs.Card.{keySays, KeyEnds, fieldSays, FieldOffsets, fieldRefusal, checkSays, Placed, checkRefusal};
 ghost use Rattle.card.specs.Card.{lengthOf, cardFits, cardAt, zeroCard, decoded, CardTyped, image, storable, namePart};
 
 // A card. name_len says how much of name is a value, and bit 1 of caps (KCI) whether static_ek is one: what is left out is 0.
@@ -95,7 +95,7 @@ fn static_ek_at(input: &[u8], at: usize, caps: u8) -> RunField
 
 // The card's fields, and the position after them.
 fn card_at(input: &[u8]) -> CardField
-    ensures { λ r. ⌜ (fieldSays (now (input .entry)) r ≡ readAt (group card) (now (input .entry)) 0) × FieldPlaced (now (input .entry)) r ⌝ }
+    ensures { λ r. ⌜ (fieldSays (now (input .entry)) r ≡ readAt (group card) (now (input .entry)) 0) × FieldOffsets (now (input .entry)) r ⌝ }
 {
     let U8Field::Value(caps, at1) = fields::byte_at(input, 0) else {
         return CardField::Refused(question::FIELD);
@@ -118,7 +118,7 @@ fn card_at(input: &[u8]) -> CardField
     let RunField::Value(name, at5) = fields::run_at(input, at4, name_len as usize) else {
         return CardField::Refused(question::FIELD);
     };
-    if !names::is_utf8(&input[name..at5]) {
+    if !utf8::is_utf8(&input[name..at5]) {
         return CardField::Refused(question::NAME_UTF8);
     }
     let RunField::Value(_static_ek, at6) = static_ek_at(input, at5, caps) else {
@@ -285,7 +285,7 @@ pub fn card_size(card: Card) -> Written
         return Written::Refused(question::NAME_LENGTH);
     }
     let name = card.name;
-    if !names::is_utf8(&name[..n]) {
+    if !utf8::is_utf8(&name[..n]) {
         return Written::Refused(question::NAME_UTF8);
     }
     Written::Length(card_len(card))

@@ -12,8 +12,8 @@ use Rattle.layout.specs.Layout.{Layout, done, ask, parse}
 use Rattle.layout.specs.Layout as layout
 use Rattle.layout.proofs.Steps.{Came, end-yes}
 use Rattle.rows.specs.Values.{Contact}
-use Rattle.parts.specs.Parts.{Paired, Keys, Chained, Numbers, joined}
-use Rattle.parts.proofs.Parts.{consistent}
+use Rattle.contact_parts.specs.Parts.{Paired, Keys, Chained, Numbers, joined}
+use Rattle.contact_parts.proofs.Parts.{consistent}
 use Rattle.contact.specs.Consistent.{asks, inconsistency}
 
 -- eight questions, one after the other

@@ -9,12 +9,12 @@ use Rattle.layout.specs.Layout.{accepted, group, optional, readRow}
 use Rattle.layout.specs.RowLaws.{Bytes}
 use Rattle.rows.specs.Rows.{pending, send, contact}
 use Rattle.rows.proofs.Proved.{proved}
-use Rattle.parts.specs.Places.{run, pendingFrom, sendFrom}
-use Rattle.parts.specs.declared.PendingAt.{PendingAt}
-use Rattle.parts.specs.declared.PendingAt.the-variants as pendingAt
-use Rattle.parts.specs.declared.SendAt.{SendAt}
-use Rattle.parts.specs.declared.SendAt.the-variants as sendAt
-use Rattle.contact.specs.Check.{contactFrom, Places, PendingRuns, SendRuns, Filling}
+use Rattle.contact_parts.specs.Offsets.{run, pendingFrom, sendFrom}
+use Rattle.contact_parts.specs.declared.PendingAt.{PendingAt}
+use Rattle.contact_parts.specs.declared.PendingAt.the-variants as pendingAt
+use Rattle.contact_parts.specs.declared.SendAt.{SendAt}
+use Rattle.contact_parts.specs.declared.SendAt.the-variants as sendAt
+use Rattle.contact.specs.Check.{contactFrom, Offsets, PendingRuns, SendRuns, Filling}
 use Rattle.contact.specs.declared.ContactAt.{ContactAt}
 
 module _ (row : List ℕ) where
@@ -30,7 +30,7 @@ module _ (row : List ℕ) where
   send-inside sendAt.Absent post h = tt
   send-inside (sendAt.Present s) post h = inside 32 (s .key) (omega arith) (h .1 .0 .1 .1 .1 .0)
 
-pub filling : (version : ℕ) (row : List ℕ) (at : ContactAt) → Bytes row → Places row at → readRow (contact version) row ≡ accepted (contactFrom row at) → Filling row at
+pub filling : (version : ℕ) (row : List ℕ) (at : ContactAt) → Bytes row → Offsets row at → readRow (contact version) row ≡ accepted (contactFrom row at) → Filling row at
 filling version row at by places e =
     let ids = proved .contact version .laws .read-valid row by (contactFrom row at) e .fits .1 .1 .1 in
     let keys = ids .1 .1 .1 .1 in

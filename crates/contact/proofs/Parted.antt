@@ -21,26 +21,26 @@ use Rattle.rows.specs.Rows.{contact}
 use Rattle.rows.proofs.Tests.{if-lt}
 use Rattle.offsets.specs.Offset.{offset}
 use Rattle.offsets.proofs.Offset.{Part}
-use Rattle.parts.specs.Parts.{paired, keys, chained, numbers, pairedOf, keysOf, chainedOf, numbersOf}
-use Rattle.parts.specs.Places.{pairedAt, pairedFrom, pairedFound, keysAt, keysFrom, keysFound, chainedAt, chainedFrom, chainedFound, numbersAt, numbersFrom, numbersFound, CardPlaces, ChainedLists, NumbersLists}
-use Rattle.parts.specs.declared.PairedAt.{PairedAt}
-use Rattle.parts.specs.declared.PairedField.{PairedField}
-use Rattle.parts.specs.declared.PairedField.the-variants as pairedField
-use Rattle.parts.specs.declared.KeysAt.{KeysAt}
-use Rattle.parts.specs.declared.KeysField.{KeysField}
-use Rattle.parts.specs.declared.KeysField.the-variants as keysField
-use Rattle.parts.specs.declared.ChainedAt.{ChainedAt}
-use Rattle.parts.specs.declared.ChainedField.{ChainedField}
-use Rattle.parts.specs.declared.ChainedField.the-variants as chainedField
-use Rattle.parts.specs.declared.NumbersAt.{NumbersAt}
-use Rattle.parts.specs.declared.NumbersField.{NumbersField}
-use Rattle.parts.specs.declared.NumbersField.the-variants as numbersField
-use Rattle.parts.proofs.Parts.{embed, afterPaired, afterKeys, afterChained, consistent, begun, part-yes, part-no}
-use Rattle.parts.proofs.Placed.{paired-part, paired-refused, keys-part, keys-refused, chained-part, chained-refused, numbers-part, numbers-refused}
-use Rattle.parts.proofs.Lawful.{paired-lawful, keys-lawful, chained-lawful, numbers-lawful}
+use Rattle.contact_parts.specs.Parts.{paired, keys, chained, numbers, pairedOf, keysOf, chainedOf, numbersOf}
+use Rattle.contact_parts.specs.Offsets.{pairedAt, pairedFrom, pairedFound, keysAt, keysFrom, keysFound, chainedAt, chainedFrom, chainedFound, numbersAt, numbersFrom, numbersFound, CardOffsets, ChainedLists, NumbersLists}
+use Rattle.contact_parts.specs.declared.PairedAt.{PairedAt}
+use Rattle.contact_parts.specs.declared.PairedField.{PairedField}
+use Rattle.contact_parts.specs.declared.PairedField.the-variants as pairedField
+use Rattle.contact_parts.specs.declared.KeysAt.{KeysAt}
+use Rattle.contact_parts.specs.declared.KeysField.{KeysField}
+use Rattle.contact_parts.specs.declared.KeysField.the-variants as keysField
+use Rattle.contact_parts.specs.declared.ChainedAt.{ChainedAt}
+use Rattle.contact_parts.specs.declared.ChainedField.{ChainedField}
+use Rattle.contact_parts.specs.declared.ChainedField.the-variants as chainedField
+use Rattle.contact_parts.specs.declared.NumbersAt.{NumbersAt}
+use Rattle.contact_parts.specs.declared.NumbersField.{NumbersField}
+use Rattle.contact_parts.specs.declared.NumbersField.the-variants as numbersField
+use Rattle.contact_parts.proofs.Parts.{embed, afterPaired, afterKeys, afterChained, consistent, begun, part-yes, part-no}
+use Rattle.contact_parts.proofs.Placed.{paired-part, paired-refused, keys-part, keys-refused, chained-part, chained-refused, numbers-part, numbers-refused}
+use Rattle.contact_parts.proofs.Lawful.{paired-lawful, keys-lawful, chained-lawful, numbers-lawful}
 use Rattle.rows.specs.declared.Verdict.{Verdict}
 use Rattle.contact.specs.Consistent.{inconsistency, refusalIn}
-use Rattle.contact.specs.Check.{contactAt, contactFrom, Places}
+use Rattle.contact.specs.Check.{contactAt, contactFrom, Offsets}
 use Rattle.contact.specs.declared.ContactAt.{ContactAt}
 use Rattle.contact.specs.declared.ContactCheck.{ContactCheck}
 use Rattle.contact.specs.declared.ContactCheck.the-variants.{Fields, Refused}
@@ -71,7 +71,7 @@ module _ (row : List ℕ) where
 -- ---- what these say of the row
 module _ (version : ℕ) (row : List ℕ) where
   pub record Whole (at : ContactAt) : Type 0 where
-    pub places : Places row at
+    pub places : Offsets row at
     pub placed : at ≡ contactAt version (contactFrom row at)
     pub behind : List ℕ
     pub says : readRow (contact version) row ≡ answer (said (inconsistency (contactFrom row at)) (contactFrom row at) behind)
@@ -82,7 +82,7 @@ module _ (version : ℕ) (row : List ℕ) where
 
   module _ (by : Bytes row) where
     abbrev PairedPart : PairedAt → ℕ → Type 0
-    PairedPart = Part paired row 0 (pairedFrom row) (pairedAt 0) (λ p. CardPlaces row (p .card))
+    PairedPart = Part paired row 0 (pairedFrom row) (pairedAt 0) (λ p. CardOffsets row (p .card))
 
     abbrev KeysPart : ℕ → KeysAt → ℕ → Type 0
     KeysPart at1 = Part keys row at1 (keysFrom row) (keysAt at1) (λ k. Unit {0})

@@ -16,11 +16,11 @@ use Rattle.rows.specs.Checks.{versionKnown}
 use Rattle.rows.specs.Rows.{contact}
 use Rattle.offsets.specs.Offset.{offset}
 use Rattle.offsets.proofs.Offset.{Stands, behind, whole, offset-inside}
-use Rattle.parts.specs.Parts.{Paired, paired, Keys, keys, Chained, chained, Numbers, numbers, pairedOf, keysOf, chainedOf, numbersOf, joined}
-use Rattle.parts.proofs.Parts.{embed, embed-parse, in-parts, afterPaired, afterKeys, afterChained, consistent}
-use Rattle.parts.proofs.Lawful.{paired-lawful, keys-lawful, chained-lawful, numbers-lawful}
-use Rattle.parts.proofs.Placed.{paired-is, paired-inside, keys-is, chained-is, chained-inside, numbers-is, numbers-inside}
-use Rattle.contact.specs.Check.{contactAt, checked, contactFrom, Places}
+use Rattle.contact_parts.specs.Parts.{Paired, paired, Keys, keys, Chained, chained, Numbers, numbers, pairedOf, keysOf, chainedOf, numbersOf, joined}
+use Rattle.contact_parts.proofs.Parts.{embed, embed-parse, in-parts, afterPaired, afterKeys, afterChained, consistent}
+use Rattle.contact_parts.proofs.Lawful.{paired-lawful, keys-lawful, chained-lawful, numbers-lawful}
+use Rattle.contact_parts.proofs.Placed.{paired-is, paired-inside, keys-is, chained-is, chained-inside, numbers-is, numbers-inside}
+use Rattle.contact.specs.Check.{contactAt, checked, contactFrom, Offsets}
 use Rattle.contact.specs.declared.ContactCheck.{ContactCheck}
 use Rattle.contact.specs.declared.ContactCheck.the-variants as check
 
@@ -30,7 +30,7 @@ checkSays row (check.Fields at) = accepted (contactFrom row at)
 checkSays row (check.Refused q) = refusedBy q
 
 abbrev pub Placed : List ℕ → ContactCheck → Type 0
-Placed row (check.Fields at) = Places row at
+Placed row (check.Fields at) = Offsets row at
 Placed row (check.Refused q) = Unit {0}
 
 -- ---- where the parts begin
@@ -86,7 +86,7 @@ module _ (version : ℕ) (row : List ℕ) (p : Paired) (k : Keys) (c : Chained) 
     contact-is : contactFrom row (contactAt version v) ≡ v
     contact-is = λ i. joined (paired-is row 0 (omega arith) p sp i) (keys-is row _ k sk′ i) (chained-is row _ past-chained c sc′ i) (numbers-is row _ past-numbers n sn′ i)
 
-    contact-inside : Places row (contactAt version v)
+    contact-inside : Offsets row (contactAt version v)
     contact-inside = record { card = paired-inside row 0 (omega arith) p sp; chained = chained-inside row _ past-chained c sc′; numbers = numbers-inside row _ past-numbers n sn′ }
 
 -- ---- ... as they do where it is read
@@ -107,7 +107,7 @@ module _ {A : Type 0} (P : A → Type 0) where
 
 module _ (row : List ℕ) (by : Bytes row) (version : ℕ) where
   abbrev Found : value.Contact → Type 0
-  Found v = (contactFrom row (contactAt version v) ≡ v) × Places row (contactAt version v)
+  Found v = (contactFrom row (contactAt version v) ≡ v) × Offsets row (contactAt version v)
 
   known : {v : value.Contact} {rest : List ℕ} → parse (contact version) row ≡ value v rest → parse (embed paired pairedOf afterPaired) row ≡ value v rest
   unfolding layout.parse

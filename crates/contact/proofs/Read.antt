@@ -16,8 +16,8 @@ use Rattle.rows.specs.Values as value
 use Rattle.rows.specs.Rows.{contact}
 use Rattle.rows.specs.declared.Verdict.the-variants.{Accepted}
 use Rattle.rows.proofs.Lawful.{chain-lawful, skipped-lawful, range-lawful}
-use Rattle.lists.proofs.Ends.{listed-fits}
-use Rattle.contact.specs.Check.{contactFrom, Places}
+use Rattle.contact_lists.proofs.Ends.{listed-fits}
+use Rattle.contact.specs.Check.{contactFrom, Offsets}
 use Rattle.contact.specs.Contact as spec
 use Rattle.contact.specs.Contact.{Lists, contactOf, longEnough, filled, leaves, refusedBy, reads, Fillable}
 use Rattle.contact.specs.declared.ContactAt.{ContactAt}
@@ -38,7 +38,7 @@ module _ (version : ℕ) (row : List ℕ) (l : Lists) where
   is-read e h = rw (e, h)
 
 -- ---- 36, asked of the counts
-module _ (row : List ℕ) (by : Bytes row) (at : ContactAt) (p : Places row at) (l : Lists) where
+module _ (row : List ℕ) (by : Bytes row) (at : ContactAt) (p : Offsets row at) (l : Lists) where
   abbrev pub counts : Bool
   counts =
       leb (at .chained .chains .count) (length (l .chains) / 51)

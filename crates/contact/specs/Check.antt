@@ -8,12 +8,12 @@ use Rattle.rows.specs.Values as value
 use Rattle.offsets.specs.Offset.{offset}
 use Rattle.numbers.specs.Lists.{Counts, counts}
 use Rattle.rows.specs.Rows.{contact}
-use Rattle.parts.specs.Parts.{pairedOf, keysOf, chainedOf, numbersOf, joined}
-use Rattle.parts.specs.Places.{pairedAt, pairedFrom, keysAt, keysFrom, chainedAt, chainedFrom, numbersAt, numbersFrom, CardPlaces, ChainedLists, NumbersLists}
-use Rattle.parts.specs.declared.PendingAt.{PendingAt}
-use Rattle.parts.specs.declared.PendingAt.the-variants as pendingAt
-use Rattle.parts.specs.declared.SendAt.{SendAt}
-use Rattle.parts.specs.declared.SendAt.the-variants as sendAt
+use Rattle.contact_parts.specs.Parts.{pairedOf, keysOf, chainedOf, numbersOf, joined}
+use Rattle.contact_parts.specs.Offsets.{pairedAt, pairedFrom, keysAt, keysFrom, chainedAt, chainedFrom, numbersAt, numbersFrom, CardOffsets, ChainedLists, NumbersLists}
+use Rattle.contact_parts.specs.declared.PendingAt.{PendingAt}
+use Rattle.contact_parts.specs.declared.PendingAt.the-variants as pendingAt
+use Rattle.contact_parts.specs.declared.SendAt.{SendAt}
+use Rattle.contact_parts.specs.declared.SendAt.the-variants as sendAt
 use Rattle.contact.specs.declared.ContactAt.{ContactAt}
 use Rattle.contact.specs.declared.ContactCheck.{ContactCheck}
 use Rattle.contact.specs.declared.ContactCheck.the-variants as check
@@ -55,8 +55,8 @@ sentChecked (check.Refused q) = sent.Refused q
 abbrev pub contactFrom : List ℕ → ContactAt → value.Contact
 contactFrom row at = joined (pairedFrom row (at .paired)) (keysFrom row (at .keys)) (chainedFrom row (at .chained)) (numbersFrom row (at .numbers))
 
-pub record Places (row : List ℕ) (at : ContactAt) : Type 0 where
-  pub card : CardPlaces row (at .paired .card)
+pub record Offsets (row : List ℕ) (at : ContactAt) : Type 0 where
+  pub card : CardOffsets row (at .paired .card)
   pub chained : ChainedLists row (at .chained)
   pub numbers : NumbersLists row (at .numbers)
 
@@ -70,7 +70,7 @@ SendRuns row sendAt.Absent = Unit {0}
 SendRuns row (sendAt.Present s) = s .key + 32 ≤ length row
 
 pub record Filling (row : List ℕ) (at : ContactAt) : Type 0 where
-  pub places : Places row at
+  pub places : Offsets row at
   pub «pair_id» : at .paired .«pair_id» + 16 ≤ length row
   pub th : at .paired .th + 48 ≤ length row
   pub «nonce_b» : at .paired .«nonce_b» + 16 ≤ length row

@@ -9,7 +9,7 @@ use Rattle.layout.specs.Read.{first}
 use Rattle.rows.specs.Values.{Chain, Skipped, Range, Contact}
 use Rattle.rows.specs.declared.Verdict.{Verdict}
 use Rattle.rows.specs.declared.Verdict.the-variants as verdict
-use Rattle.rows.specs.Checks.{oneChainAtMost, gensDistinct, placesDistinct, fewSkipped, ackedSent, rising, canonical, noneAbove}
+use Rattle.rows.specs.Checks.{oneChainAtMost, gensDistinct, keysDistinct, fewSkipped, ackedSent, rising, canonical, noneAbove}
 
 -- question q, and then the others
 abbrev pub asks : ℕ → Bool → Option ℕ → Option ℕ
@@ -20,7 +20,7 @@ abbrev pub chainsRefusal : List Chain → List Skipped → Option ℕ
 chainsRefusal chains skipped =
     asks «CHAINS_CURRENT» (oneChainAtMost chains)
     (asks «CHAINS_GENS» (gensDistinct chains)
-    (asks «SKIPPED_KEYS» (placesDistinct skipped)
+    (asks «SKIPPED_KEYS» (keysDistinct skipped)
     (asks «SKIPPED_COUNT» (fewSkipped skipped) none)))
 
 -- 21 to 24

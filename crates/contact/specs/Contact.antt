@@ -18,13 +18,13 @@ use Rattle.rows.specs.declared.Verification.the-variants as verification
 use Rattle.rows.specs.declared.Verdict.the-variants as verdict
 use Rattle.card.specs.Card.{cardOf, zeroCard}
 use Rattle.put.specs.Put.{put}
-use Rattle.lists.specs.Places.{printPlaces}
+use Rattle.contact_lists.specs.Places.{printPlaces}
 use Rattle.received.specs.Lent.{flat}
 use Rattle.numbers.specs.Lists.{«CHAIN_PLACE», «SKIPPED_PLACE», Counts, counts, itemsOf, roomFor}
 use Rattle.contact.specs.declared.SendChain.{SendChain}
 use Rattle.contact.specs.declared.SendChain.the-variants as sendChain
 use Rattle.contact.specs.declared.Contact.{Contact}
-use Rattle.contact.specs.Check.{Places}
+use Rattle.contact.specs.Check.{Offsets}
 use Rattle.contact.specs.declared.ContactAt.{ContactAt}
 use Rattle.contact.specs.declared.ContactRead.{ContactRead}
 use Rattle.contact.specs.declared.PendingKeys.{PendingKeys}
@@ -184,7 +184,7 @@ reads version row l = opened (readRow (contact version) row) l
 
 -- ---- before filling: the row's items stand there, and there are places for them
 pub record Fillable (row : List ℕ) (at : ContactAt) (l : Lists) : Type 0 where
-  pub places : Places row at
+  pub places : Offsets row at
   pub chains : «CHAIN_PLACE» * at .chained .chains .count ≤ length (l .chains)
   pub skipped : «SKIPPED_PLACE» * at .chained .skipped .count ≤ length (l .skipped)
   pub above : 2 * at .numbers .above .count ≤ length (l .above)

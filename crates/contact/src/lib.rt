@@ -1,17 +1,17 @@
 // Contact rows, as state.rs has them: checked, and read into a struct and five lent lists.
 use card::Card;
+use contact_lists::ListAt;
+use contact_parts::ChainedAt;
+use contact_parts::ChainedField;
+use contact_parts::KeysAt;
+use contact_parts::KeysField;
+use contact_parts::NumbersAt;
+use contact_parts::NumbersField;
+use contact_parts::PairedAt;
+use contact_parts::PairedField;
+use contact_parts::PendingAt;
+use contact_parts::SendAt;
 use layout::question;
-use lists::ListAt;
-use parts::ChainedAt;
-use parts::ChainedField;
-use parts::KeysAt;
-use parts::KeysField;
-use parts::NumbersAt;
-use parts::NumbersField;
-use parts::PairedAt;
-use parts::PairedField;
-use parts::PendingAt;
-use parts::SendAt;
 use rows::Dir;
 use rows::PairingRole;
 use rows::Verdict;
@@ -24,7 +24,7 @@ ghost use Rattle.rows.specs.Answers.{verdictOf};
 ghost use Rattle.rows.specs.Rows as layouts;
 ghost use Rattle.numbers.specs.Lists.{counts, roomFor};
 ghost use Rattle.card.specs.Card.{cardOf};
-ghost use Rattle.parts.specs.Places.{ChainedLists, NumbersLists, chainedFrom, numbersFrom, CardPlaces, cardIn, pendingFrom, sendFrom};
+ghost use Rattle.contact_parts.specs.Offsets.{ChainedLists, NumbersLists, chainedFrom, numbersFrom, CardOffsets, cardIn, pendingFrom, sendFrom};
 ghost use Rattle.contact.specs.Consistent.{chainsRefusal, numbersRefusal, refusalIn};
 ghost use Rattle.contact.specs.Check.{contactFrom, countsAt, checked, checkRefusal, sentChecked, PendingRuns, SendRuns, Filling};
 ghost use Rattle.contact.specs.Contact.{pendingKeysOf, sendPartOf, contactOf, zeroContact, lists, listsBefore, listsAfter, filled, Fillable, refusedBy, leaves, reads};
@@ -125,7 +125,7 @@ fn chains_consistent(row: &[u8], at: ChainedAt) -> Verdict
     ensures { λ r. ⌜ refusalIn r ≡ chainsRefusal (chainedFrom (now (row .entry)) at .chains) (chainedFrom (now (row .entry)) at .skipped) ⌝ }
 {
     let chains = at.chains;
-    let asked = consistent::chains_in_row(row, chains.first, chains.count);
+    let asked = contact_checks::chains_in_row(row, chains.first, chains.count);
     if !asked.one_current {
         return Verdict::Refused(question::CHAINS_CURRENT);
     }
@@ -133,7 +133,7 @@ fn chains_consistent(row: &[u8], at: ChainedAt) -> Verdict
         return Verdict::Refused(question::CHAINS_GENS);
     }
     let skipped = at.skipped;
-    if !consistent::skipped_distinct(row, skipped.first, skipped.count) {
+    if !contact_checks::skipped_distinct(row, skipped.first, skipped.count) {
         return Verdict::Refused(question::SKIPPED_KEYS);
     }
     if rows::MAX_SKIPPED < skipped.count {
@@ -151,16 +151,16 @@ fn numbers_consistent(row: &[u8], sent: u32, at: NumbersAt) -> Verdict
         return Verdict::Refused(question::PEER_ACKED);
     }
     let unacked = at.unacked;
-    if !consistent::rising_in_row(row, unacked.first, unacked.count, sent) {
+    if !contact_checks::rising_in_row(row, unacked.first, unacked.count, sent) {
         return Verdict::Refused(question::UNACKED);
     }
     let above = at.above;
     let from = width::wide(at.contiguous) + 2;
-    if !consistent::canonical_in_row(row, above.first, above.count, from, u32::MAX) {
+    if !contact_checks::canonical_in_row(row, above.first, above.count, from, u32::MAX) {
         return Verdict::Refused(question::ABOVE);
     }
     let expired = at.expired;
-    if !consistent::canonical_in_row(row, expired.first, expired.count, 1, sent) {
+    if !contact_checks::canonical_in_row(row, expired.first, expired.count, 1, sent) {
         return Verdict::Refused(question::EXPIRED);
     }
     Verdict::Accepted
@@ -185,19 +185,19 @@ pub fn check_contact(version: u32, row: &[u8]) -> ContactCheck
     if version != rows::BLOB_VERSION {
         return ContactCheck::Refused(question::VERSION);
     }
-    let paired_field = parts::paired_at(row, 0);
+    let paired_field = contact_parts::paired_at(row, 0);
     let PairedField::Value(paired, at1) = paired_field else {
         return ContactCheck::Refused(paired_field.refusal());
     };
-    let keys_field = parts::keys_at(row, at1);
+    let keys_field = contact_parts::keys_at(row, at1);
     let KeysField::Value(keys, at2) = keys_field else {
         return ContactCheck::Refused(keys_field.refusal());
     };
-    let chained_field = parts::chained_at(row, at2);
+    let chained_field = contact_parts::chained_at(row, at2);
     let ChainedField::Value(chained, at3) = chained_field else {
         return ContactCheck::Refused(chained_field.refusal());
     };
-    let numbers_field = parts::numbers_at(row, at3);
+    let numbers_field = contact_parts::numbers_at(row, at3);
     let NumbersField::Value(numbers, at4) = numbers_field else {
         return ContactCheck::Refused(numbers_field.refusal());
     };
@@ -222,19 +222,19 @@ pub fn check_sent(version: u32, row: &[u8]) -> SentCheck
     if version != rows::BLOB_VERSION {
         return SentCheck::Refused(question::VERSION);
     }
-    let paired_field = parts::paired_at(row, 0);
+    let paired_field = contact_parts::paired_at(row, 0);
     let PairedField::Value(_paired, behind_paired) = paired_field else {
         return SentCheck::Refused(paired_field.refusal());
     };
-    let keys_field = parts::keys_at(row, behind_paired);
+    let keys_field = contact_parts::keys_at(row, behind_paired);
     let KeysField::Value(keys, behind_keys) = keys_field else {
         return SentCheck::Refused(keys_field.refusal());
     };
-    let chained_field = parts::chained_at(row, behind_keys);
+    let chained_field = contact_parts::chained_at(row, behind_keys);
     let ChainedField::Value(chained, behind_chained) = chained_field else {
         return SentCheck::Refused(chained_field.refusal());
     };
-    let numbers_field = parts::numbers_at(row, behind_chained);
+    let numbers_field = contact_parts::numbers_at(row, behind_chained);
     let NumbersField::Value(numbers, end) = numbers_field else {
         return SentCheck::Refused(numbers_field.refusal());
     };
@@ -296,6 +296,39 @@ impl Contact {
             send_key: [0; 32],
         }
     }
+
+    // Reads the row into the struct and the lent lists. A refusal changes no list.
+    pub fn decode(
+        version: u32,
+        row: &[u8],
+        chains: &mut [u8],
+        skipped: &mut [u8],
+        above: &mut [u32],
+        unacked: &mut [u32],
+        expired: &mut [u32],
+    ) -> ContactRead
+        ensures { λ r. ⌜ leaves r (listsAfter chains skipped above unacked expired) ≡ reads version (now (row .entry)) (listsBefore chains skipped above unacked expired) ⌝ }
+    {
+        let check = check_contact(version, row);
+        let ContactCheck::Fields(at) = check else {
+            return ContactRead::refused(check.refusal());
+        };
+        if !long_enough(
+            at,
+            chains.len(),
+            skipped.len(),
+            above.len(),
+            unacked.len(),
+            expired.len(),
+        ) {
+            return ContactRead::refused(question::LISTS);
+        }
+        fill_lists(row, at, chains, skipped, above, unacked, expired);
+        ContactRead {
+            verdict: Verdict::Accepted,
+            contact: contact_from(row, at),
+        }
+    }
 }
 
 // ---- a checked row's contact
@@ -314,7 +347,7 @@ struct Send {
 }
 
 fn peer_from(row: &[u8], at: PairedAt) -> Card
-    requires { ⌜ CardPlaces (now row) (at .card) ⌝ }
+    requires { ⌜ CardOffsets (now row) (at .card) ⌝ }
     ensures { λ r. ⌜ r ≡ cardOf (cardIn (now (row .entry)) (at .card)) ⌝ }
 {
     let place = at.card;
@@ -422,10 +455,10 @@ pub fn long_enough(
 ) -> bool
     ensures { λ r. ⌜ r ≡ roomFor (countsAt at) (counts chains skipped above unacked expired) ⌝ }
 {
-    if chains / lent::CHAIN_PLACE < at.chained.chains.count {
+    if chains / contact_lent::CHAIN_PLACE < at.chained.chains.count {
         return false;
     }
-    if skipped / lent::SKIPPED_PLACE < at.chained.skipped.count {
+    if skipped / contact_lent::SKIPPED_PLACE < at.chained.skipped.count {
         return false;
     }
     if above / 2 < at.numbers.above.count {
@@ -452,42 +485,9 @@ fn fill_lists(
 {
     let chained = at.chained;
     let numbers = at.numbers;
-    lent::fill_chains(row, chained.chains.first, chained.chains.count, chains);
-    lent::fill_skipped(row, chained.skipped.first, chained.skipped.count, skipped);
-    lent::fill_ranges(row, numbers.above.first, numbers.above.count, above);
-    lent::fill_numbers(row, numbers.unacked.first, numbers.unacked.count, unacked);
-    lent::fill_ranges(row, numbers.expired.first, numbers.expired.count, expired);
-}
-
-// Reads the row into the struct and the lent lists. A refusal changes no list.
-pub fn read_contact(
-    version: u32,
-    row: &[u8],
-    chains: &mut [u8],
-    skipped: &mut [u8],
-    above: &mut [u32],
-    unacked: &mut [u32],
-    expired: &mut [u32],
-) -> ContactRead
-    ensures { λ r. ⌜ leaves r (listsAfter chains skipped above unacked expired) ≡ reads version (now (row .entry)) (listsBefore chains skipped above unacked expired) ⌝ }
-{
-    let check = check_contact(version, row);
-    let ContactCheck::Fields(at) = check else {
-        return ContactRead::refused(check.refusal());
-    };
-    if !long_enough(
-        at,
-        chains.len(),
-        skipped.len(),
-        above.len(),
-        unacked.len(),
-        expired.len(),
-    ) {
-        return ContactRead::refused(question::LISTS);
-    }
-    fill_lists(row, at, chains, skipped, above, unacked, expired);
-    ContactRead {
-        verdict: Verdict::Accepted,
-        contact: contact_from(row, at),
-    }
+    contact_lent::fill_chains(row, chained.chains.first, chained.chains.count, chains);
+    contact_lent::fill_skipped(row, chained.skipped.first, chained.skipped.count, skipped);
+    contact_lent::fill_ranges(row, numbers.above.first, numbers.above.count, above);
+    contact_lent::fill_numbers(row, numbers.unacked.first, numbers.unacked.count, unacked);
+    contact_lent::fill_ranges(row, numbers.expired.first, numbers.expired.count, expired);
 }

@@ -19,22 +19,22 @@ use Rattle.rows.specs.Rows.{card, pending, send, chain, skipped, range, contact
 use Rattle.put.specs.Put.{put}
 use Rattle.put.proofs.Put.{length-put, put-front}
 use Rattle.card.proofs.RoundTrip as cards
-use Rattle.lists.specs.Places.{printPlaces, placesOf}
-use Rattle.lists.specs.Places as places
+use Rattle.contact_lists.specs.Places.{printPlaces, placesOf}
+use Rattle.contact_lists.specs.Places as places
 use Rattle.received.specs.Lent.{pairs, flat}
 use Rattle.received.proofs.Pairs.{length-flat, pairs-flat}
-use Rattle.parts.specs.Parts.{Chained, chained, joined}
-use Rattle.parts.specs.Parts as parts
-use Rattle.parts.proofs.Parts.{print-in-parts}
-use Rattle.lent.specs.Lent.{chainsBytes, skippedBytes}
-use Rattle.lent.proofs.Laws.{Filled, chains-filled, skipped-filled}
+use Rattle.contact_parts.specs.Parts.{Chained, chained, joined}
+use Rattle.contact_parts.specs.Parts as parts
+use Rattle.contact_parts.proofs.Parts.{print-in-parts}
+use Rattle.contact_lent.specs.Lent.{chainsBytes, skippedBytes}
+use Rattle.contact_lent.proofs.Laws.{Filled, chains-filled, skipped-filled}
 use Rattle.contact.specs.Contact.{Lists, sendKeyOf, pendingKeyOf, pendingSeedOf, contactOf, longEnough, filled}
 use Rattle.contact.specs.Contact as contacts
 use Rattle.contact.proofs.Counts.{Five, five, in-51, in-46, in-2}
-use Rattle.contact_put.specs.Row as spec
+use Rattle.contact_image.specs.Row as spec
 use Rattle.numbers.specs.Lists.{within}
-use Rattle.contact_put.specs.Row.{counted, pairedOf, sendOf, chainedOf, numbersOf, chainedImage, image, contactIn}
-use Rattle.contact_put.proofs.Bytes.{list-is}
+use Rattle.contact_image.specs.Row.{counted, pairedOf, sendOf, chainedOf, numbersOf, chainedImage, image, contactIn}
+use Rattle.contact_image.proofs.Bytes.{list-is}
 
 -- ---- lists with items in them
 -- places

@@ -25,22 +25,22 @@ use Rattle.rows.specs.declared.Verdict.the-variants.{Accepted}
 use Rattle.rows.specs.declared.Written.the-variants.{Length}
 use Rattle.rows.proofs.Proved.{proved}
 use Rattle.rows.proofs.RoundTrip.{Stands, stands, three, rewritten, accepted-not}
-use Rattle.parts.specs.Parts.{paired, joined}
-use Rattle.lists.specs.Lists.{itemsOf}
-use Rattle.lists.specs.Places.{readPlaces, placesOf}
-use Rattle.lists.specs.Places as places
+use Rattle.contact_parts.specs.Parts.{paired, joined}
+use Rattle.contact_lists.specs.Lists.{itemsOf}
+use Rattle.contact_lists.specs.Places.{readPlaces, placesOf}
+use Rattle.contact_lists.specs.Places as places
 use Rattle.received.specs.Lent.{pairs}
 use Rattle.received.proofs.Pairs.{length-pairs}
-use Rattle.lent.specs.Lent.{chainsOf, skippedOf}
+use Rattle.contact_lent.specs.Lent.{chainsOf, skippedOf}
 use Rattle.contact.specs.Consistent.{inconsistency}
 use Rattle.contact.specs.Contact as contacts
 use Rattle.contact.specs.Contact.{Lists, Left, contactOf, longEnough, filled, leaves, opened, reads}
 use Rattle.contact.specs.declared.Contact.{Contact}
 use Rattle.contact.specs.declared.ContactRead.{ContactRead}
-use Rattle.contact_put.specs.Row as spec
-use Rattle.contact_put.specs.Row.{counted, pairedOf, keysOf, pendingOf, sendOf, numbersOf, image, writesContact, contactIn, ContactTyped, ListsTyped}
-use Rattle.contact_put.proofs.Counts.{AllCounted, all-counted}
-use Rattle.contact_put.proofs.Image as images
+use Rattle.contact_image.specs.Row as spec
+use Rattle.contact_image.specs.Row.{counted, pairedOf, keysOf, pendingOf, sendOf, numbersOf, image, writesContact, contactIn, ContactTyped, ListsTyped}
+use Rattle.contact_image.proofs.Counts.{AllCounted, all-counted}
+use Rattle.contact_image.proofs.Image as images
 use Rattle.contact_laws.specs.Laws.{ContactLaws}
 use Rattle.contact_laws.proofs.Back.{value-back, image-back, counted-back}
 

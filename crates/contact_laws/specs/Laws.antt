@@ -1,4 +1,4 @@
--- What is proved of contact rows read and written (proofs/RoundTrip.antt), from the contracts of `contact::read_contact` and of the writer alone.
+-- What is proved of contact rows read and written (proofs/RoundTrip.antt), from the contracts of `Contact::decode` and of the writer alone.
 -- `leaves read left ≡ reads version row l` is what the reader ensures where it answers `read`, was lent the lists l and leaves them as `left`;
 -- `written.leaves (Length n) left ≡ writesContact c l out` is what the writer ensures where it answers n and leaves the output as `left`. Assumes nothing.
 use Prim.Native.Nat.{ℕ}
@@ -17,7 +17,7 @@ use Rattle.rows.specs.declared.Written.the-variants.{Length}
 use Rattle.contact.specs.Contact.{Lists, contactOf, longEnough, filled, leaves, reads}
 use Rattle.contact.specs.declared.Contact.{Contact}
 use Rattle.contact.specs.declared.ContactRead.{ContactRead}
-use Rattle.contact_put.specs.Row.{ContactTyped, ListsTyped, contactIn, writesContact}
+use Rattle.contact_image.specs.Row.{ContactTyped, ListsTyped, contactIn, writesContact}
 
 pub record ContactLaws : Type 0 where
   -- read: the struct and the lists stand for the value that the row holds

@@ -24,23 +24,23 @@ use Rattle.rows.specs.Rows as row
 use Rattle.rows.proofs.Proved.{proved}
 use Rattle.card.specs.Card as cards
 use Rattle.card.proofs.Image as card
-use Rattle.lists.specs.Places.{readPlaces}
-use Rattle.lent.specs.Lent as lent
-use Rattle.lent.specs.Lent.{sizeOf, Granted, chainsOf, skippedOf, chainSize, chainsBytes}
-use Rattle.lent.proofs.Laws.{chains-printed, skipped-printed}
-use Rattle.parts.specs.Parts.{paired}
+use Rattle.contact_lists.specs.Places.{readPlaces}
+use Rattle.contact_lent.specs.Lent as lent
+use Rattle.contact_lent.specs.Lent.{sizeOf, Granted, chainsOf, skippedOf, chainSize, chainsBytes}
+use Rattle.contact_lent.proofs.Laws.{chains-printed, skipped-printed}
+use Rattle.contact_parts.specs.Parts.{paired}
 use Rattle.contact.specs.Consistent.{inconsistency}
 use Rattle.contact.specs.Contact.{Lists}
 use Rattle.contact.specs.declared.Contact.{Contact}
 use Rattle.contact.specs.declared.SendChain.{SendChain}
 use Rattle.contact.specs.declared.SendChain.the-variants.{Absent, Present}
-use Rattle.contact_put.specs.Row as spec
+use Rattle.contact_image.specs.Row as spec
 use Rattle.numbers.specs.Lists.{within}
-use Rattle.contact_put.specs.Row.{counted, pairedOf, pendingOf, sendOf, contactIn, image, askedContact, ContactTyped, ListsTyped}
-use Rattle.contact_put.proofs.Counts.{AllCounted, all-counted}
-use Rattle.contact_put.proofs.Fits.{paired-refusal}
-use Rattle.contact_put.proofs.Image.{paired-refused, chains-refused, skipped-refused, all-read}
-use Rattle.contact_put.proofs.Lengths.{paired-long, keys-long, pending-absent, pending-long, send-absent, send-long, chained-long, numbers-long, image-long}
+use Rattle.contact_image.specs.Row.{counted, pairedOf, pendingOf, sendOf, contactIn, image, askedContact, ContactTyped, ListsTyped}
+use Rattle.contact_image.proofs.Counts.{AllCounted, all-counted}
+use Rattle.contact_image.proofs.Fits.{paired-refusal}
+use Rattle.contact_image.proofs.Image.{paired-refused, chains-refused, skipped-refused, all-read}
+use Rattle.contact_image.proofs.Lengths.{paired-long, keys-long, pending-absent, pending-long, send-absent, send-long, chained-long, numbers-long, image-long}
 use Rattle.contact_row.specs.Sizes.{sendSize, rowSize}
 
 same-number : {p q : ℕ} → refuses p ≡ refuses q → p ≡ q

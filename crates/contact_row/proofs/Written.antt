@@ -15,13 +15,13 @@ use Rattle.rows.specs.Values as value
 use Rattle.rows.specs.Rows.{cardRow, chain, skipped, contact}
 use Rattle.card.specs.Card as cards
 use Rattle.card.proofs.Image.{asked-few}
-use Rattle.lists.specs.Places.{readPlaces}
-use Rattle.lent.specs.Lent.{sizeOf, Granted}
-use Rattle.lent.proofs.Places.{granted}
+use Rattle.contact_lists.specs.Places.{readPlaces}
+use Rattle.contact_lent.specs.Lent.{sizeOf, Granted}
+use Rattle.contact_lent.proofs.Offsets.{granted}
 use Rattle.contact.specs.Contact.{Lists}
 use Rattle.contact.specs.declared.Contact.{Contact}
-use Rattle.contact_put.specs.Row as spec
-use Rattle.contact_put.specs.Row.{counted, image, askedContact, writesContact, ContactTyped, ListsTyped, Writable}
+use Rattle.contact_image.specs.Row as spec
+use Rattle.contact_image.specs.Row.{counted, image, askedContact, writesContact, ContactTyped, ListsTyped, Writable}
 use Rattle.contact_row.proofs.Asked.{not-counted, bad-card, bad-chains, bad-skipped}
 
 module _ (c : Contact) (ty : ContactTyped c) (l : Lists) (lt : ListsTyped l) where

@@ -11,11 +11,11 @@ ghost use lib.ListN.{take};
 ghost use Rattle.rows.specs.Answers.{writtenSays};
 ghost use Rattle.rows.specs.Answers as answers;
 ghost use Rattle.received.specs.Lent.{pairs};
-ghost use Rattle.lent.specs.Lent.{chainsOf, skippedOf};
+ghost use Rattle.contact_lent.specs.Lent.{chainsOf, skippedOf};
 ghost use Rattle.contact.specs.Consistent.{chainsRefusal, numbersRefusal, inconsistency, refusalIn};
 ghost use Rattle.contact.specs.Contact.{lists, listsBefore, countsOf};
 ghost use Rattle.numbers.specs.Lists.{counts, within, counted};
-ghost use Rattle.contact_put.specs.Row.{ChainsLent, NumbersLent, contactIn, askedContact, writesContact};
+ghost use Rattle.contact_image.specs.Row.{ChainsLent, NumbersLent, contactIn, askedContact, writesContact};
 ghost use Rattle.contact_row.specs.Sizes.{sendSize, rowSize};
 
 // The most items that a count of a row says.
@@ -42,10 +42,10 @@ fn counts_fit(
 ) -> bool
     ensures { λ r. ⌜ r ≡ counted (countsOf contact) (counts chains skipped above unacked expired) ⌝ }
 {
-    if !within(contact.chains, chains / lent::CHAIN_PLACE) {
+    if !within(contact.chains, chains / contact_lent::CHAIN_PLACE) {
         return false;
     }
-    if !within(contact.skipped, skipped / lent::SKIPPED_PLACE) {
+    if !within(contact.skipped, skipped / contact_lent::SKIPPED_PLACE) {
         return false;
     }
     if !within(contact.above, above / 2) {
@@ -62,14 +62,14 @@ fn chains_consistent(contact: Contact, chains: &[u8], skipped: &[u8]) -> Verdict
     requires { ⌜ ChainsLent contact (lists (now chains) (now skipped) [] [] []) ⌝ }
     ensures { λ r. ⌜ refusalIn r ≡ chainsRefusal (chainsOf (contact .chains) (now (chains .entry))) (skippedOf (contact .skipped) (now (skipped .entry))) ⌝ }
 {
-    let asked = consistent::chains_lent(chains, contact.chains);
+    let asked = contact_checks::chains_lent(chains, contact.chains);
     if !asked.one_current {
         return Verdict::Refused(question::CHAINS_CURRENT);
     }
     if !asked.gens_distinct {
         return Verdict::Refused(question::CHAINS_GENS);
     }
-    if !consistent::skipped_distinct(skipped, 0, contact.skipped) {
+    if !contact_checks::skipped_distinct(skipped, 0, contact.skipped) {
         return Verdict::Refused(question::SKIPPED_KEYS);
     }
     if rows::MAX_SKIPPED < contact.skipped {
@@ -88,14 +88,14 @@ fn numbers_consistent(contact: Contact, above: &[u32], unacked: &[u32], expired:
     if sent < contact.peer_acked {
         return Verdict::Refused(question::PEER_ACKED);
     }
-    if !consistent::rising_lent(unacked, contact.unacked, sent) {
+    if !contact_checks::rising_lent(unacked, contact.unacked, sent) {
         return Verdict::Refused(question::UNACKED);
     }
     let from = width::wide(contact.contiguous) + 2;
-    if !consistent::canonical_lent(above, contact.above, from, u32::MAX) {
+    if !contact_checks::canonical_lent(above, contact.above, from, u32::MAX) {
         return Verdict::Refused(question::ABOVE);
     }
-    if !consistent::canonical_lent(expired, contact.expired, 1, sent) {
+    if !contact_checks::canonical_lent(expired, contact.expired, 1, sent) {
         return Verdict::Refused(question::EXPIRED);
     }
     Verdict::Accepted
@@ -159,7 +159,7 @@ pub fn contact_size(
 ) -> Written
     ensures { λ r. ⌜ writtenSays r ≡ askedContact contact (listsBefore chains skipped above unacked expired) ⌝ }
 {
-    contact_put::typed(contact);
+    contact_image::typed(contact);
     if !counts_fit(
         contact,
         chains.len(),
@@ -175,11 +175,11 @@ pub fn contact_size(
     let Written::Length(card_len) = card else {
         return card;
     };
-    let chain_bytes = lent::chains_size(chains, contact.chains);
+    let chain_bytes = contact_lent::chains_size(chains, contact.chains);
     let Written::Length(chains_len) = chain_bytes else {
         return chain_bytes;
     };
-    let skipped_bytes = lent::skipped_size(skipped, contact.skipped);
+    let skipped_bytes = contact_lent::skipped_size(skipped, contact.skipped);
     let Written::Length(skipped_len) = skipped_bytes else {
         return skipped_bytes;
     };
@@ -202,7 +202,7 @@ pub fn write_contact(
 ) -> Written
     ensures { λ r. ⌜ answers.leaves r (now (out .exit)) ≡ writesContact contact (listsBefore chains skipped above unacked expired) (now (out .entry)) ⌝ }
 {
-    contact_put::typed(contact);
+    contact_image::typed(contact);
     let size = contact_size(contact, chains, skipped, above, unacked, expired);
     let Written::Length(n) = size else {
         return size;
@@ -210,6 +210,6 @@ pub fn write_contact(
     if out.len() < n {
         return Written::Refused(question::OUTPUT);
     }
-    contact_put::put_row(out, contact, chains, skipped, above, unacked, expired);
+    contact_image::put_row(out, contact, chains, skipped, above, unacked, expired);
     Written::Length(n)
 }

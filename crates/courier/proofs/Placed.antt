@@ -15,7 +15,7 @@ use Rattle.rows.specs.Checks.{sealedCarried}
 use Rattle.rows.specs.Rows.{carried, tombstone, courier}
 use Rattle.rows.proofs.Lawful.{courier-lawful}
 use Rattle.offsets.proofs.Offset.{Stands, stands-first, field-stands, row-stands, offset-inside, run-is, run-inside, to-end-is, either-left, either-right}
-use Rattle.courier.specs.Courier.{carriedAt, tombstoneAt, checked, carriedFrom, CarriedPlaces, tombstoneFrom, TombstonePlaces, heldFrom, Places}
+use Rattle.courier.specs.Courier.{carriedAt, tombstoneAt, checked, carriedFrom, CarriedOffsets, tombstoneFrom, TombstoneOffsets, heldFrom, Offsets}
 use Rattle.courier.specs.declared.CourierCheck.{CourierCheck}
 use Rattle.courier.specs.declared.CourierCheck.the-variants as check
 
@@ -25,7 +25,7 @@ checkSays row (check.Fields at) = accepted (heldFrom row at)
 checkSays row (check.Refused q) = refusedBy q
 
 abbrev pub Placed : List ℕ → CourierCheck → Type 0
-Placed row (check.Fields at) = Places row at
+Placed row (check.Fields at) = Offsets row at
 Placed row (check.Refused q) = Unit {0}
 
 module _ (row : List ℕ) where
@@ -40,7 +40,7 @@ module _ (row : List ℕ) where
       sealed = to-end-is veiled «SEALED_LENGTH» sealedCarried (field-stands row carried 5 c s) i;
     }
 
-    carried-inside : CarriedPlaces row (carriedAt from c)
+    carried-inside : CarriedOffsets row (carriedAt from c)
     carried-inside =
         let tag = run-inside plain 16 (field-stands row carried 1 c s) (omega arith) in
         record {
@@ -53,7 +53,7 @@ module _ (row : List ℕ) where
     tombstone-is : tombstoneFrom row (tombstoneAt from t) ≡ t
     tombstone-is = λ i. record { tag = run-is plain 16 (field-stands row tombstone 0 t s) i; s = run-is veiled 16 (field-stands row tombstone 1 t s) i; «expiry_min» = t .«expiry_min» }
 
-    tombstone-inside : TombstonePlaces row (tombstoneAt from t)
+    tombstone-inside : TombstoneOffsets row (tombstoneAt from t)
     tombstone-inside = record {
       tag = run-inside plain 16 (field-stands row tombstone 0 t s) (omega arith);
       s = run-inside veiled 16 (field-stands row tombstone 1 t s) (omega arith);

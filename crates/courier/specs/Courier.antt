@@ -105,7 +105,7 @@ carriedFrom row at = record {
   sealed = drop (at .sealed) row;
 }
 
-pub record CarriedPlaces (row : List ℕ) (at : CarriedAt) : Type 0 where
+pub record CarriedOffsets (row : List ℕ) (at : CarriedAt) : Type 0 where
   pub tag : at .tag + 16 ≤ length row
   pub c : at .c + 16 ≤ length row
   pub sealed : at .sealed ≤ length row
@@ -113,7 +113,7 @@ pub record CarriedPlaces (row : List ℕ) (at : CarriedAt) : Type 0 where
 abbrev pub tombstoneFrom : List ℕ → TombstoneAt → value.Tombstone
 tombstoneFrom row at = record { tag = take 16 (drop (at .tag) row); s = take 16 (drop (at .s) row); «expiry_min» = at .«expiry_min» }
 
-pub record TombstonePlaces (row : List ℕ) (at : TombstoneAt) : Type 0 where
+pub record TombstoneOffsets (row : List ℕ) (at : TombstoneAt) : Type 0 where
   pub tag : at .tag + 16 ≤ length row
   pub s : at .s + 16 ≤ length row
 
@@ -121,6 +121,6 @@ abbrev pub heldFrom : List ℕ → HeldAt → value.Courier
 heldFrom row (held.Carried at) = inl (carriedFrom row at)
 heldFrom row (held.Tombstone at) = inr (tombstoneFrom row at)
 
-abbrev pub Places : List ℕ → HeldAt → Type 0
-Places row (held.Carried at) = CarriedPlaces row at
-Places row (held.Tombstone at) = TombstonePlaces row at
+abbrev pub Offsets : List ℕ → HeldAt → Type 0
+Offsets row (held.Carried at) = CarriedOffsets row at
+Offsets row (held.Tombstone at) = TombstoneOffsets row at

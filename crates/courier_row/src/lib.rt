@@ -18,7 +18,7 @@ ghost use Rattle.layout.specs.Write.{asked, writes};
 ghost use Rattle.put.specs.Put.{Wrote};
 ghost use Rattle.rows.specs.Rows.{courier};
 ghost use Rattle.rows.specs.Answers.{writtenSays, leaves};
-ghost use Rattle.courier.specs.Courier.{carriedFrom, CarriedPlaces, tombstoneFrom, TombstonePlaces, heldFrom, Places};
+ghost use Rattle.courier.specs.Courier.{carriedFrom, CarriedOffsets, tombstoneFrom, TombstoneOffsets, heldFrom, Offsets};
 ghost use Rattle.courier_row.specs.Row.{heldOf, zeroHeld, decoded, HeldTyped, image, carriedImage, tombstoneImage};
 
 // A courier row but for its sealed text. Carried: depositor, tag, c, expiry_min, copies. A tombstone: tag, s, expiry_min. 0 stands where the kind leaves a field out.
@@ -41,7 +41,7 @@ pub struct HeldRead {
 
 // What the row holds at the places that check_courier found.
 fn carried_from(row: &[u8], at: CarriedAt) -> Held
-    requires { ⌜ CarriedPlaces (now row) at ⌝ }
+    requires { ⌜ CarriedOffsets (now row) at ⌝ }
     ensures { λ r. ⌜ r ≡ heldOf (inl (carriedFrom (now (row .entry)) at)) ⌝ }
 {
     let tag = put::copy_16(row, at.tag);
@@ -59,7 +59,7 @@ fn carried_from(row: &[u8], at: CarriedAt) -> Held
 }
 
 fn tombstone_from(row: &[u8], at: TombstoneAt) -> Held
-    requires { ⌜ TombstonePlaces (now row) at ⌝ }
+    requires { ⌜ TombstoneOffsets (now row) at ⌝ }
     ensures { λ r. ⌜ r ≡ heldOf (inr (tombstoneFrom (now (row .entry)) at)) ⌝ }
 {
     let tag = put::copy_16(row, at.tag);
@@ -76,7 +76,7 @@ fn tombstone_from(row: &[u8], at: TombstoneAt) -> Held
 }
 
 fn held_from(row: &[u8], at: HeldAt) -> Held
-    requires { ⌜ Places (now row) at ⌝ }
+    requires { ⌜ Offsets (now row) at ⌝ }
     ensures { λ r. ⌜ r ≡ heldOf (heldFrom (now (row .entry)) at) ⌝ }
 {
     match at {

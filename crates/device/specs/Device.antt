@@ -44,8 +44,8 @@ deviceFrom row at = record {
 }
 
 -- the key lies in the row
-abbrev pub Places : List ℕ → Type 0
-Places row = 4 + 32 ≤ length row
+abbrev pub Offsets : List ℕ → Type 0
+Offsets row = 4 + 32 ≤ length row
 
 abbrev pub checkSays : List ℕ → DeviceCheck → Answer value.Device
 checkSays row (check.Fields at) = accepted (deviceFrom row at)
@@ -56,5 +56,5 @@ checkRefusal (check.Fields at) = 0
 checkRefusal (check.Refused q) = q
 
 abbrev pub Placed : List ℕ → DeviceCheck → Type 0
-Placed row (check.Fields at) = Places row
+Placed row (check.Fields at) = Offsets row
 Placed row (check.Refused q) = Unit {0}

@@ -15,7 +15,7 @@ ghost use Rattle.layout.specs.Write.{asked, writes};
 ghost use Rattle.put.specs.Put.{Wrote};
 ghost use Rattle.rows.specs.Rows as layouts;
 ghost use Rattle.rows.specs.Answers.{writtenSays, leaves};
-ghost use Rattle.device.specs.Device.{deviceFrom, Places};
+ghost use Rattle.device.specs.Device.{deviceFrom, Offsets};
 ghost use Rattle.device_row.specs.Row.{deviceOf, zeroDevice, deviceRead, DeviceTyped, image, courierPart};
 
 pub struct Device {
@@ -37,7 +37,7 @@ pub struct DeviceRead {
 
 // The device of the numbers that check_device found.
 fn device_from(row: &[u8], at: DeviceAt) -> Device
-    requires { ⌜ Places (now row) ⌝ }
+    requires { ⌜ Offsets (now row) ⌝ }
     ensures { λ r. ⌜ r ≡ deviceOf (deviceFrom (now (row .entry)) at) ⌝ }
 {
     let beacon_key = put::copy_32(row, BEACON_KEY_AT);

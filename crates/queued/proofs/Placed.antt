@@ -15,7 +15,7 @@ use Rattle.rows.specs.Checks.{sealedQueued}
 use Rattle.rows.specs.Rows.{ownEnvelope, queued}
 use Rattle.rows.proofs.Lawful.{queued-lawful}
 use Rattle.offsets.proofs.Offset.{Stands, stands-first, field-stands, row-stands, offset-inside, run-is, run-inside, to-end-is, optional-stands}
-use Rattle.queued.specs.Queued.{envelopeAt, ownAt, checked, envelopeFrom, EnvelopePlaces, ownFrom, OwnPlaces, queuedFrom, Places}
+use Rattle.queued.specs.Queued.{envelopeAt, ownAt, checked, envelopeFrom, EnvelopeOffsets, ownFrom, OwnOffsets, queuedFrom, Offsets}
 use Rattle.queued.specs.declared.QueuedCheck.{QueuedCheck}
 use Rattle.queued.specs.declared.QueuedCheck.the-variants as check
 
@@ -25,7 +25,7 @@ checkSays row (check.Fields at) = accepted (queuedFrom row at)
 checkSays row (check.Refused q) = refusedBy q
 
 abbrev pub Placed : List ℕ → QueuedCheck → Type 0
-Placed row (check.Fields at) = Places row at
+Placed row (check.Fields at) = Offsets row at
 Placed row (check.Refused q) = Unit {0}
 
 module _ (row : List ℕ) where
@@ -39,13 +39,13 @@ module _ (row : List ℕ) where
       renewed = e .renewed;
     }
 
-    envelope-inside : EnvelopePlaces row (envelopeAt from e)
+    envelope-inside : EnvelopeOffsets row (envelopeAt from e)
     envelope-inside = record {
       tag = run-inside plain 16 (field-stands row ownEnvelope 0 e s) (omega arith);
       s = run-inside veiled 16 (field-stands row ownEnvelope 1 e s) (omega arith);
     }
 
-  own-is : (from : ℕ) (o : Option OwnEnvelope) → Stands (optional (group ownEnvelope)) o row from → (ownFrom row (ownAt from o) ≡ o) × OwnPlaces row (ownAt from o)
+  own-is : (from : ℕ) (o : Option OwnEnvelope) → Stands (optional (group ownEnvelope)) o row from → (ownFrom row (ownAt from o) ≡ o) × OwnOffsets row (ownAt from o)
   own-is from none s = (refl, tt)
   own-is from (some e) s =
       let its = optional-stands (group ownEnvelope) s in

@@ -85,7 +85,7 @@ envelopeFrom row at = record {
   renewed = at .renewed;
 }
 
-pub record EnvelopePlaces (row : List ℕ) (at : EnvelopeAt) : Type 0 where
+pub record EnvelopeOffsets (row : List ℕ) (at : EnvelopeAt) : Type 0 where
   pub tag : at .tag + 16 ≤ length row
   pub s : at .s + 16 ≤ length row
 
@@ -93,9 +93,9 @@ abbrev pub ownFrom : List ℕ → OwnEnvelopeAt → Option value.OwnEnvelope
 ownFrom row own.Absent = none
 ownFrom row (own.Present at) = some (envelopeFrom row at)
 
-abbrev pub OwnPlaces : List ℕ → OwnEnvelopeAt → Type 0
-OwnPlaces row own.Absent = Unit {0}
-OwnPlaces row (own.Present at) = EnvelopePlaces row at
+abbrev pub OwnOffsets : List ℕ → OwnEnvelopeAt → Type 0
+OwnOffsets row own.Absent = Unit {0}
+OwnOffsets row (own.Present at) = EnvelopeOffsets row at
 
 abbrev pub queuedFrom : List ℕ → QueuedAt → value.Queued
 queuedFrom row at = record {
@@ -106,6 +106,6 @@ queuedFrom row at = record {
   sealed = drop (at .sealed) row;
 }
 
-pub record Places (row : List ℕ) (at : QueuedAt) : Type 0 where
-  pub envelope : OwnPlaces row (at .envelope)
+pub record Offsets (row : List ℕ) (at : QueuedAt) : Type 0 where
+  pub envelope : OwnOffsets row (at .envelope)
   pub sealed : at .sealed ≤ length row

@@ -20,13 +20,13 @@ use Rattle.rows.specs.Checks.{sealedQueued}
 use Rattle.rows.specs.Rows.{ownEnvelope, queued}
 use Rattle.rows.proofs.Proved.{proved}
 use Rattle.queued_row.specs.Row as spec
-use Rattle.queued_row.specs.Row.{envelopeOf, valueOf, ownImage, image, OwnTyped, QueuedTyped}
+use Rattle.queued_row.specs.Row.{envelopeOf, valueOf, ownImage, image, OwnTyped, OutgoingTyped}
 use Rattle.queued_row.specs.declared.OwnEnvelope.{OwnEnvelope}
 use Rattle.queued_row.specs.declared.OwnEnvelope.the-variants.{Absent, Present}
-use Rattle.queued_row.specs.declared.Queued.{Queued}
+use Rattle.queued_row.specs.declared.Outgoing.{Outgoing}
 
 -- ---- the envelope's bytes
-pub own-absent : (q : Queued) → q .envelope ≡ Absent → ownImage q ≡ 0 ∷ []
+pub own-absent : (q : Outgoing) → q .envelope ≡ Absent → ownImage q ≡ 0 ∷ []
 unfolding spec.ownImage layout.print
 own-absent q e = rw e
 
@@ -39,7 +39,7 @@ flagged : (e : value.OwnEnvelope) → (optional (group ownEnvelope)) .print (som
 unfolding layout.print
 flagged e = ap (λ (l : List ℕ). 1 ∷ l) (append-nil (print ownEnvelope e))
 
-module _ (q : Queued) (ty : QueuedTyped q) {expiry copies : ℕ} {renewed : Bool} (e : q .envelope ≡ Present expiry copies renewed) where
+module _ (q : Outgoing) (ty : OutgoingTyped q) {expiry copies : ℕ} {renewed : Bool} (e : q .envelope ≡ Present expiry copies renewed) where
   pub own-present : ownImage q ≡ (1 ∷ []) ++ (q .tag ++ (q .s ++ (bytesOf 4 expiry ++ ((copies ∷ []) ++ (flagByte renewed ∷ [])))))
   unfolding spec.ownImage
   own-present =
@@ -51,7 +51,7 @@ module _ (q : Queued) (ty : QueuedTyped q) {expiry copies : ℕ} {renewed : Bool
   length-present = rw own-present (simp (length-append, length-bytesOf) (omega (arith, ty .tag, ty .s)))
 
 -- ---- the row's bytes
-module _ (q : Queued) (ty : QueuedTyped q) (sealed : List ℕ) where
+module _ (q : Outgoing) (ty : OutgoingTyped q) (sealed : List ℕ) where
   pub image-is : image q sealed ≡ bytesOf 8 (q .«created_s») ++ (ownImage q ++ ((q .«gen_» ∷ []) ++ (lebPrint 4 (q .idx) ++ sealed)))
   unfolding spec.image spec.ownImage layout.print
   image-is =

@@ -19,8 +19,8 @@ use Rattle.rows.specs.declared.Written.the-variants.{Length}
 use Rattle.rows.proofs.Proved.{proved}
 use Rattle.rows.proofs.RoundTrip.{Stands, stands, printed-back, three, rewritten, last-at, accepted-not}
 use Rattle.queued_row.specs.Row as spec
-use Rattle.queued_row.specs.Row.{ownOf, tagOf, sOf, queuedOf, decoded, envelopeOf, valueOf, image, QueuedTyped, QueuedLaws}
-use Rattle.queued_row.specs.declared.Queued.{Queued}
+use Rattle.queued_row.specs.Row.{ownOf, tagOf, sOf, queuedOf, decoded, envelopeOf, valueOf, image, OutgoingTyped, QueuedLaws}
+use Rattle.queued_row.specs.declared.Outgoing.{Outgoing}
 use Rattle.queued_row.specs.declared.QueuedRead.{QueuedRead}
 use Rattle.queued_row.proofs.Image.{fits}
 
@@ -42,11 +42,11 @@ pub sealed-last : (version : ℕ) (v : value.Queued) (row : List ℕ) → print 
 sealed-last version v row e = subst (λ (l : List ℕ). drop (length l - length (v .sealed)) l ≡ v .sealed) (sym (print-is version v) ∙ e) (last-at (front v) (v .sealed))
 
 -- ---- write, then read
-module _ (q : Queued) (sealed out left : List ℕ) (n : ℕ) (contract : leaves (Length n) left ≡ writes (queued 3) (image q sealed) out) where
+module _ (q : Outgoing) (sealed out left : List ℕ) (n : ℕ) (contract : leaves (Length n) left ≡ writes (queued 3) (image q sealed) out) where
   held : Stands (queued 3) (image q sealed) left n
   held = stands (queued 3) (image q sealed) out left contract
 
-  is-read : QueuedTyped q → readRow (queued 3) (take n left) ≡ accepted (valueOf q sealed)
+  is-read : OutgoingTyped q → readRow (queued 3) (take n left) ≡ accepted (valueOf q sealed)
   unfolding spec.image
   is-read ty =
       ap (λ (row : List ℕ). readRow (queued 3) row) (held .front)

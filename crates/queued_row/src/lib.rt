@@ -15,8 +15,8 @@ ghost use Rattle.layout.specs.Write.{asked, writes};
 ghost use Rattle.put.specs.Put.{Wrote};
 ghost use Rattle.rows.specs.Rows.{queued};
 ghost use Rattle.rows.specs.Answers.{writtenSays, leaves};
-ghost use Rattle.queued.specs.Queued.{queuedFrom, Places};
-ghost use Rattle.queued_row.specs.Row.{queuedOf, zeroQueued, decoded, OwnTyped, QueuedTyped, ownImage, image};
+ghost use Rattle.queued.specs.Queued.{queuedFrom, Offsets};
+ghost use Rattle.queued_row.specs.Row.{queuedOf, zeroOutgoing, decoded, OwnTyped, OutgoingTyped, ownImage, image};
 
 // The numbers of a sender's own envelope, if there is one.
 pub enum OwnEnvelope {
@@ -29,7 +29,7 @@ pub enum OwnEnvelope {
 }
 
 // A queued row but for its sealed text. tag and s are the envelope's: 0 where there is none.
-pub struct Queued {
+pub struct Outgoing {
     pub created_s: u64,
     pub idx: u32,
     pub gen_: u8,
@@ -42,17 +42,17 @@ pub struct Queued {
 pub struct QueuedRead {
     pub sealed_at: usize,
     pub verdict: Verdict,
-    pub queued: Queued,
+    pub queued: Outgoing,
 }
 
 // The row at the places that check_queued found.
-fn queued_from(row: &[u8], at: QueuedAt) -> Queued
-    requires { ⌜ Places (now row) at ⌝ }
+fn queued_from(row: &[u8], at: QueuedAt) -> Outgoing
+    requires { ⌜ Offsets (now row) at ⌝ }
     ensures { λ r. ⌜ r ≡ queuedOf (queuedFrom (now (row .entry)) at) ⌝ }
 {
     let own = at.envelope;
     let OwnEnvelopeAt::Present(envelope) = own else {
-        return Queued {
+        return Outgoing {
             created_s: at.created_s,
             idx: at.idx,
             gen_: at.gen_,
@@ -63,7 +63,7 @@ fn queued_from(row: &[u8], at: QueuedAt) -> Queued
     };
     let tag = put::copy_16(row, envelope.tag);
     let s = put::copy_16(row, envelope.s);
-    Queued {
+    Outgoing {
         created_s: at.created_s,
         idx: at.idx,
         gen_: at.gen_,
@@ -85,7 +85,7 @@ pub fn read_queued(version: u32, row: &[u8]) -> QueuedRead
         return QueuedRead {
             sealed_at: row.len(),
             verdict: Verdict::Refused(check.refusal()),
-            queued: Queued::zero(),
+            queued: Outgoing::zero(),
         };
     };
     QueuedRead {
@@ -95,12 +95,12 @@ pub fn read_queued(version: u32, row: &[u8]) -> QueuedRead
     }
 }
 
-impl Queued {
+impl Outgoing {
     // All zeros: what stands where no row was read.
-    fn zero() -> Queued
-        ensures { λ r. ⌜ r ≡ zeroQueued ⌝ }
+    fn zero() -> Outgoing
+        ensures { λ r. ⌜ r ≡ zeroOutgoing ⌝ }
     {
-        Queued {
+        Outgoing {
             created_s: 0,
             idx: 0,
             gen_: 0,
@@ -140,15 +140,15 @@ fn own_typed(own: OwnEnvelope) -> bool
     }
 }
 
-fn typed(outgoing: Queued) -> bool
-    ensures { λ r. ⌜ QueuedTyped outgoing ⌝ }
+fn typed(outgoing: Outgoing) -> bool
+    ensures { λ r. ⌜ OutgoingTyped outgoing ⌝ }
 {
     let own = outgoing.envelope;
     own_typed(own)
 }
 
 // The length of the row with this sealed text, or the question that reading it would answer no.
-fn queued_size(outgoing: Queued, sealed: &[u8]) -> Written
+fn queued_size(outgoing: Outgoing, sealed: &[u8]) -> Written
     ensures { λ r. ⌜ writtenSays r ≡ asked (queued 3) (image outgoing (now (sealed .entry))) ⌝ }
 {
     typed(outgoing);
@@ -165,7 +165,7 @@ fn queued_size(outgoing: Queued, sealed: &[u8]) -> Written
 }
 
 // Writes the row, where there is room; the place behind it.
-fn put_queued(out: &mut [u8], at: usize, outgoing: Queued, sealed: &[u8]) -> usize
+fn put_queued(out: &mut [u8], at: usize, outgoing: Outgoing, sealed: &[u8]) -> usize
     requires { ⌜ at + length (image outgoing (now sealed)) ≤ length (now out) ⌝ }
     ensures { λ r. ⌜ (r ≡ at + length (image outgoing (now (sealed .entry)))) × Wrote (now (out .entry)) at (image outgoing (now (sealed .entry))) (now (out .exit)) r ⌝ }
 {
@@ -178,7 +178,7 @@ fn put_queued(out: &mut [u8], at: usize, outgoing: Queued, sealed: &[u8]) -> usi
 }
 
 // The flag, and the envelope if there is one.
-fn put_own_envelope(out: &mut [u8], at: usize, outgoing: Queued) -> usize
+fn put_own_envelope(out: &mut [u8], at: usize, outgoing: Outgoing) -> usize
     requires { ⌜ at + length (ownImage outgoing) ≤ length (now out) ⌝ }
     ensures { λ r. ⌜ (r ≡ at + length (ownImage outgoing)) × Wrote (now (out .entry)) at (ownImage outgoing) (now (out .exit)) r ⌝ }
 {

@@ -7,12 +7,12 @@ use super::Script;
 use super::UNKNOWN;
 use super::least;
 use ascii::first;
+use calls_session::Session;
 use calls_step::Mark;
 use contact::Contact;
 use libc::STDOUT_FILENO;
 use rows::ContactId;
 use rows::Written;
-use session::Session;
 
 // What a line leaves: the session, and the line that is to be printed.
 pub struct Answered {
@@ -32,7 +32,7 @@ pub(super) fn print(written: Written, line: &[u8]) -> bool {
     false
 }
 
-// The open contact, its fields as a row, and the places of the list above contiguous that were written.
+// The open contact, its fields as a row, and the records of the list above contiguous that were written.
 fn opened_state(
     id: ContactId,
     contact: Contact,
@@ -55,8 +55,8 @@ fn opened_state(
         &mut row,
     );
     match size {
-        Written::Length(n) => transcript::state_line(id, first(&row, n), above, written, line),
-        Written::Refused(number) => transcript::number_line(b"no ", number as u64, line),
+        Written::Length(n) => replay_answer::state_line(id, first(&row, n), above, written, line),
+        Written::Refused(number) => replay_answer::number_line(b"no ", number as u64, line),
     }
 }
 
@@ -73,7 +73,7 @@ fn state(
     let mark = session.mark;
     let contact = session.contact;
     let Mark::Opened(id) = mark else {
-        return transcript::text_line(b"none", line);
+        return replay_answer::text_line(b"none", line);
     };
     opened_state(
         id,
@@ -93,7 +93,7 @@ fn make_call(
     session: Session,
     s: Script,
     run: &[u8],
-    places: &[u64],
+    records: &[u64],
     chains: &mut [u8],
     skipped: &mut [u8],
     above: &mut [u32],
@@ -103,17 +103,17 @@ fn make_call(
     line: &mut [u8],
 ) -> Answered {
     let calls = [s.code, s.a, s.b, s.c, s.d, 0];
-    let mut answers = [0u64; call_code::ANSWER];
+    let mut answers = [0u64; calls_code::ANSWER];
     let c = least(s.chains, chains.len());
     let k = least(s.skipped, skipped.len());
     let a = least(s.above, above.len());
     let u = least(s.unacked, unacked.len());
     let e = least(s.expired, expired.len());
     let o = least(s.out, out.len());
-    let after = call_list::replay(
+    let after = calls_list::replay(
         session,
         run,
-        places,
+        records,
         &calls,
         &mut chains[0..c],
         &mut skipped[0..k],
@@ -123,7 +123,7 @@ fn make_call(
         &mut out[0..o],
         &mut answers,
     );
-    let said = transcript::answer_line(answers[0], answers[1], answers[2], out, line);
+    let said = replay_answer::answer_line(answers[0], answers[1], answers[2], out, line);
     Answered {
         session: after,
         said,
@@ -135,7 +135,7 @@ pub(super) fn answer(
     session: Session,
     s: Script,
     run: &[u8],
-    places: &[u64],
+    records: &[u64],
     chains: &mut [u8],
     skipped: &mut [u8],
     above: &mut [u32],
@@ -151,18 +151,18 @@ pub(super) fn answer(
         };
     }
     if s.code == BEGIN {
-        let begun = session::begin();
+        let begun = calls_session::begin();
         return Answered {
             session: begun,
             said: Written::Length(0),
         };
     }
     if s.code == UNKNOWN {
-        let said = transcript::number_line(b"? ", s.number, line);
+        let said = replay_answer::number_line(b"? ", s.number, line);
         return Answered { session, said };
     }
     if s.code == SHOW {
-        let said = transcript::answer_line(s.a, s.b, s.c, out, line);
+        let said = replay_answer::answer_line(s.a, s.b, s.c, out, line);
         return Answered { session, said };
     }
     if s.code == STATE {
@@ -182,7 +182,7 @@ pub(super) fn answer(
         session,
         s,
         run,
-        places,
+        records,
         chains,
         skipped,
         above,

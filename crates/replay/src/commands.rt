@@ -21,31 +21,31 @@ ghost use Prim.Native.Nat.{_≤_};
 fn place_of(first: usize, entry: usize) -> usize
     ensures { λ r. ⌜ r ≤ 6144 ⌝ }
 {
-    (least(first, sheet::LINES) + least(entry, sheet::LINES)) * sheet::PLACE
+    (least(first, sheet::LINES) + least(entry, sheet::LINES)) * sheet::RECORD
 }
 
-fn put_number(places: &mut [u64], at: usize, n: u64) {
-    if at < places.len() {
-        places[at] = n;
+fn put_number(records: &mut [u64], at: usize, n: u64) {
+    if at < records.len() {
+        records[at] = n;
     }
 }
 
-fn put_entry(line: &[u8], places: &mut [u64], first: usize, entry: usize) {
+fn put_entry(line: &[u8], records: &mut [u64], first: usize, entry: usize) {
     let at = place_of(first, entry);
-    put_number(places, at, ascii::number(line, b' ', 0));
-    put_number(places, at + 1, ascii::number(line, b' ', 1));
-    put_number(places, at + 2, ascii::number(line, b' ', 4));
-    put_number(places, at + 3, ascii::number(line, b' ', 5));
-    put_number(places, at + 4, ascii::number(line, b' ', 2));
-    put_number(places, at + 5, ascii::number(line, b' ', 3));
+    put_number(records, at, ascii::number(line, b' ', 0));
+    put_number(records, at + 1, ascii::number(line, b' ', 1));
+    put_number(records, at + 2, ascii::number(line, b' ', 4));
+    put_number(records, at + 3, ascii::number(line, b' ', 5));
+    put_number(records, at + 4, ascii::number(line, b' ', 2));
+    put_number(records, at + 5, ascii::number(line, b' ', 3));
 }
 
 // Feeds a part of a line to the sheet's reader, which writes to the free half.
-fn fed(s: Script, part: &[u8], run: &mut [u8], places: &mut [u64]) -> State {
+fn fed(s: Script, part: &[u8], run: &mut [u8], records: &mut [u64]) -> State {
     let start = least(s.start, run.len());
-    let place = least(place_of(s.first, 0), places.len());
+    let place = least(place_of(s.first, 0), records.len());
     let before = s.sheet;
-    sheet::read_chunk(before, part, &mut run[start..], &mut places[place..])
+    sheet::read_chunk(before, part, &mut run[start..], &mut records[place..])
 }
 
 // What a sheet's line leaves: the restore, where it is the last, or nothing to do.
@@ -64,18 +64,18 @@ fn line_read(s: Script) -> Script {
 }
 
 // One line of a sheet, its LF with it.
-fn sheet_line(s: Script, line: &[u8], run: &mut [u8], places: &mut [u64]) -> Script {
+fn sheet_line(s: Script, line: &[u8], run: &mut [u8], records: &mut [u64]) -> Script {
     let mut next = s;
-    let read = fed(s, line, run, places);
+    let read = fed(s, line, run, records);
     next.sheet = read;
-    let ended = fed(next, b"\n", run, places);
+    let ended = fed(next, b"\n", run, records);
     next.sheet = ended;
     line_read(next)
 }
 
-fn entry_line(s: Script, line: &[u8], places: &mut [u64]) -> Script {
-    if script::is_entry(line) {
-        put_entry(line, places, s.first, s.entries);
+fn entry_line(s: Script, line: &[u8], records: &mut [u64]) -> Script {
+    if replay_script::is_entry(line) {
+        put_entry(line, records, s.first, s.entries);
         let mut next = s;
         next.entries = std::num::wrapping_add_usize(s.entries, 1);
         if next.left == 0 {
@@ -87,13 +87,13 @@ fn entry_line(s: Script, line: &[u8], places: &mut [u64]) -> Script {
 }
 
 // A line behind a restore.
-fn restore_line(s: Script, line: &[u8], run: &mut [u8], places: &mut [u64]) -> Script {
+fn restore_line(s: Script, line: &[u8], run: &mut [u8], records: &mut [u64]) -> Script {
     let mut next = s;
     next.left = std::num::wrapping_sub_u64(s.left, 1);
     if next.raw {
-        return entry_line(next, line, places);
+        return entry_line(next, line, records);
     }
-    sheet_line(next, line, run, places)
+    sheet_line(next, line, run, records)
 }
 
 // ---- commands
@@ -178,8 +178,8 @@ fn read_contact(version: u32, word: &[u8], row: &[u8], out: &mut [u8]) -> Writte
     let mut above = [0u32; 15360];
     let mut unacked = [0u32; 15360];
     let mut expired = [0u32; 15360];
-    let c = lent::CHAIN_PLACE * at_most(ascii::number(word, b',', 0), CHAINS);
-    let k = lent::SKIPPED_PLACE * at_most(ascii::number(word, b',', 1), SKIPPED);
+    let c = contact_lent::CHAIN_PLACE * at_most(ascii::number(word, b',', 0), CHAINS);
+    let k = contact_lent::SKIPPED_PLACE * at_most(ascii::number(word, b',', 1), SKIPPED);
     let a = 2 * at_most(ascii::number(word, b',', 2), ABOVE);
     let u = at_most(ascii::number(word, b',', 3), UNACKED);
     let e = 2 * at_most(ascii::number(word, b',', 4), EXPIRED);
@@ -218,7 +218,7 @@ fn read_bytes(s: Script, line: &[u8], run: &[u8], n: usize, out: &mut [u8]) -> S
 
 fn read_line(s: Script, line: &[u8], run: &mut [u8], out: &mut [u8]) -> Script {
     let kind = ascii::number(line, b' ', 1);
-    if !script::lengths_for(kind, ascii::word(line, b' ', 3)) {
+    if !replay_script::lengths_for(kind, ascii::word(line, b' ', 3)) {
         return s.unknown();
     }
     let Written::Length(n) = bytes_of(s, ascii::word(line, b' ', 4), run) else {
@@ -233,54 +233,54 @@ fn narrow(n: u64) -> u32 {
 
 // The code of a call that a command is; NOTHING where it is none.
 fn code_of(command: u8) -> u64 {
-    if command == script::OPEN {
-        return call_code::OPEN;
+    if command == replay_script::OPEN {
+        return calls_code::OPEN;
     }
-    if command == script::COVER {
-        return call_code::COVER;
+    if command == replay_script::COVER {
+        return calls_code::COVER;
     }
-    if command == script::CONTAINS {
-        return call_code::CONTAINS;
+    if command == replay_script::CONTAINS {
+        return calls_code::CONTAINS;
     }
-    if command == script::COVERS {
-        return call_code::COVERS;
+    if command == replay_script::COVERS {
+        return calls_code::COVERS;
     }
-    if command == script::TAKE {
-        return call_code::TAKE;
+    if command == replay_script::TAKE {
+        return calls_code::TAKE;
     }
-    if command == script::STATEMENT {
-        return call_code::STATEMENT;
+    if command == replay_script::STATEMENT {
+        return calls_code::STATEMENT;
     }
-    if command == script::WRITE {
-        return call_code::WRITE;
+    if command == replay_script::WRITE {
+        return calls_code::WRITE;
     }
-    if command == script::STATE {
+    if command == replay_script::STATE {
         return STATE;
     }
     NOTHING
 }
 
 fn command_line(s: Script, line: &[u8], run: &mut [u8], out: &mut [u8]) -> Script {
-    let command = script::command(line);
-    if command == script::UNKNOWN {
+    let command = replay_script::command(line);
+    if command == replay_script::UNKNOWN {
         return s.unknown();
     }
-    if command == script::SCRIPT {
+    if command == replay_script::SCRIPT {
         return s.begins();
     }
-    if command == script::RESTORE {
+    if command == replay_script::RESTORE {
         return restore_of(s, ascii::number(line, b' ', 1));
     }
-    if command == script::RAWRESTORE {
+    if command == replay_script::RAWRESTORE {
         return raw_restore_of(s, line, run);
     }
-    if command == script::LEND {
+    if command == replay_script::LEND {
         return lend(s, line);
     }
-    if command == script::VEIL {
+    if command == replay_script::VEIL {
         return veil_line(s, line, run, out);
     }
-    if command == script::READ {
+    if command == replay_script::READ {
         return read_line(s, line, run, out);
     }
     let a = ascii::number(line, b' ', 1);
@@ -300,13 +300,13 @@ pub(super) fn one_line(
     s: Script,
     line: &[u8],
     run: &mut [u8],
-    places: &mut [u64],
+    records: &mut [u64],
     out: &mut [u8],
 ) -> Script {
     let mut next = s.asks(NOTHING, 0, 0, 0, 0);
     next.number = std::num::wrapping_add_u64(s.number, 1);
     if 0 < next.left {
-        return restore_line(next, line, run, places);
+        return restore_line(next, line, run, records);
     }
     if line.len() == 0 {
         return next;

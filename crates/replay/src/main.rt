@@ -1,6 +1,6 @@
 // Replays scripts of calls: reads lines from standard input, makes each call with the proved libraries, and prints its answer as one line.
 // Nothing is kept of a line that was read but what the calls left; a script may be of any length. The store of the last granted restore stands in
-// one half of the run and of the places, and the next one is read into the other half, where a row of veil or read stands too.
+// one half of the run and of the records, and the next one is read into the other half, where a row of veil or read stands too.
 mod answers;
 mod commands;
 mod window;
@@ -8,9 +8,9 @@ mod window;
 use answers::answer;
 use answers::pairs_open;
 use answers::print;
+use calls_session::Session;
 use commands::one_line;
 use rows::Written;
-use session::Session;
 use sheet::State;
 use window::END;
 use window::LINE;
@@ -132,8 +132,8 @@ impl Script {
         expired: u64,
         out: u64,
     ) -> Script {
-        self.chains = lent::CHAIN_PLACE * at_most(chains, CHAINS);
-        self.skipped = lent::SKIPPED_PLACE * at_most(skipped, SKIPPED);
+        self.chains = contact_lent::CHAIN_PLACE * at_most(chains, CHAINS);
+        self.skipped = contact_lent::SKIPPED_PLACE * at_most(skipped, SKIPPED);
         self.above = 2 * at_most(above, ABOVE);
         self.unacked = at_most(unacked, UNACKED);
         self.expired = 2 * at_most(expired, EXPIRED);
@@ -152,7 +152,7 @@ impl Script {
 
     fn restores(self, len: usize, n: usize) -> Script {
         self.asks(
-            call_code::RESTORE,
+            calls_code::RESTORE,
             self.start as u64,
             len as u64,
             self.first as u64,
@@ -173,8 +173,8 @@ impl Script {
     // A row that was written, or why it was not.
     fn shows(self, written: Written) -> Script {
         match written {
-            Written::Length(n) => self.asks(SHOW, call_code::WROTE, n as u64, 0, 0),
-            Written::Refused(number) => self.asks(SHOW, call_code::NO, number as u64, 0, 0),
+            Written::Length(n) => self.asks(SHOW, calls_code::WROTE, n as u64, 0, 0),
+            Written::Refused(number) => self.asks(SHOW, calls_code::NO, number as u64, 0, 0),
         }
     }
 
@@ -200,7 +200,7 @@ fn finish(s: Script, failed: bool, line: &mut [u8]) {
     }
     if 0 < s.left {
         let number = std::num::wrapping_add_u64(s.number, 1);
-        let unknown = transcript::number_line(b"? ", number, line);
+        let unknown = replay_answer::number_line(b"? ", number, line);
         print(unknown, line);
     }
 }
@@ -226,7 +226,7 @@ fn turn(
     w: Window,
     text: &[u8],
     run: &mut [u8],
-    places: &mut [u64],
+    records: &mut [u64],
     chains: &mut [u8],
     skipped: &mut [u8],
     above: &mut [u32],
@@ -242,12 +242,12 @@ fn turn(
             over: false,
         };
     }
-    let asked = one_line(s, line_in(w, text), run, places, out);
+    let asked = one_line(s, line_in(w, text), run, records, out);
     let answered = answer(
         session,
         asked,
         run,
-        places,
+        records,
         chains,
         skipped,
         above,
@@ -272,7 +272,7 @@ fn turn(
 fn replay(
     text: &mut [u8],
     run: &mut [u8],
-    places: &mut [u64],
+    records: &mut [u64],
     chains: &mut [u8],
     skipped: &mut [u8],
     above: &mut [u32],
@@ -281,7 +281,7 @@ fn replay(
     out: &mut [u8],
     line: &mut [u8],
 ) {
-    let mut session = session::begin();
+    let mut session = calls_session::begin();
     let mut s = Script::new();
     let mut w = Window::new();
     let mut turns = u64::MAX;
@@ -298,7 +298,7 @@ fn replay(
             w,
             text,
             run,
-            places,
+            records,
             chains,
             skipped,
             above,
@@ -325,20 +325,20 @@ fn window_bytes() -> [u8; 262144]
     [0; 262144]
 }
 
-// Two runs, and the places of two times 512 entries.
+// Two runs, and the records of two times 512 entries.
 fn runs() -> [u8; 122880]
     ensures { λ r. ⌜ 122880 ≡ length r ⌝ }
 {
     [0; 122880]
 }
 
-fn entry_places() -> [u64; 6144]
+fn entry_records() -> [u64; 6144]
     ensures { λ r. ⌜ 6144 ≡ length r ⌝ }
 {
     [0; 6144]
 }
 
-// The places of 256 chains, of 500 skipped keys, of 7,680 pairs or 15,360 numbers.
+// The records of 256 chains, of 500 skipped keys, of 7,680 pairs or 15,360 numbers.
 fn chain_places() -> [u8; 13056]
     ensures { λ r. ⌜ 13056 ≡ length r ⌝ }
 {
@@ -367,7 +367,7 @@ fn longest_line() -> [u8; 431360]
 fn main() {
     let mut text = window_bytes();
     let mut run = runs();
-    let mut places = entry_places();
+    let mut records = entry_records();
     let mut chains = chain_places();
     let mut skipped = skipped_places();
     let mut above = numbers();
@@ -378,7 +378,7 @@ fn main() {
     replay(
         &mut text,
         &mut run,
-        &mut places,
+        &mut records,
         &mut chains,
         &mut skipped,
         &mut above,

@@ -15,7 +15,7 @@ use Rattle.store.specs.Store.{entryAt, isOf}
 use Rattle.store.specs.Find.{isWanted, firstOf}
 use Rattle.store.proofs.Tests.{truth, false-not, both, pair}
 use Rattle.store.proofs.Searches.{FirstAt, first-at}
-use Rattle.across.specs.Across.{contactOf, earlier, placeOr, tried, nearLimit, farLimit, chosen, OwnerAt}
+use Rattle.restore_across.specs.Across.{contactOf, earlier, placeOr, tried, nearLimit, farLimit, chosen, OwnerAt}
 
 earlier-low : (a b : ℕ) → earlier a b ≤ b
 earlier-low a b = go (leb a b) refl
@@ -73,14 +73,14 @@ module _ (es : List Entry) (e : Entry) where
       go false is = before (nltb→le p upto (false-not (ltb p upto) is)) (ltb (firstOf es (contactOf e) 0 near) near) refl
 
   -- at a place where it is thought to stand, or else by a search
-  found-at : (upto spot p : ℕ) → (p < upto → T (isIts p))
-      → (let near = nearLimit p spot upto in let q = firstOf es (contactOf e) near (upto - near) in let far = farLimit p q near upto in OwnerAt es e upto (chosen p q (firstOf es (contactOf e) 0 far) far upto))
-  found-at upto spot p hit = go (ltb p upto) refl
+  found-at : (upto latest p : ℕ) → (p < upto → T (isIts p))
+      → (let near = nearLimit p latest upto in let q = firstOf es (contactOf e) near (upto - near) in let far = farLimit p q near upto in OwnerAt es e upto (chosen p q (firstOf es (contactOf e) 0 far) far upto))
+  found-at upto latest p hit = go (ltb p upto) refl
     where
-      go : (t : Bool) → ltb p upto ≡ t → (let near = cond t upto (earlier spot upto) in let q = firstOf es (contactOf e) near (upto - near) in let far = cond t 0 (cond (ltb q upto) 0 near) in
+      go : (t : Bool) → ltb p upto ≡ t → (let near = cond t upto (earlier latest upto) in let q = firstOf es (contactOf e) near (upto - near) in let far = cond t 0 (cond (ltb q upto) 0 near) in
           let o = firstOf es (contactOf e) 0 far in OwnerAt es e upto (cond t p (cond (ltb q upto) q (cond (ltb o far) o upto))))
       go true is = let l = ltb→lt p upto (truth (ltb p upto) is) in record { hit = hit; misses = λ over. absurd (omega arith) }
-      go false is = searched upto (earlier spot upto) (earlier-low spot upto)
+      go false is = searched upto (earlier latest upto) (earlier-low latest upto)
 
   -- what is compared is the contact
   place-hit : (place upto other : ℕ) → (other < upto → T (isIts other)) → placeOr e (entryAt es place) place upto other < upto → T (isIts (placeOr e (entryAt es place) place upto other))
@@ -91,14 +91,14 @@ module _ (es : List Entry) (e : Entry) where
       go true false is low = hit low
       go false t is low = hit low
 
-  tried-hit : (spot hint upto : ℕ) → (let p = tried e (entryAt es spot) spot (entryAt es hint) hint upto in p < upto → T (isIts p))
-  tried-hit spot hint upto = place-hit spot upto (placeOr e (entryAt es hint) hint upto upto) (place-hit hint upto upto (λ l. absurd (omega arith)))
+  tried-hit : (latest hint upto : ℕ) → (let p = tried e (entryAt es latest) latest (entryAt es hint) hint upto in p < upto → T (isIts p))
+  tried-hit latest hint upto = place-hit latest upto (placeOr e (entryAt es hint) hint upto upto) (place-hit hint upto upto (λ l. absurd (omega arith)))
 
-  pub owner-is : (upto spot hint : ℕ) (a b : Entry) (p near q far o r : ℕ) (w : Wanted) → w ≡ contactOf e → a ≡ entryAt es spot → b ≡ entryAt es hint → p ≡ tried e a spot b hint upto
-      → near ≡ nearLimit p spot upto → q ≡ firstOf es w near (upto - near) → far ≡ farLimit p q near upto → o ≡ firstOf es w 0 (far - 0) → r ≡ chosen p q o far upto → OwnerAt es e upto r
-  owner-is upto spot hint a b p near q far o r w is-w is-a is-b is-p is-near is-q is-far is-o is-r =
-      let hit : p < upto → T (isIts p) = subst (λ (x : ℕ). x < upto → T (isIts x)) (sym (is-p ∙ (λ k. tried e (is-a k) spot (is-b k) hint upto))) (tried-hit spot hint upto) in
-      let q′ : q ≡ firstOf es (contactOf e) (nearLimit p spot upto) (upto - nearLimit p spot upto) = is-q ∙ (λ k. firstOf es (is-w k) (is-near k) (upto - is-near k)) in
-      let far′ : far ≡ farLimit p (firstOf es (contactOf e) (nearLimit p spot upto) (upto - nearLimit p spot upto)) (nearLimit p spot upto) upto = is-far ∙ (λ k. farLimit p (q′ k) (is-near k) upto) in
+  pub owner-is : (upto latest hint : ℕ) (a b : Entry) (p near q far o r : ℕ) (w : Wanted) → w ≡ contactOf e → a ≡ entryAt es latest → b ≡ entryAt es hint → p ≡ tried e a latest b hint upto
+      → near ≡ nearLimit p latest upto → q ≡ firstOf es w near (upto - near) → far ≡ farLimit p q near upto → o ≡ firstOf es w 0 (far - 0) → r ≡ chosen p q o far upto → OwnerAt es e upto r
+  owner-is upto latest hint a b p near q far o r w is-w is-a is-b is-p is-near is-q is-far is-o is-r =
+      let hit : p < upto → T (isIts p) = subst (λ (x : ℕ). x < upto → T (isIts x)) (sym (is-p ∙ (λ k. tried e (is-a k) latest (is-b k) hint upto))) (tried-hit latest hint upto) in
+      let q′ : q ≡ firstOf es (contactOf e) (nearLimit p latest upto) (upto - nearLimit p latest upto) = is-q ∙ (λ k. firstOf es (is-w k) (is-near k) (upto - is-near k)) in
+      let far′ : far ≡ farLimit p (firstOf es (contactOf e) (nearLimit p latest upto) (upto - nearLimit p latest upto)) (nearLimit p latest upto) upto = is-far ∙ (λ k. farLimit p (q′ k) (is-near k) upto) in
       let o′ = is-o ∙ (ap (firstOf es w 0) (sub-zero far) ∙ (λ j. firstOf es (is-w j) 0 (far′ j))) in
-      subst (OwnerAt es e upto) (sym (is-r ∙ (λ k. chosen p (q′ k) (o′ k) (far′ k) upto))) (found-at upto spot p hit)
+      subst (OwnerAt es e upto) (sym (is-r ∙ (λ k. chosen p (q′ k) (o′ k) (far′ k) upto))) (found-at upto latest p hit)

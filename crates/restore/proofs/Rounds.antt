@@ -7,18 +7,18 @@ use native.Mathlib.Numerals.{add-one}
 use mathlib.Core.List.{List}
 use mathlib.Core.Path.{_≡_, _∙_, ap}
 use Rattle.store.specs.declared.Entry.{Entry}
-use Rattle.store.specs.declared.Aside.{Aside}
+use Rattle.store.specs.declared.Omitted.{Omitted}
 use Rattle.store.specs.declared.Asked.{Asked}
 use Rattle.store.specs.Rounds.{Round, turn, turns}
 use Rattle.store.specs.Store.{entryAt}
-use Rattle.rounds.specs.Rounds.{roundOf, roundAsks}
-use Rattle.rounds.proofs.Laws.{asks-is}
+use Rattle.restore_rounds.specs.Rounds.{roundOf, roundAsks}
+use Rattle.restore_rounds.proofs.Laws.{asks-is}
 
 -- ---- one turn
-pub turn-is : (run : List ℕ) (es : List Entry) (aside : Aside) (q i j : ℕ) (b e : Entry) (a r : Asked) → j ≡ i - 1 → b ≡ entryAt es j → e ≡ entryAt es i → r ≡ turn (roundAsks run aside b e q i) i a
-    → r ≡ turn (roundOf q run es aside i) i a
-turn-is run es aside q i j b e a r is-j is-b is-e is-r =
-    is-r ∙ ap (λ o. turn o i a) ((λ k. roundAsks run aside ((is-b ∙ ap (entryAt es) is-j) k) (is-e k) q i) ∙ asks-is run es aside q i)
+pub turn-is : (run : List ℕ) (es : List Entry) (omitted : Omitted) (q i j : ℕ) (b e : Entry) (a r : Asked) → j ≡ i - 1 → b ≡ entryAt es j → e ≡ entryAt es i → r ≡ turn (roundAsks run omitted b e q i) i a
+    → r ≡ turn (roundOf q run es omitted i) i a
+turn-is run es omitted q i j b e a r is-j is-b is-e is-r =
+    is-r ∙ ap (λ o. turn o i a) ((λ k. roundAsks run omitted ((is-b ∙ ap (entryAt es) is-j) k) (is-e k) q i) ∙ asks-is run es omitted q i)
 
 -- ---- a loop: what is left of the round makes of a what all of it makes of `asked`
 pub record Still (round : Round) (upto : ℕ) (asked : Asked) (i : ℕ) (a : Asked) : Type 0 where

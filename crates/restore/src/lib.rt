@@ -1,19 +1,19 @@
 // Restore: questions 1 to 33 of a run of bytes and an entry for each row. It writes to nothing.
-use across::Across;
 use layout::question;
-use store::Aside;
+use restore_across::Across;
 use store::Asked;
 use store::Entry;
+use store::Omitted;
 ghost use mathlib.Core.Path.{_≡_};
 ghost use Prim.Native.Nat.{_+_, _-_, _≤_, _<_};
 ghost use lib.ListN.{length};
 ghost use Rattle.store.specs.Rounds.{turn, turns};
 ghost use Rattle.store.specs.Store.{storeOf, restore};
-ghost use Rattle.store.specs.Twins.{firstTwin};
-ghost use Rattle.rounds.specs.Rounds.{roundOf};
-ghost use Rattle.across.specs.Across.{OwnerAt};
-ghost use Rattle.across.specs.At.{At};
-ghost use Rattle.store.specs.declared.Aside.the-variants.{Nothing};
+ghost use Rattle.store.specs.Duplicates.{firstDuplicate};
+ghost use Rattle.restore_rounds.specs.Rounds.{roundOf};
+ghost use Rattle.restore_across.specs.Across.{OwnerAt};
+ghost use Rattle.restore_across.specs.At.{At};
+ghost use Rattle.store.specs.declared.Omitted.the-variants.{Nothing};
 ghost use Rattle.restore.specs.Index.{hintIn, turnsDone};
 ghost use Rattle.restore.specs.Restored.{begunWith, ended, answered, questioned};
 
@@ -41,11 +41,11 @@ fn begin(n: usize) -> Asked
     Asked::Going
 }
 
-// No row is left aside.
-fn nothing() -> Aside
+// No row is left out.
+fn nothing() -> Omitted
     ensures { λ r. ⌜ r ≡ Nothing ⌝ }
 {
-    Aside::Nothing
+    Omitted::Nothing
 }
 
 fn answer(state: Across) -> Restored
@@ -64,24 +64,31 @@ fn before(i: usize) -> usize
     if i == 0 { 0 } else { i - 1 }
 }
 
-fn turn_at(run: &[u8], entries: &[Entry], aside: Aside, round: u8, i: usize, asked: Asked) -> Asked
-    ensures { λ r. ⌜ r ≡ turn (roundOf round (now (run .entry)) (now (entries .entry)) aside i) i asked ⌝ }
+fn turn_at(
+    run: &[u8],
+    entries: &[Entry],
+    omitted: Omitted,
+    round: u8,
+    i: usize,
+    asked: Asked,
+) -> Asked
+    ensures { λ r. ⌜ r ≡ turn (roundOf round (now (run .entry)) (now (entries .entry)) omitted i) i asked ⌝ }
 {
     let j = before(i);
-    let b = entries::entry_at(entries, j);
-    let e = entries::entry_at(entries, i);
-    rounds::turn(run, aside, b, e, round, i, asked)
+    let b = restore_entries::entry_at(entries, j);
+    let e = restore_entries::entry_at(entries, i);
+    restore_rounds::turn(run, omitted, b, e, round, i, asked)
 }
 
 // A round of all entries.
-fn turns(run: &[u8], entries: &[Entry], aside: Aside, round: u8, asked: Asked) -> Asked
-    ensures { λ r. ⌜ r ≡ turns (roundOf round (now (run .entry)) (now (entries .entry)) aside) 0 (length (now (entries .entry))) asked ⌝ }
+fn turns(run: &[u8], entries: &[Entry], omitted: Omitted, round: u8, asked: Asked) -> Asked
+    ensures { λ r. ⌜ r ≡ turns (roundOf round (now (run .entry)) (now (entries .entry)) omitted) 0 (length (now (entries .entry))) asked ⌝ }
 {
-    let n = entries::entry_count(entries);
+    let n = restore_entries::entry_count(entries);
     let mut i = 0;
     let mut a = asked;
     while i < n {
-        a = turn_at(run, entries, aside, round, i, a);
+        a = turn_at(run, entries, omitted, round, i, a);
         i = i + 1;
     }
     a
@@ -117,7 +124,7 @@ fn note(index: &mut [u32], e: Entry, i: usize) -> usize
 fn note_at(entries: &[Entry], index: &mut [u32], i: usize) -> usize
     ensures { λ r. ⌜ r ≡ length (now (index .exit)) ⌝ }
 {
-    let e = entries::entry_at(entries, i);
+    let e = restore_entries::entry_at(entries, i);
     note(index, e, i)
 }
 
@@ -125,7 +132,7 @@ fn note_at(entries: &[Entry], index: &mut [u32], i: usize) -> usize
 fn note_all(entries: &[Entry], index: &mut [u32]) -> usize
     ensures { λ r. ⌜ r ≤ length (now (index .exit)) ⌝ }
 {
-    let n = entries::entry_count(entries);
+    let n = restore_entries::entry_count(entries);
     let mut i = 0;
     let mut count = 0;
     while i < n {
@@ -156,44 +163,44 @@ fn hint_of(index: &[u32], e: Entry, upto: usize) -> usize
     in_full(index[at])
 }
 
-// Where the contact of a queued row stands, below `upto`: at the kept spot, or where the index says; else from the kept spot on, and then from the start. `upto`
+// Where the contact of a queued row stands, below `upto`: at the kept index, or where the index says; else from the kept index on, and then from the start. `upto`
 // where there is none.
-fn owner_at(entries: &[Entry], index: &[u32], e: Entry, upto: usize, spot: usize) -> usize
+fn owner_at(entries: &[Entry], index: &[u32], e: Entry, upto: usize, latest: usize) -> usize
     ensures { λ r. ⌜ OwnerAt (now (entries .entry)) e upto r ⌝ }
 {
-    let wanted = across::contact_of(e);
+    let wanted = restore_across::contact_of(e);
     let hint = hint_of(index, e, upto);
-    let a = entries::entry_at(entries, spot);
-    let b = entries::entry_at(entries, hint);
-    let p = across::tried(e, a, spot, b, hint, upto);
-    let near = across::near_limit(p, spot, upto);
-    let q = entries::find(entries, wanted, near, upto);
-    let far = across::far_limit(p, q, near, upto);
-    let o = entries::find(entries, wanted, 0, far);
-    across::chosen(p, q, o, far, upto)
+    let a = restore_entries::entry_at(entries, latest);
+    let b = restore_entries::entry_at(entries, hint);
+    let p = restore_across::tried(e, a, latest, b, hint, upto);
+    let near = restore_across::near_limit(p, latest, upto);
+    let q = restore_entries::find(entries, wanted, near, upto);
+    let far = restore_across::far_limit(p, q, near, upto);
+    let o = restore_entries::find(entries, wanted, 0, far);
+    restore_across::chosen(p, q, o, far, upto)
 }
 
-// ---- 25 to 33; `twin` is the first entry that has a twin
+// ---- 25 to 33; `duplicate` is the first entry that has a duplicate
 
 fn across_at(
     run: &[u8],
     entries: &[Entry],
     index: &[u32],
-    aside: Aside,
-    twin: usize,
+    omitted: Omitted,
+    duplicate: usize,
     i: usize,
     state: Across,
 ) -> Across
-    requires { ⌜ (twin ≡ firstTwin (now entries)) × (i < length (now entries)) × At (now run) (now entries) aside i state ⌝ }
-    ensures { λ r. ⌜ At (now (run .entry)) (now (entries .entry)) aside (i + 1) r ⌝ }
+    requires { ⌜ (duplicate ≡ firstDuplicate (now entries)) × (i < length (now entries)) × At (now run) (now entries) omitted i state ⌝ }
+    ensures { λ r. ⌜ At (now (run .entry)) (now (entries .entry)) omitted (i + 1) r ⌝ }
 {
-    let e = entries::entry_at(entries, i);
-    let limit = across::owner_limit(e, i, state);
-    let spot = across::spot_of(state);
-    let p = owner_at(entries, index, e, limit, spot);
-    let c = entries::entry_at(entries, p);
-    let owner = across::owner_of(run, aside, c, p, limit, state);
-    across::settle(run, e, c, i, p, twin, owner, state)
+    let e = restore_entries::entry_at(entries, i);
+    let limit = restore_across::owner_limit(e, i, state);
+    let latest = restore_across::latest_of(state);
+    let p = owner_at(entries, index, e, limit, latest);
+    let c = restore_entries::entry_at(entries, p);
+    let owner = restore_across::owner_of(run, omitted, c, p, limit, state);
+    restore_across::entry_turn(run, e, c, i, p, duplicate, owner, state)
 }
 
 // Of all entries.
@@ -201,18 +208,18 @@ fn across_turns(
     run: &[u8],
     entries: &[Entry],
     index: &[u32],
-    aside: Aside,
-    twin: usize,
+    omitted: Omitted,
+    duplicate: usize,
     state: Across,
 ) -> Across
-    requires { ⌜ (twin ≡ firstTwin (now entries)) × At (now run) (now entries) aside 0 state ⌝ }
-    ensures { λ r. ⌜ At (now (run .entry)) (now (entries .entry)) aside (length (now (entries .entry))) r ⌝ }
+    requires { ⌜ (duplicate ≡ firstDuplicate (now entries)) × At (now run) (now entries) omitted 0 state ⌝ }
+    ensures { λ r. ⌜ At (now (run .entry)) (now (entries .entry)) omitted (length (now (entries .entry))) r ⌝ }
 {
-    let n = entries::entry_count(entries);
+    let n = restore_entries::entry_count(entries);
     let mut i = 0;
     let mut after = state;
     while i < n {
-        after = across_at(run, entries, index, aside, twin, i, after);
+        after = across_at(run, entries, index, omitted, duplicate, i, after);
         i = i + 1;
     }
     after
@@ -220,26 +227,26 @@ fn across_turns(
 
 // With a filter and an index of 1 KB, and with a filter of 64 KB and an index of 256 KB. A frame as large as that is touched page by page wherever it is entered:
 // `many_turns` has two callers, so that it is compiled to a function of its own and a small store's restore does not enter it.
-fn few_turns(run: &[u8], entries: &[Entry], aside: Aside, state: Across) -> Across
-    requires { ⌜ At (now run) (now entries) aside 0 state ⌝ }
-    ensures { λ r. ⌜ At (now (run .entry)) (now (entries .entry)) aside (length (now (entries .entry))) r ⌝ }
+fn few_turns(run: &[u8], entries: &[Entry], omitted: Omitted, state: Across) -> Across
+    requires { ⌜ At (now run) (now entries) omitted 0 state ⌝ }
+    ensures { λ r. ⌜ At (now (run .entry)) (now (entries .entry)) omitted (length (now (entries .entry))) r ⌝ }
 {
-    let twin = twins::first_of_few(entries);
+    let duplicate = restore_duplicates::first_of_few(entries);
     let place = no_place();
     let mut index = [place; 256];
     let count = note_all(entries, &mut index[..]);
-    across_turns(run, entries, &index[..count], aside, twin, state)
+    across_turns(run, entries, &index[..count], omitted, duplicate, state)
 }
 
-fn many_turns(run: &[u8], entries: &[Entry], aside: Aside, state: Across) -> Across
-    requires { ⌜ At (now run) (now entries) aside 0 state ⌝ }
-    ensures { λ r. ⌜ At (now (run .entry)) (now (entries .entry)) aside (length (now (entries .entry))) r ⌝ }
+fn many_turns(run: &[u8], entries: &[Entry], omitted: Omitted, state: Across) -> Across
+    requires { ⌜ At (now run) (now entries) omitted 0 state ⌝ }
+    ensures { λ r. ⌜ At (now (run .entry)) (now (entries .entry)) omitted (length (now (entries .entry))) r ⌝ }
 {
-    let twin = twins::first_of_many(entries);
+    let duplicate = restore_duplicates::first_of_many(entries);
     let place = no_place();
     let mut index = [place; 65536];
     let count = note_all(entries, &mut index[..]);
-    across_turns(run, entries, &index[..count], aside, twin, state)
+    across_turns(run, entries, &index[..count], omitted, duplicate, state)
 }
 
 // How often the turns are made so of n entries: once of few, of many or of most, and not of the others.
@@ -274,18 +281,18 @@ fn most_times(often: usize) -> usize
 fn few_if(
     run: &[u8],
     entries: &[Entry],
-    aside: Aside,
+    omitted: Omitted,
     often: usize,
     times: usize,
     state: Across,
 ) -> Across
-    requires { ⌜ (times ≤ 1 - often) × At (now run) (now entries) aside (turnsDone often (length (now entries))) state ⌝ }
-    ensures { λ r. ⌜ At (now (run .entry)) (now (entries .entry)) aside (turnsDone (often + times) (length (now (entries .entry)))) r ⌝ }
+    requires { ⌜ (times ≤ 1 - often) × At (now run) (now entries) omitted (turnsDone often (length (now entries))) state ⌝ }
+    ensures { λ r. ⌜ At (now (run .entry)) (now (entries .entry)) omitted (turnsDone (often + times) (length (now (entries .entry)))) r ⌝ }
 {
     let mut time = 0;
     let mut after = state;
     while time < times {
-        after = few_turns(run, entries, aside, after);
+        after = few_turns(run, entries, omitted, after);
         time = time + 1;
     }
     after
@@ -294,18 +301,18 @@ fn few_if(
 fn many_if(
     run: &[u8],
     entries: &[Entry],
-    aside: Aside,
+    omitted: Omitted,
     often: usize,
     times: usize,
     state: Across,
 ) -> Across
-    requires { ⌜ (times ≤ 1 - often) × At (now run) (now entries) aside (turnsDone often (length (now entries))) state ⌝ }
-    ensures { λ r. ⌜ At (now (run .entry)) (now (entries .entry)) aside (turnsDone (often + times) (length (now (entries .entry)))) r ⌝ }
+    requires { ⌜ (times ≤ 1 - often) × At (now run) (now entries) omitted (turnsDone often (length (now entries))) state ⌝ }
+    ensures { λ r. ⌜ At (now (run .entry)) (now (entries .entry)) omitted (turnsDone (often + times) (length (now (entries .entry)))) r ⌝ }
 {
     let mut time = 0;
     let mut after = state;
     while time < times {
-        after = many_turns(run, entries, aside, after);
+        after = many_turns(run, entries, omitted, after);
         time = time + 1;
     }
     after
@@ -314,46 +321,46 @@ fn many_if(
 fn most_if(
     run: &[u8],
     entries: &[Entry],
-    aside: Aside,
+    omitted: Omitted,
     often: usize,
     times: usize,
     state: Across,
 ) -> Across
-    requires { ⌜ (times ≤ 1 - often) × At (now run) (now entries) aside (turnsDone often (length (now entries))) state ⌝ }
-    ensures { λ r. ⌜ At (now (run .entry)) (now (entries .entry)) aside (turnsDone (often + times) (length (now (entries .entry)))) r ⌝ }
+    requires { ⌜ (times ≤ 1 - often) × At (now run) (now entries) omitted (turnsDone often (length (now entries))) state ⌝ }
+    ensures { λ r. ⌜ At (now (run .entry)) (now (entries .entry)) omitted (turnsDone (often + times) (length (now (entries .entry)))) r ⌝ }
 {
     let mut time = 0;
     let mut after = state;
     while time < times {
-        after = many_turns(run, entries, aside, after);
+        after = many_turns(run, entries, omitted, after);
         time = time + 1;
     }
     after
 }
 
-// Questions 1 to 33, with the row of a contact left aside, or with none.
-pub fn questions(run: &[u8], entries: &[Entry], aside: Aside) -> Restored
-    ensures { λ r. ⌜ r ≡ questioned (now (run .entry)) (now (entries .entry)) aside ⌝ }
+// Questions 1 to 33, with the row of a contact left out, or with none.
+pub fn questions(run: &[u8], entries: &[Entry], omitted: Omitted) -> Restored
+    ensures { λ r. ⌜ r ≡ questioned (now (run .entry)) (now (entries .entry)) omitted ⌝ }
 {
-    let n = entries::entry_count(entries);
+    let n = restore_entries::entry_count(entries);
     let begun = begin(n);
-    let ordered = turns(run, entries, aside, question::ORDER, begun);
-    let bounded = turns(run, entries, aside, question::BOUNDS, ordered);
-    let read = turns(run, entries, aside, question::VERSION, bounded);
-    let state = across::begin(read);
+    let ordered = turns(run, entries, omitted, question::ORDER, begun);
+    let bounded = turns(run, entries, omitted, question::BOUNDS, ordered);
+    let read = turns(run, entries, omitted, question::VERSION, bounded);
+    let state = restore_across::begin(read);
     let few = few_times(n);
-    let some = few_if(run, entries, aside, 0, few, state);
+    let some = few_if(run, entries, omitted, 0, few, state);
     let many = many_times(n, few);
-    let more = many_if(run, entries, aside, few, many, some);
+    let more = many_if(run, entries, omitted, few, many, some);
     let often = sum(few, many);
     let most = most_times(often);
-    let end = most_if(run, entries, aside, often, most, more);
+    let end = most_if(run, entries, omitted, often, most, more);
     answer(end)
 }
 
 pub fn restore(run: &[u8], entries: &[Entry]) -> Restored
     ensures { λ r. ⌜ r ≡ answered (restore (storeOf (now (run .entry)) (now (entries .entry)))) ⌝ }
 {
-    let aside = nothing();
-    questions(run, entries, aside)
+    let omitted = nothing();
+    questions(run, entries, omitted)
 }

@@ -18,7 +18,7 @@ use Rattle.rows.specs.declared.Verdict.the-variants.{Accepted, Refused}
 use Rattle.contact.specs.Contact as contacts
 use Rattle.contact.specs.Contact.{Lists, longEnough, opened, reads}
 use Rattle.contact.specs.declared.ContactRead.{ContactRead}
-use Rattle.contact_put.specs.Row.{writesContact}
+use Rattle.contact_image.specs.Row.{writesContact}
 use Rattle.contact_laws.proofs.RoundTrip.{contact-laws}
 use Rattle.rewrite.specs.Rewrite.{Left, leaves, rewritten, rewrites, withoutRoom}
 

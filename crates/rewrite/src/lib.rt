@@ -1,4 +1,5 @@
 // Rows read, and written again to the front of an output: what reading a row asks, then room for it. A refusal changes nothing.
+use contact::Contact;
 use contact::ContactCheck;
 use layout::question;
 use rows::Verdict;
@@ -101,7 +102,7 @@ pub fn rewrite_contact(
             expired,
         ));
     }
-    let read = contact::read_contact(version, row, chains, skipped, above, unacked, expired);
+    let read = Contact::decode(version, row, chains, skipped, above, unacked, expired);
     let verdict = read.verdict;
     if let Verdict::Refused(number) = verdict {
         return Written::Refused(number);

@@ -20,7 +20,7 @@ use Rattle.layout.proofs.Nested.{either-lawful}
 use Rattle.layout.proofs.Leb.{leb128-lawful}
 use Rattle.layout.proofs.Derived.{optional-lawful, list-lawful, sized-lawful, onlyIf-plain, optional-plain, list-plain, list-unseen, list-as-long}
 use Rattle.rows.specs.Values.{Range}
-use Rattle.rows.specs.Checks.{kci, place, sealedQueued, sealedCarried, count, distinct, samePlace}
+use Rattle.rows.specs.Checks.{kci, keyOf, sealedQueued, sealedCarried, count, distinct, sameKey}
 use Rattle.rows.specs.Rows.{roleOf, roleByte, modeOf, modeByte, verificationOf, verificationByte, dirOf, dirByte, role, mode, verification, dir}
 use Rattle.rows.specs.Rows.{device, card, cardRow, pending, send, chain, skipped, range, contact, ownEnvelope, queued, carried, tombstone, courier}
 use Rattle.rows.specs.declared.PairingRole.{PairingRole}
@@ -210,7 +210,7 @@ contact-blind version lv =
     fin «ROW_END»
     (b-ask (ap (λ l. leb (count not l) 1) (list-unseen (group chain) lv (λ c. present (c .«superseded_s»)) (λ c. present-map (λ n. n) (c .«superseded_s»)) cs cs′ e8))
     (b-ask (ap (distinct eqb) (list-unseen (group chain) lv (λ c. c .gen) (λ c. refl) cs cs′ e8))
-    (b-ask (ap (distinct samePlace) (list-unseen (group skipped) lv place (λ k. refl) ks ks′ e9))
+    (b-ask (ap (distinct sameKey) (list-unseen (group skipped) lv keyOf (λ k. refl) ks ks′ e9))
     (b-ask (ap (λ (n : ℕ). leb n 500) (list-as-long (group skipped) lv ks ks′ e9))
     (b-ask refl (b-ask refl (b-ask refl (b-ask refl (b-done (λ i. record {
       role = r;

@@ -21,10 +21,10 @@ use Rattle.layout.specs.Layout as layout
 use Rattle.rows.specs.Utf8.{utf8}
 use Rattle.rows.specs.Values.{Device, Card, Chain, Skipped, Range, Contact, Queued, Carried, Courier}
 use Rattle.rows.specs.Checks.{any, count, distinct, versionKnown, capsKnown, nameShort, courierAllowed, sealedQueued, sealedCarried, notZero}
-use Rattle.rows.specs.Checks.{oneChainAtMost, gensDistinct, Place, place, samePlace, placesDistinct, fewSkipped, ackedSent, rising, canonical, noneAbove}
+use Rattle.rows.specs.Checks.{oneChainAtMost, gensDistinct, ChainKey, keyOf, sameKey, keysDistinct, fewSkipped, ackedSent, rising, canonical, noneAbove}
 use Rattle.rows.specs.Rows.{device, card, cardRow, pending, send, chain, skipped, range, contact, ownEnvelope, queued, carried, courier}
 use Rattle.rows.proofs.Tests.{either, or-left, or-right, and-both, both-and}
-use Rattle.rows.specs.Meets.{chainAt, skippedAt, msgnoAt, rangeAt, MeetsCard, MeetsDevice, MeetsQueued, MeetsCarried, MeetsCourier, OneChainAtMost, GensDistinct, PlacesDistinct, Rising, Canonical, NoneAbove, Consistent, MeetsContact, MeetsLaws}
+use Rattle.rows.specs.Meets.{chainAt, skippedAt, msgnoAt, rangeAt, MeetsCard, MeetsDevice, MeetsQueued, MeetsCarried, MeetsCourier, OneChainAtMost, GensDistinct, KeysDistinct, Rising, Canonical, NoneAbove, Consistent, MeetsContact, MeetsLaws}
 
 -- ---- questions one after the other
 some≢none : {q : ℕ} → some q ≡ none → ⊥
@@ -141,25 +141,25 @@ module _ (chains : List Chain) where
   )
 
 -- ---- 19
-same-place : (x y : Place) → (samePlace x y ≡ true) ↔ ((x .gen ≡ y .gen) × (x .idx ≡ y .idx))
+same-place : (x y : ChainKey) → (sameKey x y ≡ true) ↔ ((x .gen ≡ y .gen) × (x .idx ≡ y .idx))
 same-place x y = (
   (λ e. let p = and-both (eqb (x .gen) (y .gen)) (eqb (x .idx) (y .idx)) e in (eqb-true _ _ (p .0), eqb-true _ _ (p .1))),
   (λ h. both-and (eqb (x .gen) (y .gen)) (eqb (x .idx) (y .idx)) (eq-eqb _ _ (h .0)) (eq-eqb _ _ (h .1))),
 )
 
 module _ (skipped : List Skipped) where
-  abbrev nowhere : Place
+  abbrev nowhere : ChainKey
   nowhere = record { gen = 0; idx = 0 }
 
-  place-at : (i : ℕ) → getD (map place skipped) i nowhere ≡ place (skippedAt skipped i)
-  place-at i = List·getD-map place skipped i _
+  place-at : (i : ℕ) → getD (map keyOf skipped) i nowhere ≡ keyOf (skippedAt skipped i)
+  place-at i = List·getD-map keyOf skipped i _
 
-  skipped-keys : (placesDistinct skipped ≡ true) ↔ PlacesDistinct skipped
+  skipped-keys : (keysDistinct skipped ≡ true) ↔ KeysDistinct skipped
   skipped-keys = (
-    (λ e i j ij h s t. distinct-each nowhere samePlace (map place skipped) e i j ij (rw length-map h)
-        (rw (place-at i, place-at j) (same-place (place (skippedAt skipped i)) (place (skippedAt skipped j)) .1 (s, t)))),
-    (λ f. each-distinct nowhere samePlace (map place skipped) (λ i j ij h t.
-        let p = same-place (place (skippedAt skipped i)) (place (skippedAt skipped j)) .0 (rw (place-at i, place-at j) at t) in
+    (λ e i j ij h s t. distinct-each nowhere sameKey (map keyOf skipped) e i j ij (rw length-map h)
+        (rw (place-at i, place-at j) (same-place (keyOf (skippedAt skipped i)) (keyOf (skippedAt skipped j)) .1 (s, t)))),
+    (λ f. each-distinct nowhere sameKey (map keyOf skipped) (λ i j ij h t.
+        let p = same-place (keyOf (skippedAt skipped i)) (keyOf (skippedAt skipped j)) .0 (rw (place-at i, place-at j) at t) in
         f i j ij (rw length-map at h) (p .0) (p .1))),
   )
 
@@ -346,7 +346,7 @@ module _ (version : ℕ) where
   asks c =
       cond (oneChainAtMost (c .chains))
       (cond (gensDistinct (c .chains))
-      (cond (placesDistinct (c .skipped))
+      (cond (keysDistinct (c .skipped))
       (cond (fewSkipped (c .skipped))
       (cond (ackedSent (c .«peer_acked») (c .«sent_msgno»))
       (cond (rising 1 (c .«sent_msgno») (c .unacked))
@@ -371,7 +371,7 @@ module _ (version : ℕ) where
   asks-consistent c e =
       let current = asked-yes «CHAINS_CURRENT» (oneChainAtMost (c .chains)) _ e in
       let gens = asked-yes «CHAINS_GENS» (gensDistinct (c .chains)) _ (current .1) in
-      let keys = asked-yes «SKIPPED_KEYS» (placesDistinct (c .skipped)) _ (gens .1) in
+      let keys = asked-yes «SKIPPED_KEYS» (keysDistinct (c .skipped)) _ (gens .1) in
       let few = asked-yes «SKIPPED_COUNT» (fewSkipped (c .skipped)) _ (keys .1) in
       let acked = asked-yes «PEER_ACKED» (ackedSent (c .«peer_acked») (c .«sent_msgno»)) _ (few .1) in
       let rises = asked-yes UNACKED (rising 1 (c .«sent_msgno») (c .unacked)) _ (acked .1) in

@@ -69,18 +69,18 @@ abbrev pub gensDistinct : List Chain → Bool
 gensDistinct chains = distinct eqb (map (λ c. c .gen) chains)
 
 -- 19
-pub record Place : Type 0 where
+pub record ChainKey : Type 0 where
   pub gen : ℕ
   pub idx : ℕ
 
-abbrev pub place : Skipped → Place
-place k = record { gen = k .gen; idx = k .idx }
+abbrev pub keyOf : Skipped → ChainKey
+keyOf k = record { gen = k .gen; idx = k .idx }
 
-abbrev pub samePlace : Place → Place → Bool
-samePlace x y = eqb (x .gen) (y .gen) && eqb (x .idx) (y .idx)
+abbrev pub sameKey : ChainKey → ChainKey → Bool
+sameKey x y = eqb (x .gen) (y .gen) && eqb (x .idx) (y .idx)
 
-abbrev pub placesDistinct : List Skipped → Bool
-placesDistinct skipped = distinct samePlace (map place skipped)
+abbrev pub keysDistinct : List Skipped → Bool
+keysDistinct skipped = distinct sameKey (map keyOf skipped)
 
 -- 20
 abbrev pub fewSkipped : List Skipped → Bool

@@ -11,7 +11,7 @@ use lib.ListN.{length, getD}
 use Rattle.layout.specs.Layout.{refusalOf}
 use Rattle.rows.specs.Utf8.{utf8}
 use Rattle.rows.specs.Values.{Device, Card, Chain, Skipped, Range, Contact, Queued, Carried, Courier}
-use Rattle.rows.specs.Checks.{sealedQueued, sealedCarried, oneChainAtMost, gensDistinct, placesDistinct, fewSkipped, ackedSent, rising, canonical, noneAbove}
+use Rattle.rows.specs.Checks.{sealedQueued, sealedCarried, oneChainAtMost, gensDistinct, keysDistinct, fewSkipped, ackedSent, rising, canonical, noneAbove}
 use Rattle.rows.specs.Rows.{device, cardRow, contact, queued, courier}
 use Rattle.rows.specs.declared.Dir.the-variants.{I}
 
@@ -72,8 +72,8 @@ abbrev pub GensDistinct : List Chain → Type 0
 GensDistinct chains = (i j : ℕ) → i < j → j < length chains → chainAt chains i .gen ≡ chainAt chains j .gen → ⊥
 
 -- 19. Skipped (gen, idx) distinct?
-abbrev pub PlacesDistinct : List Skipped → Type 0
-PlacesDistinct skipped =
+abbrev pub KeysDistinct : List Skipped → Type 0
+KeysDistinct skipped =
     (i j : ℕ) → i < j → j < length skipped → skippedAt skipped i .gen ≡ skippedAt skipped j .gen → skippedAt skipped i .idx ≡ skippedAt skipped j .idx → ⊥
 
 -- 22. Strictly rising, from lo to hi?
@@ -98,7 +98,7 @@ pub record Consistent (c : Contact) : Type 0 where
   -- 18
   pub chains-gens : GensDistinct (c .chains)
   -- 19
-  pub skipped-keys : PlacesDistinct (c .skipped)
+  pub skipped-keys : KeysDistinct (c .skipped)
   -- 20. At most 500 skipped?
   pub skipped-count : length (c .skipped) ≤ 500
   -- 21. peer_acked at most sent_msgno?
@@ -122,7 +122,7 @@ pub record MeetsLaws : Type 0 where
   -- 18
   pub chains-gens : (chains : List Chain) → (gensDistinct chains ≡ true) ↔ GensDistinct chains
   -- 19
-  pub skipped-keys : (skipped : List Skipped) → (placesDistinct skipped ≡ true) ↔ PlacesDistinct skipped
+  pub skipped-keys : (skipped : List Skipped) → (keysDistinct skipped ≡ true) ↔ KeysDistinct skipped
   -- 20
   pub skipped-count : (skipped : List Skipped) → (fewSkipped skipped ≡ true) ↔ (length skipped ≤ 500)
   -- 21

@@ -13,7 +13,7 @@ use Rattle.layout.specs.Layout.{Layout, done, field, ask, end, group, optional,
 use Rattle.rows.specs.Utf8.{utf8}
 use Rattle.rows.specs.Values.{Device, Card, Pending, Send, Chain, Skipped, Range, Contact, OwnEnvelope, Queued, Carried, Tombstone, Courier}
 use Rattle.rows.specs.Checks.{versionKnown, capsKnown, kci, nameShort, courierAllowed, sealedQueued, sealedCarried, notZero}
-use Rattle.rows.specs.Checks.{oneChainAtMost, gensDistinct, placesDistinct, fewSkipped, ackedSent, rising, canonical, noneAbove}
+use Rattle.rows.specs.Checks.{oneChainAtMost, gensDistinct, keysDistinct, fewSkipped, ackedSent, rising, canonical, noneAbove}
 use Rattle.rows.specs.declared.PairingRole.{PairingRole}
 use Rattle.rows.specs.declared.PairingRole.the-variants.{A, B}
 use Rattle.rows.specs.declared.Verification.{Verification}
@@ -176,7 +176,7 @@ contact version = do
   end «ROW_END»
   ask «CHAINS_CURRENT» (oneChainAtMost chains)
   ask «CHAINS_GENS» (gensDistinct chains)
-  ask «SKIPPED_KEYS» (placesDistinct skips)
+  ask «SKIPPED_KEYS» (keysDistinct skips)
   ask «SKIPPED_COUNT» (fewSkipped skips)
   ask «PEER_ACKED» (ackedSent «peer_acked» «sent_msgno»)
   ask UNACKED (rising 1 «sent_msgno» unacked)

@@ -31,23 +31,23 @@ fed-append [] b h = refl
 fed-append (x ∷ a) b h = fed-append a b (stepped x h)
 
 -- ---- behind a refusal nothing changes
-stops : (bs : List ℕ) (k q : ℕ) (run places : List ℕ) → fed bs (held (stopped k q) run places) ≡ held (stopped k q) run places
+stops : (bs : List ℕ) (k q : ℕ) (run records : List ℕ) → fed bs (held (stopped k q) run records) ≡ held (stopped k q) run records
 unfolding machine.fed machine.stepped
-stops [] k q run places = refl
-stops (b ∷ bs) k q run places = stops bs k q run places
+stops [] k q run records = refl
+stops (b ∷ bs) k q run records = stops bs k q run records
 
 pub stays : (bs : List ℕ) (k q : ℕ) (h : Held) → stateIn h ≡ stopped k q → stateIn (fed bs h) ≡ stopped k q
-stays bs k q (held s run places) e = rw e (ap stateIn (stops bs k q run places))
+stays bs k q (held s run records) e = rw e (ap stateIn (stops bs k q run records))
 
 pub stays-one : (b k q : ℕ) (h : Held) → stateIn h ≡ stopped k q → stateIn (stepped b h) ≡ stopped k q
 unfolding machine.stepped
-stays-one b k q (held s run places) e = rw e
+stays-one b k q (held s run records) e = rw e
 
 -- ---- a line that is refused at its end
-pub waits : {f : List ℕ} → Plain f → (k left q : ℕ) (run places : List ℕ) → fed f (held (waiting k left q) run places) ≡ held (waiting k left q) run places
+pub waits : {f : List ℕ} → Plain f → (k left q : ℕ) (run records : List ℕ) → fed f (held (waiting k left q) run records) ≡ held (waiting k left q) run records
 unfolding machine.fed machine.stepped machine.otherStep
-waits plain-nil k left q run places = refl
-waits (plain-cons lf comma p) k left q run places = rw (lf, comma) (waits p k left q run places)
+waits plain-nil k left q run records = refl
+waits (plain-cons lf comma p) k left q run records = rw (lf, comma) (waits p k left q run records)
 
 -- ---- a decimal
 abbrev pub firstAt : (oldest older newest lines used kind left : ℕ) → State
@@ -56,21 +56,21 @@ firstAt a b c k u kind left = state a b c 0 k u u kind left 0 0 FIRST
 abbrev pub numberAt : (oldest older newest number lines used kind left : ℕ) → State
 numberAt a b c n k u kind left = state a b c n k u u kind left 0 0 NUMBER
 
-module _ (a b c k u kind left : ℕ) (run places : List ℕ) where
+module _ (a b c k u kind left : ℕ) (run records : List ℕ) where
   digits : {f : List ℕ} → Plain f → (n : ℕ)
-      → fed f (held (numberAt a b c n k u kind left) run places) ≡ held (cond (goesOn (highestAt kind left) n f) (numberAt a b c (numberFrom n f) k u kind left) (waiting k left DECIMAL)) run places
+      → fed f (held (numberAt a b c n k u kind left) run records) ≡ held (cond (goesOn (highestAt kind left) n f) (numberAt a b c (numberFrom n f) k u kind left) (waiting k left DECIMAL)) run records
   unfolding machine.fed machine.stepped machine.otherStep machine.numberStep machine.digitStep decimals.goesOn
   digits plain-nil n = refl
   digits (plain-cons {b = d} {bs = ds} lf comma p) n = rw (lf, comma) (go (eqb n 0) (isDigit d) (leb (n * 10 + (d - 0x30)) (highestAt kind left)) (digits p (n * 10 + (d - 0x30))))
     where
       go : (z i l : Bool)
-          → fed ds (held (numberAt a b c (n * 10 + (d - 0x30)) k u kind left) run places)
-          ≡ held (cond (goesOn (highestAt kind left) (n * 10 + (d - 0x30)) ds) (numberAt a b c (numberFrom (n * 10 + (d - 0x30)) ds) k u kind left) (waiting k left DECIMAL)) run places
-          → fed ds (held (cond z (waiting k left DECIMAL) (grown (cond (i && l) (some (n * 10 + (d - 0x30))) none) (numberAt a b c n k u kind left))) run places)
-          ≡ held (cond (not z && (i && (l && goesOn (highestAt kind left) (n * 10 + (d - 0x30)) ds))) (numberAt a b c (numberFrom (n * 10 + (d - 0x30)) ds) k u kind left) (waiting k left DECIMAL)) run places
-      go true i l ih = waits p k left DECIMAL run places
-      go false false l ih = waits p k left DECIMAL run places
-      go false true false ih = waits p k left DECIMAL run places
+          → fed ds (held (numberAt a b c (n * 10 + (d - 0x30)) k u kind left) run records)
+          ≡ held (cond (goesOn (highestAt kind left) (n * 10 + (d - 0x30)) ds) (numberAt a b c (numberFrom (n * 10 + (d - 0x30)) ds) k u kind left) (waiting k left DECIMAL)) run records
+          → fed ds (held (cond z (waiting k left DECIMAL) (grown (cond (i && l) (some (n * 10 + (d - 0x30))) none) (numberAt a b c n k u kind left))) run records)
+          ≡ held (cond (not z && (i && (l && goesOn (highestAt kind left) (n * 10 + (d - 0x30)) ds))) (numberAt a b c (numberFrom (n * 10 + (d - 0x30)) ds) k u kind left) (waiting k left DECIMAL)) run records
+      go true i l ih = waits p k left DECIMAL run records
+      go false false l ih = waits p k left DECIMAL run records
+      go false true false ih = waits p k left DECIMAL run records
       go false true true ih = ih
 
   -- where a field leaves the state
@@ -81,16 +81,16 @@ module _ (a b c k u kind left : ℕ) (run places : List ℕ) where
       (numberAt a b c (numberFrom (0 * 10 + (d - 0x30)) ds) k u kind left)
       (waiting k left DECIMAL)
 
-  field : {f : List ℕ} → Plain f → fed f (held (firstAt a b c k u kind left) run places) ≡ held (afterField f) run places
+  field : {f : List ℕ} → Plain f → fed f (held (firstAt a b c k u kind left) run records) ≡ held (afterField f) run records
   unfolding machine.fed machine.stepped machine.otherStep machine.digitStep
   field plain-nil = refl
   field (plain-cons {b = d} {bs = ds} lf comma p) = rw (lf, comma) (go (isDigit d) (leb (0 * 10 + (d - 0x30)) (highestAt kind left)))
     where
       go : (i l : Bool)
-          → fed ds (held (grown (cond (i && l) (some (0 * 10 + (d - 0x30))) none) (firstAt a b c k u kind left)) run places)
-          ≡ held (cond (i && (l && goesOn (highestAt kind left) (0 * 10 + (d - 0x30)) ds)) (numberAt a b c (numberFrom (0 * 10 + (d - 0x30)) ds) k u kind left) (waiting k left DECIMAL)) run places
-      go false l = waits p k left DECIMAL run places
-      go true false = waits p k left DECIMAL run places
+          → fed ds (held (grown (cond (i && l) (some (0 * 10 + (d - 0x30))) none) (firstAt a b c k u kind left)) run records)
+          ≡ held (cond (i && (l && goesOn (highestAt kind left) (0 * 10 + (d - 0x30)) ds)) (numberAt a b c (numberFrom (0 * 10 + (d - 0x30)) ds) k u kind left) (waiting k left DECIMAL)) run records
+      go false l = waits p k left DECIMAL run records
+      go true false = waits p k left DECIMAL run records
       go true true = digits p (0 * 10 + (d - 0x30))
 
 -- the state behind a decimal's comma, with n decimals to come
@@ -98,31 +98,31 @@ abbrev pub tookNumber : (a b c k u kind n : ℕ) → Option ℕ → State
 tookNumber a b c k u kind n none = waiting k n DECIMAL
 tookNumber a b c k u kind n (some v) = state b c v 0 k u u kind n 0 0 (cond (eqb (suc n) 1) HIGH FIRST)
 
-module _ (a b c k u kind n : ℕ) (run places : List ℕ) where
+module _ (a b c k u kind n : ℕ) (run records : List ℕ) where
   less : suc n - 1 ≡ n
   less = omega arith
 
   pub field-comma : {f : List ℕ} → Plain f
-      → stepped COMMA (fed f (held (firstAt a b c k u kind (suc n)) run places)) ≡ held (tookNumber a b c k u kind n (decimalIn (highestAt kind (suc n)) f)) run places
+      → stepped COMMA (fed f (held (firstAt a b c k u kind (suc n)) run records)) ≡ held (tookNumber a b c k u kind n (decimalIn (highestAt kind (suc n)) f)) run records
   unfolding machine.stepped machine.commaStep decimals.decimalIn
-  field-comma plain-nil = rw (field a b c k u kind (suc n) run places plain-nil, eqb·suc-zero n, less)
+  field-comma plain-nil = rw (field a b c k u kind (suc n) run records plain-nil, eqb·suc-zero n, less)
   field-comma (plain-cons {b = d} {bs = ds} lf comma p) =
-      rw (field a b c k u kind (suc n) run places (plain-cons {b = d} {bs = ds} lf comma p), read-digits (highestAt kind (suc n)) d ds)
+      rw (field a b c k u kind (suc n) run records (plain-cons {b = d} {bs = ds} lf comma p), read-digits (highestAt kind (suc n)) d ds)
       (go (isDigit d && (leb (0 * 10 + (d - 0x30)) (highestAt kind (suc n)) && goesOn (highestAt kind (suc n)) (0 * 10 + (d - 0x30)) ds)) (numberFrom (0 * 10 + (d - 0x30)) ds))
     where
       go : (t : Bool) (v : ℕ)
-          → stepped COMMA (held (cond t (numberAt a b c v k u kind (suc n)) (waiting k (suc n) DECIMAL)) run places) ≡ held (tookNumber a b c k u kind n (cond t (some v) none)) run places
+          → stepped COMMA (held (cond t (numberAt a b c v k u kind (suc n)) (waiting k (suc n) DECIMAL)) run records) ≡ held (tookNumber a b c k u kind n (cond t (some v) none)) run records
       go true v = rw (eqb·suc-zero n, less)
       go false v = rw (eqb·suc-zero n, less)
 
-  pub field-end : {f : List ℕ} → Plain f → stateIn (stepped LF (fed f (held (firstAt a b c k u kind (suc n)) run places))) ≡ stopped k LINE
+  pub field-end : {f : List ℕ} → Plain f → stateIn (stepped LF (fed f (held (firstAt a b c k u kind (suc n)) run records))) ≡ stopped k LINE
   unfolding machine.stepped machine.endStep
-  field-end plain-nil = rw (field a b c k u kind (suc n) run places plain-nil)
+  field-end plain-nil = rw (field a b c k u kind (suc n) run records plain-nil)
   field-end (plain-cons {b = d} {bs = ds} lf comma p) =
-      rw (field a b c k u kind (suc n) run places (plain-cons {b = d} {bs = ds} lf comma p))
+      rw (field a b c k u kind (suc n) run records (plain-cons {b = d} {bs = ds} lf comma p))
       (go (isDigit d && (leb (0 * 10 + (d - 0x30)) (highestAt kind (suc n)) && goesOn (highestAt kind (suc n)) (0 * 10 + (d - 0x30)) ds)) (numberFrom (0 * 10 + (d - 0x30)) ds))
     where
-      go : (t : Bool) (v : ℕ) → stateIn (stepped LF (held (cond t (numberAt a b c v k u kind (suc n)) (waiting k (suc n) DECIMAL)) run places)) ≡ stopped k LINE
+      go : (t : Bool) (v : ℕ) → stateIn (stepped LF (held (cond t (numberAt a b c v k u kind (suc n)) (waiting k (suc n) DECIMAL)) run records)) ≡ stopped k LINE
       go true v = refl
       go false v = rw (eqb·suc-zero n)
 
@@ -172,27 +172,27 @@ over-used room u (v ∷ vs) h = go (ltb u room) (over-used room (u + 1) vs (omeg
     go true p q = p
     go false p q = q
 
-module _ (a b c k start kind room : ℕ) (places : List ℕ) where
+module _ (a b c k start kind room : ℕ) (records : List ℕ) where
   -- how a blob's bytes leave the machine
   abbrev pub BlobLeft : (used : ℕ) → (run : List ℕ) → Option (List ℕ) → Held → Type 0
   BlobLeft u run none h = stateIn (stepped LF h) ≡ stopped k BLOB
-  BlobLeft u run (some bs) h = h ≡ held (blobAt a b c k start (usedAll room u bs) kind) (runAll room u bs run) places
+  BlobLeft u run (some bs) h = h ≡ held (blobAt a b c k start (usedAll room u bs) kind) (runAll room u bs run) records
 
   one-more : (u v : ℕ) (run : List ℕ) (o : Option (List ℕ)) (h : Held) → BlobLeft (usedOne room u) (storedOne room u v run) o h → BlobLeft u run (withByte v o) h
   unfolding usedAll runAll
   one-more u v run none h p = p
   one-more u v run (some bs) h p = p
 
-  wait-ends : {f : List ℕ} → Plain f → (run : List ℕ) → stateIn (stepped LF (fed f (held (waiting k 0 BLOB) run places))) ≡ stopped k BLOB
+  wait-ends : {f : List ℕ} → Plain f → (run : List ℕ) → stateIn (stepped LF (fed f (held (waiting k 0 BLOB) run records))) ≡ stopped k BLOB
   unfolding machine.stepped machine.endStep
-  wait-ends p run = rw (waits p k 0 BLOB run places)
+  wait-ends p run = rw (waits p k 0 BLOB run records)
 
-  pub blob : {f : List ℕ} → Plain f → (u : ℕ) (run : List ℕ) → bytesIn run ≡ room → BlobLeft u run (blobOf f) (fed f (held (blobAt a b c k start u kind) run places))
+  pub blob : {f : List ℕ} → Plain f → (u : ℕ) (run : List ℕ) → bytesIn run ≡ room → BlobLeft u run (blobOf f) (fed f (held (blobAt a b c k start u kind) run records))
   unfolding machine.fed machine.stepped machine.highStep machine.lowStep machine.lowRun machine.endStep blobs.blobOf usedAll runAll
   blob plain-nil u run e = refl
   blob (plain-cons {b = d} lf comma plain-nil) u run e = rw (lf, comma) (go (isHex d))
     where
-      go : (i : Bool) → stateIn (stepped LF (held (cond i (state a b c 0 k start u kind 0 (hexValue d) 0 LOW) (waiting k 0 BLOB)) run places)) ≡ stopped k BLOB
+      go : (i : Bool) → stateIn (stepped LF (held (cond i (state a b c 0 k start u kind 0 (hexValue d) 0 LOW) (waiting k 0 BLOB)) run records)) ≡ stopped k BLOB
       go true = refl
       go false = refl
   blob (plain-cons {b = d} lf comma (plain-cons {b = x} {bs = ds} lf2 comma2 p)) u run e =
@@ -201,11 +201,11 @@ module _ (a b c k start kind room : ℕ) (places : List ℕ) where
       Later : Type 0
       Later =
           BlobLeft (usedOne room u) (storedOne room u (hexValue d * 16 + hexValue x) run) (blobOf ds)
-          (fed ds (held (blobAt a b c k start (usedOne room u) kind) (storedOne room u (hexValue d * 16 + hexValue x) run) places))
+          (fed ds (held (blobAt a b c k start (usedOne room u) kind) (storedOne room u (hexValue d * 16 + hexValue x) run) records))
 
       later : (j : Bool) → isHex d ≡ true → Later →
           BlobLeft u run (cond j (withByte (hexValue d * 16 + hexValue x) (blobOf ds)) none)
-          (fed ds (held (cond j (blobAt a b c k start (usedOne room u) kind) (waiting k 0 BLOB)) (cond j (storedOne room u (hexValue d % 16 * 16 + hexValue x) run) run) places))
+          (fed ds (held (cond j (blobAt a b c k start (usedOne room u) kind) (waiting k 0 BLOB)) (cond j (storedOne room u (hexValue d % 16 * 16 + hexValue x) run) run) records))
       later true h ih =
           let s : hexValue d % 16 ≡ hexValue d = omega (arith, hex-small d h) in
           rw s (one-more u (hexValue d * 16 + hexValue x) run (blobOf ds) _ ih)
@@ -213,31 +213,31 @@ module _ (a b c k start kind room : ℕ) (places : List ℕ) where
 
       go : (i : Bool) → isHex d ≡ i → Later →
           BlobLeft u run (cond (i && isHex x) (withByte (hexValue d * 16 + hexValue x) (blobOf ds)) none)
-          (fed (x ∷ ds) (held (cond i (state a b c 0 k start u kind 0 (hexValue d) 0 LOW) (waiting k 0 BLOB)) run places))
+          (fed (x ∷ ds) (held (cond i (state a b c 0 k start u kind 0 (hexValue d) 0 LOW) (waiting k 0 BLOB)) run records))
       go true h ih = rw (lf2, comma2, e) (later (isHex x) h ih)
       go false h ih = wait-ends (plain-cons {b = x} {bs = ds} lf2 comma2 p) run
 
   -- a comma behind a blob's bytes, whatever they are
-  pub blob-comma : {f : List ℕ} → Plain f → (u : ℕ) (run : List ℕ) → stateIn (stepped COMMA (fed f (held (blobAt a b c k start u kind) run places))) ≡ stopped k LINE
+  pub blob-comma : {f : List ℕ} → Plain f → (u : ℕ) (run : List ℕ) → stateIn (stepped COMMA (fed f (held (blobAt a b c k start u kind) run records))) ≡ stopped k LINE
   unfolding machine.fed machine.stepped machine.highStep machine.lowStep machine.lowRun machine.commaStep
   blob-comma plain-nil u run = refl
   blob-comma (plain-cons {b = d} lf comma plain-nil) u run = rw (lf, comma) (go (isHex d))
     where
-      go : (i : Bool) → stateIn (stepped COMMA (held (cond i (state a b c 0 k start u kind 0 (hexValue d) 0 LOW) (waiting k 0 BLOB)) run places)) ≡ stopped k LINE
+      go : (i : Bool) → stateIn (stepped COMMA (held (cond i (state a b c 0 k start u kind 0 (hexValue d) 0 LOW) (waiting k 0 BLOB)) run records)) ≡ stopped k LINE
       go true = refl
       go false = refl
   blob-comma (plain-cons {b = d} lf comma (plain-cons {b = x} {bs = ds} lf2 comma2 p)) u run = rw (lf, comma) (go (isHex d) (λ v r. blob-comma p v r))
     where
-      stop : {g : List ℕ} → Plain g → (r : List ℕ) → stateIn (stepped COMMA (fed g (held (waiting k 0 BLOB) r places))) ≡ stopped k LINE
-      stop q r = rw (waits q k 0 BLOB r places)
+      stop : {g : List ℕ} → Plain g → (r : List ℕ) → stateIn (stepped COMMA (fed g (held (waiting k 0 BLOB) r records))) ≡ stopped k LINE
+      stop q r = rw (waits q k 0 BLOB r records)
 
       Later : Type 0
-      Later = (v : ℕ) (r : List ℕ) → stateIn (stepped COMMA (fed ds (held (blobAt a b c k start v kind) r places))) ≡ stopped k LINE
+      Later = (v : ℕ) (r : List ℕ) → stateIn (stepped COMMA (fed ds (held (blobAt a b c k start v kind) r records))) ≡ stopped k LINE
 
-      later : (j : Bool) (v : ℕ) (r : List ℕ) → Later → stateIn (stepped COMMA (fed ds (held (cond j (blobAt a b c k start v kind) (waiting k 0 BLOB)) r places))) ≡ stopped k LINE
+      later : (j : Bool) (v : ℕ) (r : List ℕ) → Later → stateIn (stepped COMMA (fed ds (held (cond j (blobAt a b c k start v kind) (waiting k 0 BLOB)) r records))) ≡ stopped k LINE
       later true v r ih = ih v r
       later false v r ih = stop p r
 
-      go : (i : Bool) → Later → stateIn (stepped COMMA (fed (x ∷ ds) (held (cond i (state a b c 0 k start u kind 0 (hexValue d) 0 LOW) (waiting k 0 BLOB)) run places))) ≡ stopped k LINE
+      go : (i : Bool) → Later → stateIn (stepped COMMA (fed (x ∷ ds) (held (cond i (state a b c 0 k start u kind 0 (hexValue d) 0 LOW) (waiting k 0 BLOB)) run records))) ≡ stopped k LINE
       go true ih = rw (lf2, comma2) (later (isHex x) (usedOne (bytesIn run) u) _ ih)
       go false ih = stop (plain-cons {b = x} {bs = ds} lf2 comma2 p) run

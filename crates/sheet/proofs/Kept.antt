@@ -17,7 +17,7 @@ use Rattle.sheet.specs.declared.State.{State}
 use Rattle.ascii.specs.Hex.{isHex, hexValue}
 use Rattle.sheet.specs.Sheet.{«BLOB_BYTES», LINES}
 use Rattle.sheet.specs.Machine as machine
-use Rattle.sheet.specs.Machine.{HIGH, LOW, REFUSED, roomFor, bytesIn, linesIn, lowRun, lowStep, six, closedPlaces, endPlaces, endStep, commaStep, highStep, otherStep, Held, held, stepped, fed}
+use Rattle.sheet.specs.Machine.{HIGH, LOW, REFUSED, roomFor, bytesIn, linesIn, lowRun, lowStep, six, closedRecords, endRecords, endStep, commaStep, highStep, otherStep, Held, held, stepped, fed}
 use Rattle.sheet.specs.Proved.{Kept}
 
 -- a list with all behind the first n as it was
@@ -52,49 +52,49 @@ same-run b s run = go (isHex b) (ltb (s .used) (bytesIn run)) refl
       behind = drop-set-lt «BLOB_BYTES» run (s .used) (s .digit % 16 * 16 + hexValue b) (omega (arith, ltb-true (s .used) (bytesIn run) e, room-most «BLOB_BYTES» (length run)));
     }
 
-same-places : (bytes : ℕ) (s : State) (places : List ℕ) → Same (6 * LINES) places (endPlaces bytes (linesIn places) s places)
-unfolding machine.endPlaces machine.closedPlaces
-same-places bytes s places = go (eqb (s .phase) HIGH) (leb (s .used) bytes) (ltb (s .lines) (linesIn places)) refl
+same-records : (bytes : ℕ) (s : State) (records : List ℕ) → Same (6 * LINES) records (endRecords bytes (linesIn records) s records)
+unfolding machine.endRecords machine.closedRecords
+same-records bytes s records = go (eqb (s .phase) HIGH) (leb (s .used) bytes) (ltb (s .lines) (linesIn records)) refl
   where
-    go : (h f t : Bool) → ltb (s .lines) (linesIn places) ≡ t → Same (6 * LINES) places (cond h (cond (f && t) (put places (6 * s .lines) (six s)) places) places)
-    go false f t e = same (6 * LINES) places
-    go true false t e = same (6 * LINES) places
-    go true true false e = same (6 * LINES) places
+    go : (h f t : Bool) → ltb (s .lines) (linesIn records) ≡ t → Same (6 * LINES) records (cond h (cond (f && t) (put records (6 * s .lines) (six s)) records) records)
+    go false f t e = same (6 * LINES) records
+    go true false t e = same (6 * LINES) records
+    go true true false e = same (6 * LINES) records
     go true true true e = record {
-      long = length-put places (6 * s .lines) (six s);
-      behind = drop-put (6 * LINES) places (6 * s .lines) (six s) (omega (arith, ltb-true (s .lines) (linesIn places) e, room-most LINES (length places / 6)));
+      long = length-put records (6 * s .lines) (six s);
+      behind = drop-put (6 * LINES) records (6 * s .lines) (six s) (omega (arith, ltb-true (s .lines) (linesIn records) e, room-most LINES (length records / 6)));
     }
 
 kept-one : (b : ℕ) (h : Held) → Kept h (stepped b h)
 unfolding machine.stepped
-kept-one b (held s run places) = go (eqb (s .phase) REFUSED) (eqb b LF) (eqb b COMMA) (eqb (s .phase) HIGH) (eqb (s .phase) LOW)
+kept-one b (held s run records) = go (eqb (s .phase) REFUSED) (eqb b LF) (eqb b COMMA) (eqb (s .phase) HIGH) (eqb (s .phase) LOW)
   where
-    both : {run2 places2 : List ℕ} {t : State} → Same «BLOB_BYTES» run run2 → Same (6 * LINES) places places2 → Kept (held s run places) (held t run2 places2)
-    both r p = record { run-long = r .long; run-behind = r .behind; places-long = p .long; places-behind = p .behind }
+    both : {run2 records2 : List ℕ} {t : State} → Same «BLOB_BYTES» run run2 → Same (6 * LINES) records records2 → Kept (held s run records) (held t run2 records2)
+    both r p = record { run-long = r .long; run-behind = r .behind; records-long = p .long; records-behind = p .behind }
 
-    go : (x lf c h l : Bool) → Kept (held s run places)
-        (cond x (held s run places)
-        (cond lf (held (endStep (bytesIn run) (linesIn places) s) run (endPlaces (bytesIn run) (linesIn places) s places))
-        (cond c (held (commaStep s) run places)
-        (cond h (held (highStep b s) run places)
-        (cond l (held (lowStep (bytesIn run) b s) (lowRun (bytesIn run) b s run) places)
-        (held (otherStep b s) run places))))))
-    go true lf c h l = both (same «BLOB_BYTES» run) (same (6 * LINES) places)
-    go false true c h l = both (same «BLOB_BYTES» run) (same-places (bytesIn run) s places)
-    go false false true h l = both (same «BLOB_BYTES» run) (same (6 * LINES) places)
-    go false false false true l = both (same «BLOB_BYTES» run) (same (6 * LINES) places)
-    go false false false false true = both (same-run b s run) (same (6 * LINES) places)
-    go false false false false false = both (same «BLOB_BYTES» run) (same (6 * LINES) places)
+    go : (x lf c h l : Bool) → Kept (held s run records)
+        (cond x (held s run records)
+        (cond lf (held (endStep (bytesIn run) (linesIn records) s) run (endRecords (bytesIn run) (linesIn records) s records))
+        (cond c (held (commaStep s) run records)
+        (cond h (held (highStep b s) run records)
+        (cond l (held (lowStep (bytesIn run) b s) (lowRun (bytesIn run) b s run) records)
+        (held (otherStep b s) run records))))))
+    go true lf c h l = both (same «BLOB_BYTES» run) (same (6 * LINES) records)
+    go false true c h l = both (same «BLOB_BYTES» run) (same-records (bytesIn run) s records)
+    go false false true h l = both (same «BLOB_BYTES» run) (same (6 * LINES) records)
+    go false false false true l = both (same «BLOB_BYTES» run) (same (6 * LINES) records)
+    go false false false false true = both (same-run b s run) (same (6 * LINES) records)
+    go false false false false false = both (same «BLOB_BYTES» run) (same (6 * LINES) records)
 
 pub kept-all : (bs : List ℕ) (h : Held) → Kept h (fed bs h)
 unfolding machine.fed
-kept-all [] h = record { run-long = refl; run-behind = refl; places-long = refl; places-behind = refl }
+kept-all [] h = record { run-long = refl; run-behind = refl; records-long = refl; records-behind = refl }
 kept-all (b ∷ bs) h =
     let one = kept-one b h in
     let more = kept-all bs (stepped b h) in
     record {
       run-long = more .run-long ∙ one .run-long;
       run-behind = more .run-behind ∙ one .run-behind;
-      places-long = more .places-long ∙ one .places-long;
-      places-behind = more .places-behind ∙ one .places-behind;
+      records-long = more .records-long ∙ one .records-long;
+      records-behind = more .records-behind ∙ one .records-behind;
     }

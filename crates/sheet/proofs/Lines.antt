@@ -75,9 +75,9 @@ too-many : (n : ℕ) → eqb (suc (suc n)) 1 ≡ false
 too-many n = eqb·suc-suc (suc n) 0 ∙ eqb·suc-zero n
 
 -- ---- what a line leaves, where k lines with u blob bytes were read before it
-module _ (bytes lines k u : ℕ) (run places : List ℕ) where
+module _ (bytes lines k u : ℕ) (run records : List ℕ) where
   abbrev pub Closed : Bool → (six blob : List ℕ) → Held → Type 0
-  Closed true s blob h = h ≡ held (atLine (k + 1) (u + length blob)) (put run u blob) (put places (6 * k) s)
+  Closed true s blob h = h ≡ held (atLine (k + 1) (u + length blob)) (put run u blob) (put records (6 * k) s)
   Closed false s blob h = stateIn h ≡ stopped k «SHEET_SIZE»
 
   abbrev pub LineLeft : (six : ℕ → List ℕ → ℕ → List ℕ) → LineSays → Held → Type 0
@@ -101,14 +101,14 @@ module _ (bytes lines k u : ℕ) (run places : List ℕ) where
   -- ---- the blob and LF
   close-fits : (a b c kind : ℕ) (bs : List ℕ) (t : Bool) (R : List ℕ) → R ≡ put run u bs
       → Closed t (six (state a b c 0 k u (u + length bs) kind 0 0 0 0)) bs
-      (held (cond t (atLine (k + 1) (u + length bs)) (stopped k «SHEET_SIZE»)) R (cond t (put places (6 * k) (six (state a b c 0 k u (u + length bs) kind 0 0 0 0))) places))
+      (held (cond t (atLine (k + 1) (u + length bs)) (stopped k «SHEET_SIZE»)) R (cond t (put records (6 * k) (six (state a b c 0 k u (u + length bs) kind 0 0 0 0))) records))
   close-fits a b c kind bs true R e = rw e
   close-fits a b c kind bs false R e = refl
 
-  module _ (here : bytesIn run ≡ bytes) (there : linesIn places ≡ lines) where
+  module _ (here : bytesIn run ≡ bytes) (there : linesIn records ≡ lines) where
     close : (a b c kind : ℕ) (bs : List ℕ) → Closed (leb (u + length bs) bytes && ltb k lines) (sixOn a b c kind [] (length bs)) bs
-        (stepped LF (held (blobAt a b c k u (usedAll bytes u bs) kind) (runAll bytes u bs run) places))
-    unfolding machine.stepped machine.endStep machine.endPlaces machine.closed machine.closedPlaces
+        (stepped LF (held (blobAt a b c k u (usedAll bytes u bs) kind) (runAll bytes u bs run) records))
+    unfolding machine.stepped machine.endStep machine.endRecords machine.closed machine.closedRecords
     close a b c kind bs =
         let long : length (runAll bytes u bs run) ≡ length run = run-long bytes u bs run in
         elim (decLt bytes (u + length bs)) [
@@ -118,36 +118,36 @@ module _ (bytes lines k u : ℕ) (run places : List ℕ) where
               rw (long, here, there, fits-used bytes u bs inside) (close-fits a b c kind bs (leb (u + length bs) bytes && ltb k lines) (runAll bytes u bs run) (fits-run bytes u bs run inside))
         ]
 
-    blob-end : (a b c kind : ℕ) {f : List ℕ} → Plain f → LineLeft (sixOn a b c) (ask43 kind [] (blobOf f)) (stepped LF (fed f (held (blobAt a b c k u u kind) run places)))
-    blob-end a b c kind {f} p = go (blobOf f) (fed f (held (blobAt a b c k u u kind) run places)) (blob a b c k u kind bytes places p u run here)
+    blob-end : (a b c kind : ℕ) {f : List ℕ} → Plain f → LineLeft (sixOn a b c) (ask43 kind [] (blobOf f)) (stepped LF (fed f (held (blobAt a b c k u u kind) run records)))
+    blob-end a b c kind {f} p = go (blobOf f) (fed f (held (blobAt a b c k u u kind) run records)) (blob a b c k u kind bytes records p u run here)
       where
-        go : (o : Option (List ℕ)) (h : Held) → BlobLeft a b c k u kind bytes places u run o h → LineLeft (sixOn a b c) (ask43 kind [] o) (stepped LF h)
+        go : (o : Option (List ℕ)) (h : Held) → BlobLeft a b c k u kind bytes records u run o h → LineLeft (sixOn a b c) (ask43 kind [] o) (stepped LF h)
         go none h q = q
         go (some bs) h q = rw q (close a b c kind bs)
 
     -- ---- a line that is refused at its end: the fields to come are counted
-    wait-comma : (n q : ℕ) → stepped COMMA (held (waiting k (suc n) q) run places) ≡ held (waiting k n DECIMAL) run places
+    wait-comma : (n q : ℕ) → stepped COMMA (held (waiting k (suc n) q) run records) ≡ held (waiting k n DECIMAL) run records
     unfolding machine.stepped machine.commaStep
     wait-comma n q = let less : suc n - 1 ≡ n = omega arith in rw (eqb·suc-zero n, less)
 
     wait-end : (left : List ℕ) (g : List ℕ) → Plain g
-        → stateIn (stepped LF (fed g (held (waiting k (length left) DECIMAL) run places))) ≡ stopped k (cond (eqb 1 (suc (length left))) DECIMAL LINE)
+        → stateIn (stepped LF (fed g (held (waiting k (length left) DECIMAL) run records))) ≡ stopped k (cond (eqb 1 (suc (length left))) DECIMAL LINE)
     unfolding machine.stepped machine.endStep
-    wait-end [] g p = rw (waits p k 0 DECIMAL run places)
-    wait-end (h ∷ hs) g p = rw (waits p k (suc (length hs)) DECIMAL run places, eqb·suc-zero (length hs), too-few (length hs))
+    wait-end [] g p = rw (waits p k 0 DECIMAL run records)
+    wait-end (h ∷ hs) g p = rw (waits p k (suc (length hs)) DECIMAL run records, eqb·suc-zero (length hs), too-few (length hs))
 
-    wait-stop : (g : List ℕ) → Plain g → stateIn (stepped COMMA (fed g (held (waiting k 0 DECIMAL) run places))) ≡ stopped k LINE
+    wait-stop : (g : List ℕ) → Plain g → stateIn (stepped COMMA (fed g (held (waiting k 0 DECIMAL) run records))) ≡ stopped k LINE
     unfolding machine.stepped machine.commaStep
-    wait-stop g p = rw (waits p k 0 DECIMAL run places)
+    wait-stop g p = rw (waits p k 0 DECIMAL run records)
 
     wait-rest : (left : List ℕ) (g : List ℕ) (gs : List (List ℕ)) → AllPlain (g ∷ gs)
-        → stateIn (stepped LF (fed (joined COMMA (g ∷ gs)) (held (waiting k (length left) DECIMAL) run places))) ≡ stopped k (cond (eqb (length (g ∷ gs)) (suc (length left))) DECIMAL LINE)
-    wait-rest left g [] (plains-cons p ps) = rw (only-field g (held (waiting k (length left) DECIMAL) run places)) (wait-end left g p)
+        → stateIn (stepped LF (fed (joined COMMA (g ∷ gs)) (held (waiting k (length left) DECIMAL) run records))) ≡ stopped k (cond (eqb (length (g ∷ gs)) (suc (length left))) DECIMAL LINE)
+    wait-rest left g [] (plains-cons p ps) = rw (only-field g (held (waiting k (length left) DECIMAL) run records)) (wait-end left g p)
     wait-rest [] g (g2 ∷ gs) (plains-cons p ps) =
-        rw (after-comma g g2 gs (held (waiting k 0 DECIMAL) run places), too-many (length gs))
-        (refused-rest (joined COMMA (g2 ∷ gs)) k LINE (stepped COMMA (fed g (held (waiting k 0 DECIMAL) run places))) (wait-stop g p))
+        rw (after-comma g g2 gs (held (waiting k 0 DECIMAL) run records), too-many (length gs))
+        (refused-rest (joined COMMA (g2 ∷ gs)) k LINE (stepped COMMA (fed g (held (waiting k 0 DECIMAL) run records))) (wait-stop g p))
     wait-rest (h ∷ hs) g (g2 ∷ gs) (plains-cons p ps) =
-        rw (after-comma g g2 gs (held (waiting k (suc (length hs)) DECIMAL) run places), waits p k (suc (length hs)) DECIMAL run places, wait-comma (length hs) DECIMAL, eqb·suc-suc (suc (length gs)) (suc (length hs)))
+        rw (after-comma g g2 gs (held (waiting k (suc (length hs)) DECIMAL) run records), waits p k (suc (length hs)) DECIMAL run records, wait-comma (length hs) DECIMAL, eqb·suc-suc (suc (length gs)) (suc (length hs)))
         (wait-rest hs g2 gs ps)
 
     -- ---- the fields behind the letter
@@ -170,23 +170,23 @@ module _ (bytes lines k u : ℕ) (run places : List ℕ) where
     more-count a b c kind n false bl o h p = p
 
     rest : (kind : ℕ) {hs : List ℕ} → Left kind hs → (f : List ℕ) (fs : List (List ℕ)) → AllPlain (f ∷ fs) → (a b c : ℕ)
-        → LineLeft (sixOn a b c) (counted kind hs (f ∷ fs)) (stepped LF (fed (joined COMMA (f ∷ fs)) (held (atField a b c kind hs) run places)))
+        → LineLeft (sixOn a b c) (counted kind hs (f ∷ fs)) (stepped LF (fed (joined COMMA (f ∷ fs)) (held (atField a b c kind hs) run records)))
     unfolding sheet.numbersOf
-    rest kind left-nil f [] (plains-cons p ps) a b c = rw (only-field f (held (blobAt a b c k u u kind) run places)) (blob-end a b c kind p)
+    rest kind left-nil f [] (plains-cons p ps) a b c = rw (only-field f (held (blobAt a b c k u u kind) run records)) (blob-end a b c kind p)
     rest kind left-nil f (g ∷ gs) (plains-cons p ps) a b c =
-        rw (after-comma f g gs (held (blobAt a b c k u u kind) run places), too-many (length gs))
-        (refused-rest (joined COMMA (g ∷ gs)) k LINE _ (blob-comma a b c k u kind bytes places p u run))
+        rw (after-comma f g gs (held (blobAt a b c k u u kind) run records), too-many (length gs))
+        (refused-rest (joined COMMA (g ∷ gs)) k LINE _ (blob-comma a b c k u kind bytes records p u run))
     rest kind (left-cons {h = h} {hs = hs} e l) f [] (plains-cons p ps) a b c =
-        rw (only-field f (held (firstAt a b c k u kind (suc (length hs))) run places), too-few (length hs)) (field-end a b c k u kind (length hs) run places p)
+        rw (only-field f (held (firstAt a b c k u kind (suc (length hs))) run records), too-few (length hs)) (field-end a b c k u kind (length hs) run records p)
     rest kind (left-cons {h = h} {hs = hs} e l) f (g ∷ gs) (plains-cons p ps) a b c =
-        rw (after-comma f g gs (held (firstAt a b c k u kind (suc (length hs))) run places), field-comma a b c k u kind (length hs) run places p, e, eqb·suc-suc (suc (length gs)) (suc (length hs)))
+        rw (after-comma f g gs (held (firstAt a b c k u kind (suc (length hs))) run records), field-comma a b c k u kind (length hs) run records p, e, eqb·suc-suc (suc (length gs)) (suc (length hs)))
         (go (decimalIn h f) (λ v. rest kind l g gs ps b c v))
       where
         go : (o : Option ℕ)
-            → ((v : ℕ) → LineLeft (sixOn b c v) (counted kind hs (g ∷ gs)) (stepped LF (fed (joined COMMA (g ∷ gs)) (held (atField b c v kind hs) run places))))
+            → ((v : ℕ) → LineLeft (sixOn b c v) (counted kind hs (g ∷ gs)) (stepped LF (fed (joined COMMA (g ∷ gs)) (held (atField b c v kind hs) run records))))
             → LineLeft (sixOn a b c)
             (cond (eqb (length (g ∷ gs)) (suc (length hs))) (ask42 kind (getD (g ∷ gs) (length hs) []) (andOthers o (numbersOf hs (g ∷ gs)))) (refusedBy LINE))
-            (stepped LF (fed (joined COMMA (g ∷ gs)) (held (tookNumber a b c k u kind (length hs) o) run places)))
+            (stepped LF (fed (joined COMMA (g ∷ gs)) (held (tookNumber a b c k u kind (length hs) o) run records)))
         go none ih = refused-count a b c kind (eqb (length (g ∷ gs)) (suc (length hs))) (getD (g ∷ gs) (length hs) []) (numbersOf hs (g ∷ gs)) _ (wait-rest hs g gs ps)
         go (some v) ih =
             more-count a b c kind v (eqb (length (g ∷ gs)) (suc (length hs))) (getD (g ∷ gs) (length hs) []) (numbersOf hs (g ∷ gs)) _
@@ -256,22 +256,22 @@ module _ (bytes lines k u : ℕ) (run places : List ℕ) where
     refused-fields (g ∷ gs) h e = refused-rest (joined COMMA (g ∷ gs)) k LINE (stepped COMMA h) (stays-one COMMA k LINE h e)
 
     behind-letter : (o : Option Shape) → AllKnown o → (fs : List (List ℕ)) → AllPlain fs
-        → LineLeft sixLine (ask41 o fs) (stepped LF (fedRest fs (held (begunAs o (atLine k u)) run places)))
+        → LineLeft sixLine (ask41 o fs) (stepped LF (fedRest fs (held (begunAs o (atLine k u)) run records)))
     unfolding machine.stepped machine.endStep machine.commaStep
-    behind-letter none known-none fs ps = refused-fields fs (held (stopped k LINE) run places) refl
+    behind-letter none known-none fs ps = refused-fields fs (held (stopped k LINE) run records) refl
     behind-letter (some _) (known {kind} {h} {hs} l same) [] ps = rw (eqb·zero-suc (suc (length hs)))
     behind-letter (some _) (known {kind} {h} {hs} l same) (g ∷ gs) ps = same-six kind (h ∷ hs) same (g ∷ gs) _ (rest kind l g gs ps 0 0 0)
 
     two-letters : (b x : ℕ) (bs : List ℕ) → eqb b LF ≡ false → eqb b COMMA ≡ false → eqb x LF ≡ false → eqb x COMMA ≡ false
-        → stateIn (fed (b ∷ x ∷ bs) (held (atLine k u) run places)) ≡ stopped k LINE
+        → stateIn (fed (b ∷ x ∷ bs) (held (atLine k u) run records)) ≡ stopped k LINE
     unfolding machine.fed machine.stepped machine.otherStep
     two-letters b x bs lf comma lf2 comma2 = rw (lf, comma) (go (shapeOf (b ∷ [])))
       where
-        go : (o : Option Shape) → stateIn (fed (x ∷ bs) (held (begunAs o (atLine k u)) run places)) ≡ stopped k LINE
-        go none = stays (x ∷ bs) k LINE (held (stopped k LINE) run places) refl
-        go (some s) = rw (lf2, comma2) (stays bs k LINE (held (stopped k LINE) run places) refl)
+        go : (o : Option Shape) → stateIn (fed (x ∷ bs) (held (begunAs o (atLine k u)) run records)) ≡ stopped k LINE
+        go none = stays (x ∷ bs) k LINE (held (stopped k LINE) run records) refl
+        go (some s) = rw (lf2, comma2) (stays bs k LINE (held (stopped k LINE) run records) refl)
 
-    one-letter : (b : ℕ) → eqb b LF ≡ false → eqb b COMMA ≡ false → fed (b ∷ []) (held (atLine k u) run places) ≡ held (begunAs (shapeOf (b ∷ [])) (atLine k u)) run places
+    one-letter : (b : ℕ) → eqb b LF ≡ false → eqb b COMMA ≡ false → fed (b ∷ []) (held (atLine k u) run records) ≡ held (begunAs (shapeOf (b ∷ [])) (atLine k u)) run records
     unfolding machine.fed machine.stepped machine.otherStep
     one-letter b lf comma = rw (lf, comma)
 
@@ -279,20 +279,20 @@ module _ (bytes lines k u : ℕ) (run places : List ℕ) where
     letter-first letter [] h = only-field letter h
     letter-first letter (g ∷ gs) h = after-comma letter g gs h
 
-    no-letter : (fs : List (List ℕ)) → stateIn (stepped LF (fedRest fs (fed [] (held (atLine k u) run places)))) ≡ stopped k LINE
+    no-letter : (fs : List (List ℕ)) → stateIn (stepped LF (fedRest fs (fed [] (held (atLine k u) run records)))) ≡ stopped k LINE
     unfolding machine.fed machine.stepped machine.endStep machine.commaStep
     no-letter [] = refl
-    no-letter (g ∷ gs) = refused-rest (joined COMMA (g ∷ gs)) k LINE (held (stopped k LINE) run places) refl
+    no-letter (g ∷ gs) = refused-rest (joined COMMA (g ∷ gs)) k LINE (held (stopped k LINE) run records) refl
 
     of-fields : (fields : List (List ℕ)) → Some fields → AllPlain fields
-        → LineLeft sixLine (ofFields fields) (stepped LF (fed (joined COMMA fields) (held (atLine k u) run places)))
-    of-fields ([] ∷ fs) some-part (plains-cons p ps) = rw (letter-first [] fs (held (atLine k u) run places)) (no-letter fs)
+        → LineLeft sixLine (ofFields fields) (stepped LF (fed (joined COMMA fields) (held (atLine k u) run records)))
+    of-fields ([] ∷ fs) some-part (plains-cons p ps) = rw (letter-first [] fs (held (atLine k u) run records)) (no-letter fs)
     of-fields ((b ∷ []) ∷ fs) some-part (plains-cons (plain-cons lf comma p) ps) =
-        rw (letter-first (b ∷ []) fs (held (atLine k u) run places), one-letter b lf comma) (behind-letter (shapeOf (b ∷ [])) (all-known b) fs ps)
+        rw (letter-first (b ∷ []) fs (held (atLine k u) run records), one-letter b lf comma) (behind-letter (shapeOf (b ∷ [])) (all-known b) fs ps)
     of-fields ((b ∷ x ∷ bs) ∷ fs) some-part (plains-cons (plain-cons lf comma (plain-cons lf2 comma2 p)) ps) =
-        rw (letter-first (b ∷ x ∷ bs) fs (held (atLine k u) run places)) (refused-fields fs (fed (b ∷ x ∷ bs) (held (atLine k u) run places)) (two-letters b x bs lf comma lf2 comma2))
+        rw (letter-first (b ∷ x ∷ bs) fs (held (atLine k u) run records)) (refused-fields fs (fed (b ∷ x ∷ bs) (held (atLine k u) run records)) (two-letters b x bs lf comma lf2 comma2))
 
-    pub line : (l : List ℕ) → Free LF l → LineLeft sixLine (lineOf l) (stepped LF (fed l (held (atLine k u) run places)))
+    pub line : (l : List ℕ) → Free LF l → LineLeft sixLine (lineOf l) (stepped LF (fed l (held (atLine k u) run records)))
     line l f =
-        subst (λ (x : List ℕ). LineLeft sixLine (lineOf l) (stepped LF (fed x (held (atLine k u) run places)))) (joined-parts COMMA l)
+        subst (λ (x : List ℕ). LineLeft sixLine (lineOf l) (stepped LF (fed x (held (atLine k u) run records)))) (joined-parts COMMA l)
         (of-fields (parted COMMA l) (some-parts COMMA l) (plain-fields l f))

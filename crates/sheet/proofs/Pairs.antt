@@ -27,47 +27,47 @@ no-mark : (d mark : ℕ) → isHex d ≡ true → mark < 0x30 → eqb d mark ≡
 no-mark d mark h low = ne-eqb d mark (λ e. absurd (omega (arith, e, hex-above d h)))
 
 -- one pair
-pair : (s : State) (run places : List ℕ) → s .phase ≡ HIGH → (d e : ℕ) → isHex d ≡ true → isHex e ≡ true
-    → stepped e (stepped d (held s run places)) ≡ held (storedTo (usedOne (bytesIn run) (s .used)) s) (storedOne (bytesIn run) (s .used) (hexValue d * 16 + hexValue e) run) places
+pair : (s : State) (run records : List ℕ) → s .phase ≡ HIGH → (d e : ℕ) → isHex d ≡ true → isHex e ≡ true
+    → stepped e (stepped d (held s run records)) ≡ held (storedTo (usedOne (bytesIn run) (s .used)) s) (storedOne (bytesIn run) (s .used) (hexValue d * 16 + hexValue e) run) records
 unfolding machine.stepped machine.highStep machine.lowStep machine.lowRun
-pair s run places at d e hd he =
+pair s run records at d e hd he =
     let small : hexValue d % 16 ≡ hexValue d = omega (arith, hex-small d hd) in
     rw (at, no-mark d LF hd (omega arith), no-mark d COMMA hd (omega arith), hd, no-mark e LF he (omega arith), no-mark e COMMA he (omega arith), he, small)
 
 -- what stands after pairs that say these bytes
-abbrev pub afterPairs : (bytes : List ℕ) → State → (run places : List ℕ) → Held
-afterPairs vs s run places = held (storedTo (usedAll (bytesIn run) (s .used) vs) s) (runAll (bytesIn run) (s .used) vs run) places
+abbrev pub afterPairs : (bytes : List ℕ) → State → (run records : List ℕ) → Held
+afterPairs vs s run records = held (storedTo (usedAll (bytesIn run) (s .used) vs) s) (runAll (bytesIn run) (s .used) vs run) records
 
 -- a pair, and those behind it
-first-pair : (f : List ℕ) (s : State) (run places : List ℕ) → s .phase ≡ HIGH → (d e : ℕ) → isHex d ≡ true → isHex e ≡ true
-    → ((t : State) (r : List ℕ) → t .phase ≡ HIGH → t .digit ≡ 0 → fed f (held t r places) ≡ afterPairs (unpaired f) t r places)
-    → fed (d ∷ e ∷ f) (held s run places) ≡ afterPairs (unpaired (d ∷ e ∷ f)) s run places
+first-pair : (f : List ℕ) (s : State) (run records : List ℕ) → s .phase ≡ HIGH → (d e : ℕ) → isHex d ≡ true → isHex e ≡ true
+    → ((t : State) (r : List ℕ) → t .phase ≡ HIGH → t .digit ≡ 0 → fed f (held t r records) ≡ afterPairs (unpaired f) t r records)
+    → fed (d ∷ e ∷ f) (held s run records) ≡ afterPairs (unpaired (d ∷ e ∷ f)) s run records
 unfolding machine.fed hex.unpaired usedAll runAll
-first-pair f s run places at d e hd he later =
+first-pair f s run records at d e hd he later =
     let v = hexValue d * 16 + hexValue e in
     let room : bytesIn (storedOne (bytesIn run) (s .used) v run) ≡ bytesIn run = ap (roomFor «BLOB_BYTES») (stored-long (bytesIn run) (s .used) v run) in
-    ap (fed f) (pair s run places at d e hd he) ∙ later (storedTo (usedOne (bytesIn run) (s .used)) s) (storedOne (bytesIn run) (s .used) v run) refl refl ∙ rw room
+    ap (fed f) (pair s run records at d e hd he) ∙ later (storedTo (usedOne (bytesIn run) (s .used)) s) (storedOne (bytesIn run) (s .used) v run) refl refl ∙ rw room
 
 -- between pairs no digit is kept
-between : (f : List ℕ) → all isHex f ≡ true → length f % 2 ≡ 0 → (s : State) (run places : List ℕ) → s .phase ≡ HIGH → s .digit ≡ 0 → fed f (held s run places) ≡ afterPairs (unpaired f) s run places
+between : (f : List ℕ) → all isHex f ≡ true → length f % 2 ≡ 0 → (s : State) (run records : List ℕ) → s .phase ≡ HIGH → s .digit ≡ 0 → fed f (held s run records) ≡ afterPairs (unpaired f) s run records
 unfolding machine.fed hex.unpaired usedAll runAll
-between [] h even s run places at none = λ i.
-    held (state (s .oldest) (s .older) (s .newest) (s .number) (s .lines) (s .start) (s .used) (s .kind) (s .left) (none i) (s .refusal) (at i)) run places
-between (d ∷ []) h even s run places at none = absurd (omega arith)
-between (d ∷ e ∷ f) h even s run places at none =
+between [] h even s run records at none = λ i.
+    held (state (s .oldest) (s .older) (s .newest) (s .number) (s .lines) (s .start) (s .used) (s .kind) (s .left) (none i) (s .refusal) (at i)) run records
+between (d ∷ []) h even s run records at none = absurd (omega arith)
+between (d ∷ e ∷ f) h even s run records at none =
     let hd = and-both (isHex d) (all isHex (e ∷ f)) h in
     let he = and-both (isHex e) (all isHex f) (hd .1) in
-    first-pair f s run places at d e (hd .0) (he .0) (λ t r. between f (he .1) (omega arith) t r places)
+    first-pair f s run records at d e (hd .0) (he .0) (λ t r. between f (he .1) (omega arith) t r records)
 
 -- ... and of a state that keeps one, the first pair drops it
-pub pairs : (f : List ℕ) → 0 < length f → all isHex f ≡ true → length f % 2 ≡ 0 → (s : State) (run places : List ℕ) → s .phase ≡ HIGH
-    → fed f (held s run places) ≡ afterPairs (unpaired f) s run places
-pairs [] some h even s run places at = absurd (omega arith)
-pairs (d ∷ []) some h even s run places at = absurd (omega arith)
-pairs (d ∷ e ∷ f) some h even s run places at =
+pub pairs : (f : List ℕ) → 0 < length f → all isHex f ≡ true → length f % 2 ≡ 0 → (s : State) (run records : List ℕ) → s .phase ≡ HIGH
+    → fed f (held s run records) ≡ afterPairs (unpaired f) s run records
+pairs [] some h even s run records at = absurd (omega arith)
+pairs (d ∷ []) some h even s run records at = absurd (omega arith)
+pairs (d ∷ e ∷ f) some h even s run records at =
     let hd = and-both (isHex d) (all isHex (e ∷ f)) h in
     let he = and-both (isHex e) (all isHex f) (hd .1) in
-    first-pair f s run places at d e (hd .0) (he .0) (λ t r. between f (he .1) (omega arith) t r places)
+    first-pair f s run records at d e (hd .0) (he .0) (λ t r. between f (he .1) (omega arith) t r records)
 
 -- ---- many bytes stored at once: as far as there is room, and one more than there is room for stands for any more
 pub over-all : (room u : ℕ) (vs : List ℕ) → 0 < length vs → room < u + length vs → usedAll room u vs ≡ room + 1
@@ -99,26 +99,26 @@ usedNow u s = state (s .oldest) (s .older) (s .newest) (s .number) (s .lines) (s
 
 module _ (s : State) (f run : List ℕ) (at : s .phase ≡ HIGH) (some : 0 < length f) (even : length f % 2 ≡ 0) (digits : all isHex f ≡ true) where
   leaves : (u : ℕ) (run′ : List ℕ) → usedAll (bytesIn run) (s .used) (unpaired f) ≡ u → runAll (bytesIn run) (s .used) (unpaired f) run ≡ run′
-      → (places : List ℕ) → held (usedNow u s) run′ places ≡ fed f (held s run places)
-  leaves u run′ used stored places =
-      (λ i. held (state (s .oldest) (s .older) (s .newest) (s .number) (s .lines) (s .start) (sym used i) (s .kind) (s .left) 0 (s .refusal) (at i)) (sym stored i) places)
-      ∙ sym (pairs f some digits even s run places at)
+      → (records : List ℕ) → held (usedNow u s) run′ records ≡ fed f (held s run records)
+  leaves u run′ used stored records =
+      (λ i. held (state (s .oldest) (s .older) (s .newest) (s .number) (s .lines) (s .start) (sym used i) (s .kind) (s .left) 0 (s .refusal) (at i)) (sym stored i) records)
+      ∙ sym (pairs f some digits even s run records at)
 
   pub all-fit : (run′ : List ℕ) → run′ ≡ put run (s .used) (unpaired f) → s .used + length f / 2 ≤ bytesIn run
-      → (places : List ℕ) → held (usedNow (s .used + length f / 2) s) run′ places ≡ fed f (held s run places)
+      → (records : List ℕ) → held (usedNow (s .used + length f / 2) s) run′ records ≡ fed f (held s run records)
   all-fit run′ stored fits =
       let long = length-unpaired f in
       leaves (s .used + length f / 2) run′ (fits-used (bytesIn run) (s .used) (unpaired f) (omega arith) ∙ ap (λ (n : ℕ). s .used + n) long)
       (fits-run (bytesIn run) (s .used) (unpaired f) run (omega arith) ∙ sym stored)
 
   pub some-fit : (k : ℕ) (run′ : List ℕ) → k ≡ bytesIn run - s .used → run′ ≡ put run (s .used) (unpaired (take (2 * k) f)) → bytesIn run < s .used + length f / 2
-      → (places : List ℕ) → held (usedNow (bytesIn run + 1) s) run′ places ≡ fed f (held s run places)
+      → (records : List ℕ) → held (usedNow (bytesIn run + 1) s) run′ records ≡ fed f (held s run records)
   some-fit k run′ room stored over =
       let long = length-unpaired f in
       leaves (bytesIn run + 1) run′ (over-all (bytesIn run) (s .used) (unpaired f) (omega arith) (omega arith))
       (first-stored (bytesIn run) (s .used) k (unpaired f) run room ∙ ap (put run (s .used)) (sym (unpaired-take k f)) ∙ sym stored)
 
-  pub none-fit : bytesIn run ≤ s .used → (places : List ℕ) → held (usedNow (bytesIn run + 1) s) run places ≡ fed f (held s run places)
+  pub none-fit : bytesIn run ≤ s .used → (records : List ℕ) → held (usedNow (bytesIn run + 1) s) run records ≡ fed f (held s run records)
   unfolding storing.put hex.unpaired
   none-fit full = some-fit 0 run (omega arith) refl (omega arith)
 

@@ -45,40 +45,40 @@ room-lent most lent = go (ltb lent most) refl
     go true e = omega arith
     go false e = omega (arith, ltb-false lent most e)
 
-full : (sheet run places : List ℕ) → «BLOB_BYTES» ≤ length run → 6 * LINES ≤ length places → sheetIn (roomOf run places) sheet ≡ sheetOf sheet
-full sheet run places b l =
-    let lines : LINES ≤ length places / 6 = omega arith in
-    rw (le-ltb (length run) «BLOB_BYTES» b, le-ltb (length places / 6) LINES lines)
+full : (sheet run records : List ℕ) → «BLOB_BYTES» ≤ length run → 6 * LINES ≤ length records → sheetIn (roomOf run records) sheet ≡ sheetOf sheet
+full sheet run records b l =
+    let lines : LINES ≤ length records / 6 = omega arith in
+    rw (le-ltb (length run) «BLOB_BYTES» b, le-ltb (length records / 6) LINES lines)
 
 -- ---- the whole sheet
-whole-read : (run places : List ℕ) (es : List Entry) (blob : List ℕ) (h : Held) → length blob ≤ length run → 6 * length es ≤ length places
-    → Agrees 0 0 run places (read es blob) h → WholeRead run places es blob h
+whole-read : (run records : List ℕ) (es : List Entry) (blob : List ℕ) (h : Held) → length blob ≤ length run → 6 * length es ≤ length records
+    → Agrees 0 0 run records (read es blob) h → WholeRead run records es blob h
 unfolding machine.answerOf
-whole-read run places es blob h b l e =
+whole-read run records es blob h b l e =
     let six = sixes-long es in
     let run-is = put-front run blob b in
-    let places-are : put places (6 * 0) (sixes es) ≡ sixes es ++ drop (6 * length es) places = put-front places (sixes es) (omega arith) ∙ rw six in
+    let records-are : put records (6 * 0) (sixes es) ≡ sixes es ++ drop (6 * length es) records = put-front records (sixes es) (omega arith) ∙ rw six in
     let k = zero-add (length es) in
     let u = zero-add (length blob) in
     record {
       answered = rw (e, k, u);
       run-is = rw (e, run-is);
-      places-are = rw (e, places-are);
-      entries-are = rw (e, places-are) (sixes-back es (drop (6 * length es) places));
+      records-are = rw (e, records-are);
+      entries-are = rw (e, records-are) (sixes-back es (drop (6 * length es) records));
     }
 
-leaves : (sheet run places : List ℕ) → Leaves run places (sheetIn (roomOf run places) sheet) (fed sheet (held (atLine 0 0) run places))
-leaves sheet run places =
-    go (sheetIn (roomOf run places) sheet) refl
-    (sheet-from (bytesIn run) (linesIn places) (room-most LINES (length places / 6)) sheet 0 0 run places refl refl (omega arith))
+leaves : (sheet run records : List ℕ) → Leaves run records (sheetIn (roomOf run records) sheet) (fed sheet (held (atLine 0 0) run records))
+leaves sheet run records =
+    go (sheetIn (roomOf run records) sheet) refl
+    (sheet-from (bytesIn run) (linesIn records) (room-most LINES (length records / 6)) sheet 0 0 run records refl refl (omega arith))
   where
-    go : (says : SheetSays) → sheetIn (roomOf run places) sheet ≡ says → Agrees 0 0 run places says (fed sheet (held (atLine 0 0) run places)) → Leaves run places says (fed sheet (held (atLine 0 0) run places))
+    go : (says : SheetSays) → sheetIn (roomOf run records) sheet ≡ says → Agrees 0 0 run records says (fed sheet (held (atLine 0 0) run records)) → Leaves run records says (fed sheet (held (atLine 0 0) run records))
     go (refused q l) e p = p
     go (read es blob) e p =
-        let f = sheet-fits (roomOf run places) sheet es blob e in
+        let f = sheet-fits (roomOf run records) sheet es blob e in
         let b : length blob ≤ length run = omega (arith, f .few-bytes, room-lent «BLOB_BYTES» (length run)) in
-        let l : 6 * length es ≤ length places = omega (arith, f .few-lines, room-lent LINES (length places / 6)) in
-        whole-read run places es blob (fed sheet (held (atLine 0 0) run places)) b l p
+        let l : 6 * length es ≤ length records = omega (arith, f .few-lines, room-lent LINES (length records / 6)) in
+        whole-read run records es blob (fed sheet (held (atLine 0 0) run records)) b l p
 
 in-chunks : (chunks : List (List ℕ)) (h : Held) → inChunks chunks h ≡ fed (whole chunks) h
 unfolding machine.fed

@@ -10,7 +10,7 @@ use Rattle.ascii.specs.Words as words
 use Rattle.sheet.specs.Sheet as sheet
 use Rattle.sheet.specs.Sheet.{Room, read, refused, sheetIn, sheetOf}
 
--- six numbers in the order of the places
+-- six numbers in the order of the records
 abbrev entry : (kind id start len msgno version : ℕ) → Entry
 entry kind id start len msgno version = record { id = id; start = start; len = len; msgno = msgno; version = version; kind = kind }
 

@@ -91,12 +91,12 @@ module _ (k : ℕ) (s : State) (e : s .lines ≡ k) where
         go false false false true x = let is : s .phase ≡ WAIT = eqb-true (s .phase) WAIT x in going {s = s} (rw is) (rw is) e
         go false false false false x = refuses
 
-    by-byte : (run places : List ℕ) → eqb (s .phase) REFUSED ≡ false → eqb b LF ≡ false → Within k (stateIn (stepped b (held s run places)))
+    by-byte : (run records : List ℕ) → eqb (s .phase) REFUSED ≡ false → eqb b LF ≡ false → Within k (stateIn (stepped b (held s run records)))
     unfolding machine.stepped
-    by-byte run places q lf = rw (q, lf) (go (eqb b COMMA) (eqb (s .phase) HIGH) (eqb (s .phase) LOW))
+    by-byte run records q lf = rw (q, lf) (go (eqb b COMMA) (eqb (s .phase) HIGH) (eqb (s .phase) LOW))
       where
-        go : (c h l : Bool) → Within k (stateIn (cond c (held (commaStep s) run places) (cond h (held (highStep b s) run places)
-            (cond l (held (lowStep (bytesIn run) b s) (lowRun (bytesIn run) b s run) places) (held (otherStep b s) run places)))))
+        go : (c h l : Bool) → Within k (stateIn (cond c (held (commaStep s) run records) (cond h (held (highStep b s) run records)
+            (cond l (held (lowStep (bytesIn run) b s) (lowRun (bytesIn run) b s run) records) (held (otherStep b s) run records)))))
         go true h l = by-comma
         go false true l = by-high
         go false false true = by-low (bytesIn run)
@@ -105,11 +105,11 @@ module _ (k : ℕ) (s : State) (e : s .lines ≡ k) where
 -- ---- the bytes of a line
 stay-within : (k b : ℕ) (h : Held) → eqb b LF ≡ false → Within k (stateIn h) → Within k (stateIn (stepped b h))
 unfolding machine.stepped
-stay-within k b (held s run places) lf w = go s w
+stay-within k b (held s run records) lf w = go s w
   where
-    go : (s : State) → Within k s → Within k (stateIn (stepped b (held s run places)))
+    go : (s : State) → Within k s → Within k (stateIn (stepped b (held s run records)))
     go _ no-line = no-line
-    go s (going p q e) = by-byte k s e b run places q lf
+    go s (going p q e) = by-byte k s e b run records q lf
 
 fed-within : (k : ℕ) {bs : List ℕ} → Free LF bs → (h : Held) → Within k (stateIn h) → Within k (stateIn (fed bs h))
 unfolding machine.fed
@@ -127,8 +127,8 @@ within-answer k _ h no-line = let line : min k LINES + 1 ≡ suc k = omega arith
 within-answer k s h (going p q e) = let line : min k LINES + 1 ≡ suc k = omega arith in rw (p, q, e, line)
 
 -- a line without its LF
-pub unended : (k u b : ℕ) (bs run places : List ℕ) → k ≤ LINES → Free LF (b ∷ bs) → answerOf (stateIn (fed (b ∷ bs) (held (atLine k u) run places))) ≡ Refused LINE (suc k)
+pub unended : (k u b : ℕ) (bs run records : List ℕ) → k ≤ LINES → Free LF (b ∷ bs) → answerOf (stateIn (fed (b ∷ bs) (held (atLine k u) run records))) ≡ Refused LINE (suc k)
 unfolding machine.fed
-unended k u b bs run places h (free-cons lf f) =
-    within-answer k (stateIn (fed bs (stepped b (held (atLine k u) run places)))) h
-    (fed-within k f (stepped b (held (atLine k u) run places)) (by-byte k (atLine k u) refl b run places refl lf))
+unended k u b bs run records h (free-cons lf f) =
+    within-answer k (stateIn (fed bs (stepped b (held (atLine k u) run records)))) h
+    (fed-within k f (stepped b (held (atLine k u) run records)) (by-byte k (atLine k u) refl b run records refl lf))

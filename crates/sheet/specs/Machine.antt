@@ -1,4 +1,4 @@
--- What one byte of a sheet does to the reader's state, to the run and to the places. That the bytes of a sheet together do what the sheet says is proved
+-- What one byte of a sheet does to the reader's state, to the run and to the records. That the bytes of a sheet together do what the sheet says is proved
 -- (Proved.antt), so this need not be believed.
 -- Assumes nothing.
 use Prim.Native.Nat.{ℕ, _+_, _-_, _*_, _/_, _%_, min}
@@ -139,11 +139,11 @@ roomFor most lent = cond (ltb lent most) lent most
 abbrev pub bytesIn : (run : List ℕ) → ℕ
 bytesIn run = roomFor «BLOB_BYTES» (length run)
 
-abbrev pub linesIn : (places : List ℕ) → ℕ
-linesIn places = roomFor LINES (length places / 6)
+abbrev pub linesIn : (records : List ℕ) → ℕ
+linesIn records = roomFor LINES (length records / 6)
 
-abbrev pub roomOf : (run places : List ℕ) → Room
-roomOf run places = record { bytes = bytesIn run; lines = linesIn places }
+abbrev pub roomOf : (run records : List ℕ) → Room
+roomOf run records = record { bytes = bytesIn run; lines = linesIn records }
 
 -- so many blob bytes; one more than there is room for stands for any more
 abbrev pub usedOne : (room used : ℕ) → ℕ
@@ -174,8 +174,8 @@ six s = s .kind ∷ idIn s ∷ s .start ∷ (s .used - s .start) ∷ msgnoIn s �
 unfoldable pub closed : (bytes lines : ℕ) → State → State
 closed bytes lines s = cond (leb (s .used) bytes && ltb (s .lines) lines) (atLine (s .lines + 1) (s .used)) (refusedFor «SHEET_SIZE» s)
 
-unfoldable pub closedPlaces : (bytes lines : ℕ) → State → List ℕ → List ℕ
-closedPlaces bytes lines s places = cond (leb (s .used) bytes && ltb (s .lines) lines) (put places (6 * s .lines) (six s)) places
+unfoldable pub closedRecords : (bytes lines : ℕ) → State → List ℕ → List ℕ
+closedRecords bytes lines s records = cond (leb (s .used) bytes && ltb (s .lines) lines) (put records (6 * s .lines) (six s)) records
 
 unfoldable pub endStep : (bytes lines : ℕ) → State → State
 endStep bytes lines s =
@@ -184,8 +184,8 @@ endStep bytes lines s =
     (cond (eqb (s .phase) WAIT && eqb (s .left) 0) (refusedFor (s .refusal) s)
     (refusedFor LINE s)))
 
-unfoldable pub endPlaces : (bytes lines : ℕ) → State → List ℕ → List ℕ
-endPlaces bytes lines s places = cond (eqb (s .phase) HIGH) (closedPlaces bytes lines s places) places
+unfoldable pub endRecords : (bytes lines : ℕ) → State → List ℕ → List ℕ
+endRecords bytes lines s records = cond (eqb (s .phase) HIGH) (closedRecords bytes lines s records) records
 
 -- ---- any byte
 -- a byte that is no LF, no comma and in no blob
@@ -197,18 +197,18 @@ otherStep b s =
     (cond (eqb (s .phase) WAIT) s (refusedFor LINE s))))
 
 pub data Held : Type 0 where
-  held : State → (run places : List ℕ) → Held
+  held : State → (run records : List ℕ) → Held
 
 unfoldable pub stepped : ℕ → Held → Held
-stepped b (held s run places) =
+stepped b (held s run records) =
     let bytes = bytesIn run in
-    let lines = linesIn places in
-    cond (eqb (s .phase) REFUSED) (held s run places)
-    (cond (eqb b LF) (held (endStep bytes lines s) run (endPlaces bytes lines s places))
-    (cond (eqb b COMMA) (held (commaStep s) run places)
-    (cond (eqb (s .phase) HIGH) (held (highStep b s) run places)
-    (cond (eqb (s .phase) LOW) (held (lowStep bytes b s) (lowRun bytes b s run) places)
-    (held (otherStep b s) run places)))))
+    let lines = linesIn records in
+    cond (eqb (s .phase) REFUSED) (held s run records)
+    (cond (eqb b LF) (held (endStep bytes lines s) run (endRecords bytes lines s records))
+    (cond (eqb b COMMA) (held (commaStep s) run records)
+    (cond (eqb (s .phase) HIGH) (held (highStep b s) run records)
+    (cond (eqb (s .phase) LOW) (held (lowStep bytes b s) (lowRun bytes b s run) records)
+    (held (otherStep b s) run records)))))
 
 unfoldable pub fed : List ℕ → Held → Held
 fed [] h = h
@@ -221,10 +221,10 @@ answerOf s =
     (cond (eqb (s .phase) REFUSED) (Refused (s .refusal) (min (s .lines) LINES + 1)) (Refused LINE (min (s .lines) LINES + 1)))
 
 abbrev pub stateIn : Held → State
-stateIn (held s run places) = s
+stateIn (held s run records) = s
 
 abbrev pub runIn : Held → List ℕ
-runIn (held s run places) = run
+runIn (held s run records) = run
 
-abbrev pub placesIn : Held → List ℕ
-placesIn (held s run places) = places
+abbrev pub recordsIn : Held → List ℕ
+recordsIn (held s run records) = records

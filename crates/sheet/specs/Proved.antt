@@ -12,7 +12,7 @@ use Rattle.store.specs.declared.Entry.{Entry}
 use Rattle.store.specs.Kinds.{COURIER}
 use Rattle.sheet.specs.declared.Answer.the-variants.{Read, Refused}
 use Rattle.sheet.specs.Sheet.{Room, SheetSays, read, refused, saidFrom, sheetIn, sheetOf, «BLOB_BYTES», LINES, sixes, entriesIn}
-use Rattle.sheet.specs.Machine.{atLine, roomOf, Held, held, stateIn, runIn, placesIn, fed, answerOf}
+use Rattle.sheet.specs.Machine.{atLine, roomOf, Held, held, stateIn, runIn, recordsIn, fed, answerOf}
 
 -- ---- what a sheet says
 -- no number is wider than its field, and the row stands within the run
@@ -45,23 +45,23 @@ pub record SaidLaws : Type 0 where
       → sheetIn room (a ++ b) ≡ ontoAll es run (saidFrom room (length es) (length run) (parted LF b))
 
 -- ---- a sheet read byte by byte
--- the answer, the run and the places afterwards: what is read stands in front, and all behind it stays as it was
-pub record WholeRead (run places : List ℕ) (es : List Entry) (blob : List ℕ) (h : Held) : Type 0 where
+-- the answer, the run and the records afterwards: what is read stands in front, and all behind it stays as it was
+pub record WholeRead (run records : List ℕ) (es : List Entry) (blob : List ℕ) (h : Held) : Type 0 where
   pub answered : answerOf (stateIn h) ≡ Read (length es) (length blob)
   pub run-is : runIn h ≡ blob ++ drop (length blob) run
-  pub places-are : placesIn h ≡ sixes es ++ drop (6 * length es) places
-  pub entries-are : entriesIn (length es) (placesIn h) ≡ es
+  pub records-are : recordsIn h ≡ sixes es ++ drop (6 * length es) records
+  pub entries-are : entriesIn (length es) (recordsIn h) ≡ es
 
-abbrev pub Leaves : (run places : List ℕ) → SheetSays → Held → Type 0
-Leaves run places (read es blob) h = WholeRead run places es blob h
-Leaves run places (refused q line) h = answerOf (stateIn h) ≡ Refused q line
+abbrev pub Leaves : (run records : List ℕ) → SheetSays → Held → Type 0
+Leaves run records (read es blob) h = WholeRead run records es blob h
+Leaves run records (refused q line) h = answerOf (stateIn h) ≡ Refused q line
 
 -- whatever was fed, no byte and no place outside the largest room has changed
 pub record Kept (before after : Held) : Type 0 where
   pub run-long : length (runIn after) ≡ length (runIn before)
   pub run-behind : drop «BLOB_BYTES» (runIn after) ≡ drop «BLOB_BYTES» (runIn before)
-  pub places-long : length (placesIn after) ≡ length (placesIn before)
-  pub places-behind : drop (6 * LINES) (placesIn after) ≡ drop (6 * LINES) (placesIn before)
+  pub records-long : length (recordsIn after) ≡ length (recordsIn before)
+  pub records-behind : drop (6 * LINES) (recordsIn after) ≡ drop (6 * LINES) (recordsIn before)
 
 abbrev pub inChunks : List (List ℕ) → Held → Held
 inChunks [] h = h
@@ -72,8 +72,8 @@ whole [] = []
 whole (c ∷ cs) = c ++ whole cs
 
 pub record MachineLaws : Type 0 where
-  pub reads : (sheet run places : List ℕ) → Leaves run places (sheetIn (roomOf run places) sheet) (fed sheet (held (atLine 0 0) run places))
+  pub reads : (sheet run records : List ℕ) → Leaves run records (sheetIn (roomOf run records) sheet) (fed sheet (held (atLine 0 0) run records))
   -- lent lists that are long enough leave the room that the questions give
-  pub full-room : (sheet run places : List ℕ) → «BLOB_BYTES» ≤ length run → 6 * LINES ≤ length places → sheetIn (roomOf run places) sheet ≡ sheetOf sheet
+  pub full-room : (sheet run records : List ℕ) → «BLOB_BYTES» ≤ length run → 6 * LINES ≤ length records → sheetIn (roomOf run records) sheet ≡ sheetOf sheet
   pub chunked : (chunks : List (List ℕ)) (h : Held) → inChunks chunks h ≡ fed (whole chunks) h
   pub kept : (bs : List ℕ) (h : Held) → Kept h (fed bs h)

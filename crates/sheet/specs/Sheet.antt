@@ -173,6 +173,6 @@ sixes (e ∷ es) = sixOf e ++ sixes es
 abbrev pub entryIn : List ℕ → Entry
 entryIn six = record { id = getD six 1 0; start = getD six 2 0; len = getD six 3 0; msgno = getD six 4 0; version = getD six 5 0; kind = getD six 0 0 }
 
-unfoldable pub entriesIn : (lines : ℕ) → (places : List ℕ) → List Entry
-entriesIn zero places = []
-entriesIn (suc lines) places = entryIn places ∷ entriesIn lines (drop 6 places)
+unfoldable pub entriesIn : (lines : ℕ) → (records : List ℕ) → List Entry
+entriesIn zero records = []
+entriesIn (suc lines) records = entryIn records ∷ entriesIn lines (drop 6 records)

@@ -1,7 +1,7 @@
 // The sheet, read byte by byte (questions 41 to 44): lines `D,version,blob`, `C,contact,version,blob`, `Q,contact,msgno,version,blob`,
 // `K,slot,version,blob`, each with its LF. A chunk of any length may be handed in at a time; the state is all that is kept between chunks.
-// Blob bytes go to a lent run, and of each line six numbers go to lent places: kind, id, start, length, msgno, version. A run shorter than
-// 61,440 bytes, or places for fewer than 512 lines, lower the limits of 44; no place and no byte past them is touched.
+// Blob bytes go to a lent run, and of each line six numbers go to lent records: kind, id, start, length, msgno, version. A run shorter than
+// 61,440 bytes, or records for fewer than 512 lines, lower the limits of 44; no place and no byte past them is touched.
 // 41 is answered as soon as it is sure. 42 and 43 wait for the line's end, since its later bytes can still make it 41.
 use ascii::Said;
 use layout::question;
@@ -16,7 +16,7 @@ ghost use Rattle.ascii.specs.Hex.{isHex, hexPairs};
 ghost use Rattle.put.specs.Put.{put};
 ghost use Rattle.sheet.specs.Sheet.{shapeOf, «BLOB_BYTES»};
 ghost use Rattle.sheet.specs.Machine.{atLine, waiting, stopped, begun, begunAs, highestAt, digitStep, numberStep, taken, commaStep, highStep, roomFor};
-ghost use Rattle.sheet.specs.Machine.{HIGH, bytesIn, linesIn, lowStep, lowRun, idIn, msgnoIn, six, closed, closedPlaces, endStep, endPlaces, otherStep, held, stepped, fed, answerOf};
+ghost use Rattle.sheet.specs.Machine.{HIGH, bytesIn, linesIn, lowStep, lowRun, idIn, msgnoIn, six, closed, closedRecords, endStep, endRecords, otherStep, held, stepped, fed, answerOf};
 
 const LF: u8 = b'\n';
 
@@ -35,8 +35,8 @@ pub const BLOB_BYTES: usize = 61440;
 
 pub const LINES: usize = 512;
 
-// How many numbers stand in the places for a line.
-pub const PLACE: usize = 6;
+// How many numbers stand in the records for a line.
+pub const RECORD: usize = 6;
 
 // The highest number of 32 bits.
 const HIGHEST_32: u64 = 0xFFFFFFFF;
@@ -313,41 +313,41 @@ fn msgno_in(s: State) -> u64
     0
 }
 
-fn put_six(places: &mut [u64], at: usize, s: State)
-    requires { ⌜ at + 6 ≤ length (now places) ⌝ }
-    ensures { λ r. ⌜ now (places .exit) ≡ put (now (places .entry)) at (six s) ⌝ }
+fn put_six(records: &mut [u64], at: usize, s: State)
+    requires { ⌜ at + 6 ≤ length (now records) ⌝ }
+    ensures { λ r. ⌜ now (records .exit) ≡ put (now (records .entry)) at (six s) ⌝ }
 {
-    places[at] = width::wide(s.kind);
-    places[at + 1] = id_in(s);
-    places[at + 2] = s.start as u64;
-    places[at + 3] = difference(s.used, s.start) as u64;
-    places[at + 4] = msgno_in(s);
-    places[at + 5] = s.newest;
+    records[at] = width::wide(s.kind);
+    records[at + 1] = id_in(s);
+    records[at + 2] = s.start as u64;
+    records[at + 3] = difference(s.used, s.start) as u64;
+    records[at + 4] = msgno_in(s);
+    records[at + 5] = s.newest;
 }
 
-fn close(s: State, lent: usize, places: &mut [u64]) -> State
-    ensures { λ r. ⌜ (r ≡ closed (roomFor «BLOB_BYTES» lent) (linesIn (now (places .entry))) s) × (now (places .exit) ≡ closedPlaces (roomFor «BLOB_BYTES» lent) (linesIn (now (places .entry))) s (now (places .entry))) ⌝ }
+fn close(s: State, lent: usize, records: &mut [u64]) -> State
+    ensures { λ r. ⌜ (r ≡ closed (roomFor «BLOB_BYTES» lent) (linesIn (now (records .entry))) s) × (now (records .exit) ≡ closedRecords (roomFor «BLOB_BYTES» lent) (linesIn (now (records .entry))) s (now (records .entry))) ⌝ }
 {
     let bytes = room_for(BLOB_BYTES, lent);
-    let most = room_for(LINES, places.len() / PLACE);
+    let most = room_for(LINES, records.len() / RECORD);
     let used = s.used;
     let lines = s.lines;
     if bytes < used {
         return stopped(s.lines, question::SHEET_SIZE);
     }
     if lines < most {
-        put_six(places, PLACE * lines, s);
+        put_six(records, RECORD * lines, s);
         return at_line(lines + 1, used);
     }
     stopped(s.lines, question::SHEET_SIZE)
 }
 
-fn end_line(s: State, lent: usize, places: &mut [u64]) -> State
-    ensures { λ r. ⌜ (r ≡ endStep (roomFor «BLOB_BYTES» lent) (linesIn (now (places .entry))) s) × (now (places .exit) ≡ endPlaces (roomFor «BLOB_BYTES» lent) (linesIn (now (places .entry))) s (now (places .entry))) ⌝ }
+fn end_line(s: State, lent: usize, records: &mut [u64]) -> State
+    ensures { λ r. ⌜ (r ≡ endStep (roomFor «BLOB_BYTES» lent) (linesIn (now (records .entry))) s) × (now (records .exit) ≡ endRecords (roomFor «BLOB_BYTES» lent) (linesIn (now (records .entry))) s (now (records .entry))) ⌝ }
 {
     let phase = s.phase;
     if phase == HIGH {
-        return close(s, lent, places);
+        return close(s, lent, records);
     }
     if phase == LOW {
         return stopped(s.lines, question::BLOB);
@@ -383,15 +383,15 @@ fn take_other(s: State, b: u8) -> State
 }
 
 // One byte more.
-pub fn step(s: State, b: u8, run: &mut [u8], places: &mut [u64]) -> State
-    ensures { λ r. ⌜ held r (now (run .exit)) (now (places .exit)) ≡ stepped b (held s (now (run .entry)) (now (places .entry))) ⌝ }
+pub fn step(s: State, b: u8, run: &mut [u8], records: &mut [u64]) -> State
+    ensures { λ r. ⌜ held r (now (run .exit)) (now (records .exit)) ≡ stepped b (held s (now (run .entry)) (now (records .entry))) ⌝ }
 {
     let phase = s.phase;
     if phase == REFUSED {
         return s;
     }
     if b == LF {
-        return end_line(s, run.len(), places);
+        return end_line(s, run.len(), records);
     }
     if b == COMMA {
         return take_comma(s);
@@ -418,7 +418,7 @@ fn pairs_in(s: State, rest: &[u8]) -> usize
 // Many pairs of digits at once: their bytes go to the run as far as there is room.
 fn take_pairs(s: State, digits: &[u8], run: &mut [u8]) -> State
     requires { ⌜ (s .phase ≡ HIGH) × (0 < length (now digits)) × (length (now digits) % 2 ≡ 0) × (all isHex (now digits) ≡ true) ⌝ }
-    ensures { λ r. ⌜ ((places : List ℕ) → held r (now (run .exit)) places ≡ fed (now (digits .entry)) (held s (now (run .entry)) places)) ⌝ }
+    ensures { λ r. ⌜ ((records : List ℕ) → held r (now (run .exit)) records ≡ fed (now (digits .entry)) (held s (now (run .entry)) records)) ⌝ }
 {
     let n = digits.len() / 2;
     let room = room_for(BLOB_BYTES, run.len());
@@ -437,8 +437,8 @@ fn take_pairs(s: State, digits: &[u8], run: &mut [u8]) -> State
 }
 
 // All bytes of a chunk.
-pub fn read_chunk(state: State, chunk: &[u8], run: &mut [u8], places: &mut [u64]) -> State
-    ensures { λ r. ⌜ held r (now (run .exit)) (now (places .exit)) ≡ fed (now (chunk .entry)) (held state (now (run .entry)) (now (places .entry))) ⌝ }
+pub fn read_chunk(state: State, chunk: &[u8], run: &mut [u8], records: &mut [u64]) -> State
+    ensures { λ r. ⌜ held r (now (run .exit)) (now (records .exit)) ≡ fed (now (chunk .entry)) (held state (now (run .entry)) (now (records .entry))) ⌝ }
 {
     let mut s = state;
     let mut i = 0;
@@ -450,7 +450,7 @@ pub fn read_chunk(state: State, chunk: &[u8], run: &mut [u8], places: &mut [u64]
         } else {
             let b = chunk[i];
             i += 1;
-            s = step(s, b, run, places);
+            s = step(s, b, run, records);
         }
     }
     s

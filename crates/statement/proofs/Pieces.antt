@@ -18,10 +18,10 @@ use Rattle.rows.specs.declared.Written.the-variants.{Length}
 use Rattle.rows.proofs.Tests.{and-both}
 use Rattle.sheet.specs.declared.State.{State}
 use Rattle.sheet.specs.Sheet.{«BLOB_BYTES», LINES}
-use Rattle.sheet.specs.Machine.{Held, held, atLine, fed, stateIn, runIn, placesIn, answerOf}
+use Rattle.sheet.specs.Machine.{Held, held, atLine, fed, stateIn, runIn, recordsIn, answerOf}
 use Rattle.sheet.specs.Proved.{inChunks}
-use Rattle.report.specs.Report.{reportOf}
-use Rattle.report.proofs.Proved.{proved}
+use Rattle.statement_report.specs.Report.{reportOf}
+use Rattle.statement_report.proofs.Proved.{proved}
 use Rattle.statement.specs.declared.Reading.{Reading}
 use Rattle.statement.specs.Pieces.{Piece, bytesOf, hasBytes, hasFailed, below, heldBy, ReadOne, fedBy, ReadAll, Reports}
 
@@ -52,28 +52,28 @@ none-failed [] e = refl
 none-failed (p ∷ ps) e = let both = and-both (hasBytes p) (all hasBytes ps) e in rw (bytes-read p (both .0)) (none-failed ps (both .1))
 
 -- ---- on the way: the pieces so far, and how many turns are left
-pub record Reads (run₀ places₀ : List ℕ) (r : Reading) (run places : List ℕ) (turns : ℕ) : Type 0 where
+pub record Reads (run₀ records₀ : List ℕ) (r : Reading) (run records : List ℕ) (turns : ℕ) : Type 0 where
   pub pieces : List Piece
-  pub fed-are : heldBy r run places ≡ fedBy pieces run₀ places₀
+  pub fed-are : heldBy r run records ≡ fedBy pieces run₀ records₀
   pub more-is : r .more ≡ all hasBytes pieces
   pub failed-is : r .failed ≡ any hasFailed pieces
   pub counted : length pieces + turns ≡ 2 ^ 64 - 1
 
-pub reads-start : (run places : List ℕ) {r : Reading} {turns : ℕ} → (r .state ≡ atLine 0 0) × (r .more ≡ true) × (r .failed ≡ false) → turns ≡ 2 ^ 64 - 1 → Reads run places r run places turns
-reads-start run places e t = record {
+pub reads-start : (run records : List ℕ) {r : Reading} {turns : ℕ} → (r .state ≡ atLine 0 0) × (r .more ≡ true) × (r .failed ≡ false) → turns ≡ 2 ^ 64 - 1 → Reads run records r run records turns
+reads-start run records e t = record {
   pieces = [];
-  fed-are = ap (λ (s : State). held s run places) (e .0);
+  fed-are = ap (λ (s : State). held s run records) (e .0);
   more-is = e .1;
   failed-is = e .2;
   counted = omega (arith, t);
 }
 
-pub reads-turn : {run₀ places₀ run places run′ places′ buffer : List ℕ} {r r′ : Reading} {turns next : ℕ}
-    → Reads run₀ places₀ r run places turns → r .more ≡ true → ReadOne buffer (heldBy r run places) r′ run′ places′ → turns ≡ next + 1 → Reads run₀ places₀ r′ run′ places′ next
-reads-turn {run₀} {places₀} {buffer = buffer} s more o t =
+pub reads-turn : {run₀ records₀ run records run′ records′ buffer : List ℕ} {r r′ : Reading} {turns next : ℕ}
+    → Reads run₀ records₀ r run records turns → r .more ≡ true → ReadOne buffer (heldBy r run records) r′ run′ records′ → turns ≡ next + 1 → Reads run₀ records₀ r′ run′ records′ next
+reads-turn {run₀} {records₀} {buffer = buffer} s more o t =
     let ps = s .pieces in
     let p : Piece = record { got = o .got; buffer = buffer } in
-    let begun = held (atLine 0 0) run₀ places₀ in
+    let begun = held (atLine 0 0) run₀ records₀ in
     let read : all hasBytes ps ≡ true = sym (s .more-is) ∙ more in
     record {
       pieces = ps ++ (p ∷ []);
@@ -83,7 +83,7 @@ reads-turn {run₀} {places₀} {buffer = buffer} s more o t =
       counted = omega (arith, length-append ps (p ∷ []), s .counted, t);
     }
 
-pub reads-over : {run₀ places₀ run places : List ℕ} {r : Reading} {turns : ℕ} → Reads run₀ places₀ r run places turns → r .more ≡ false → ReadAll run₀ places₀ r run places
+pub reads-over : {run₀ records₀ run records : List ℕ} {r : Reading} {turns : ℕ} → Reads run₀ records₀ r run records turns → r .more ≡ false → ReadAll run₀ records₀ r run records
 reads-over s e = record {
   pieces = s .pieces;
   ended = λ b. absurd (false≢true (sym e ∙ s .more-is ∙ b));
@@ -91,7 +91,7 @@ reads-over s e = record {
   failed-is = s .failed-is;
 }
 
-pub reads-all : {run₀ places₀ run places : List ℕ} {r : Reading} {turns : ℕ} → Reads run₀ places₀ r run places turns → turns ≡ 0 → ReadAll run₀ places₀ r run places
+pub reads-all : {run₀ records₀ run records : List ℕ} {r : Reading} {turns : ℕ} → Reads run₀ records₀ r run records turns → turns ≡ 0 → ReadAll run₀ records₀ r run records
 reads-all s e = record {
   pieces = s .pieces;
   ended = λ b. omega (arith, s .counted, e);
@@ -100,26 +100,26 @@ reads-all s e = record {
 }
 
 -- ---- what is reported
-module _ {run₀ places₀ run places : List ℕ} {r : Reading} (s : ReadAll run₀ places₀ r run places) (text₀ : List ℕ) where
-  pub reports-none : r .failed ≡ true → Reports run₀ places₀ text₀ (record { written = Length 0; failed = true }) run places text₀
+module _ {run₀ records₀ run records : List ℕ} {r : Reading} (s : ReadAll run₀ records₀ r run records) (text₀ : List ℕ) where
+  pub reports-none : r .failed ≡ true → Reports run₀ records₀ text₀ (record { written = Length 0; failed = true }) run records text₀
   reports-none e = record {
     pieces = s .pieces;
     ended = s .ended;
     run-is = ap runIn (s .fed-are);
-    places-are = ap placesIn (s .fed-are);
+    records-are = ap recordsIn (s .fed-are);
     text-is = rw (sym (s .failed-is) ∙ e, le-leb 0 (length text₀) (omega arith));
     failed-is = sym e ∙ s .failed-is;
   }
 
-  pub reports-text : {w : Written} {text : List ℕ} → r .failed ≡ false → «BLOB_BYTES» ≤ length run₀ → 6 * LINES ≤ length places₀
-      → leaves w text ≡ stored (reportOf (answerOf (r .state)) run places) text₀ → Reports run₀ places₀ text₀ (record { written = w; failed = false }) run places text
+  pub reports-text : {w : Written} {text : List ℕ} → r .failed ≡ false → «BLOB_BYTES» ≤ length run₀ → 6 * LINES ≤ length records₀
+      → leaves w text ≡ stored (reportOf (answerOf (r .state)) run records) text₀ → Reports run₀ records₀ text₀ (record { written = w; failed = false }) run records text
   reports-text {w} {text} e room lines left =
-      let reported = ap (λ (h : Held). reportOf (answerOf (stateIn h)) (runIn h) (placesIn h)) (s .fed-are) ∙ proved .reports (map bytesOf (s .pieces)) run₀ places₀ room lines in
+      let reported = ap (λ (h : Held). reportOf (answerOf (stateIn h)) (runIn h) (recordsIn h)) (s .fed-are) ∙ proved .reports (map bytesOf (s .pieces)) run₀ records₀ room lines in
       record {
         pieces = s .pieces;
         ended = s .ended;
         run-is = ap runIn (s .fed-are);
-        places-are = ap placesIn (s .fed-are);
+        records-are = ap recordsIn (s .fed-are);
         text-is = left ∙ ap (λ (t : List ℕ). stored t text₀) reported ∙ rw (sym (s .failed-is) ∙ e);
         failed-is = sym e ∙ s .failed-is;
       }

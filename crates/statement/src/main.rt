@@ -5,9 +5,9 @@ use libc::STDOUT_FILENO;
 use rows::Written;
 use sheet::BLOB_BYTES;
 use sheet::LINES;
-use sheet::PLACE;
+use sheet::RECORD;
 use sheet::State;
-use text::TEXT_BYTES;
+use statement_text::TEXT_BYTES;
 ghost use mathlib.Core.Path.{_≡_};
 ghost use mathlib.Core.Bool.{true, false};
 ghost use Prim.Native.Nat.{_*_, _≤_};
@@ -16,8 +16,8 @@ ghost use Rattle.sheet.specs.Sheet.{«BLOB_BYTES», LINES};
 ghost use Rattle.sheet.specs.Machine.{atLine, held};
 ghost use Rattle.statement.specs.Pieces.{Taken, ReadOne, ReadAll, Reports};
 
-// How many numbers there are places for.
-const PLACES: usize = PLACE * LINES;
+// How many numbers there are records for.
+const RECORDS: usize = RECORD * LINES;
 
 // What was read so far. After the last piece, or after a read that failed, there is no more.
 struct Reading {
@@ -49,10 +49,10 @@ fn run_bytes() -> [u8; BLOB_BYTES]
     [0; BLOB_BYTES]
 }
 
-fn line_places() -> [u64; PLACES]
+fn line_places() -> [u64; RECORDS]
     ensures { λ r. ⌜ 3072 ≡ length r ⌝ }
 {
-    [0; PLACES]
+    [0; RECORDS]
 }
 
 fn text_bytes() -> [u8; TEXT_BYTES]
@@ -62,11 +62,17 @@ fn text_bytes() -> [u8; TEXT_BYTES]
 }
 
 // One piece more: what a read answered, and the buffer as it left it.
-fn take_piece(got: isize, chunk: &[u8], state: State, run: &mut [u8], places: &mut [u64]) -> Reading
-    ensures { λ r. ⌜ Taken (record { got = got; buffer = now (chunk .entry) }) (held state (now (run .entry)) (now (places .entry))) r (now (run .exit)) (now (places .exit)) ⌝ }
+fn take_piece(
+    got: isize,
+    chunk: &[u8],
+    state: State,
+    run: &mut [u8],
+    records: &mut [u64],
+) -> Reading
+    ensures { λ r. ⌜ Taken (record { got = got; buffer = now (chunk .entry) }) (held state (now (run .entry)) (now (records .entry))) r (now (run .exit)) (now (records .exit)) ⌝ }
 {
     let n = io::count(got, chunk);
-    let next = sheet::read_chunk(state, &chunk[..n], run, places);
+    let next = sheet::read_chunk(state, &chunk[..n], run, records);
     Reading {
         state: next,
         more: 0 < n,
@@ -74,23 +80,23 @@ fn take_piece(got: isize, chunk: &[u8], state: State, run: &mut [u8], places: &m
     }
 }
 
-fn read_some(state: State, chunk: &mut [u8], run: &mut [u8], places: &mut [u64]) -> Reading
-    ensures { λ r. ⌜ ReadOne (now (chunk .exit)) (held state (now (run .entry)) (now (places .entry))) r (now (run .exit)) (now (places .exit)) ⌝ }
+fn read_some(state: State, chunk: &mut [u8], run: &mut [u8], records: &mut [u64]) -> Reading
+    ensures { λ r. ⌜ ReadOne (now (chunk .exit)) (held state (now (run .entry)) (now (records .entry))) r (now (run .exit)) (now (records .exit)) ⌝ }
 {
     let got = libc::read(STDIN_FILENO, chunk);
-    take_piece(got, chunk, state, run, places)
+    take_piece(got, chunk, state, run, records)
 }
 
 // A proved loop has to end, and nothing says that the input does. So the loop counts its turns down, from a number that no run uses up.
-fn read_all(chunk: &mut [u8], run: &mut [u8], places: &mut [u64]) -> Reading
-    ensures { λ r. ⌜ ReadAll (now (run .entry)) (now (places .entry)) r (now (run .exit)) (now (places .exit)) ⌝ }
+fn read_all(chunk: &mut [u8], run: &mut [u8], records: &mut [u64]) -> Reading
+    ensures { λ r. ⌜ ReadAll (now (run .entry)) (now (records .entry)) r (now (run .exit)) (now (records .exit)) ⌝ }
 {
     let mut reading = begin();
     let mut turns = u64::MAX;
     while turns > 0 {
         if reading.more {
             let state = reading.state;
-            reading = read_some(state, chunk, run, places);
+            reading = read_some(state, chunk, run, records);
             turns -= 1;
         } else {
             return reading;
@@ -117,11 +123,11 @@ fn print(text: &[u8], written: Written) {
 }
 
 // Reads the input and writes its text: lists with the full room hold every sheet.
-fn report_input(chunk: &mut [u8], run: &mut [u8], places: &mut [u64], text: &mut [u8]) -> Reported
-    requires { ⌜ («BLOB_BYTES» ≤ length (now run)) × (6 * LINES ≤ length (now places)) ⌝ }
-    ensures { λ r. ⌜ Reports (now (run .entry)) (now (places .entry)) (now (text .entry)) r (now (run .exit)) (now (places .exit)) (now (text .exit)) ⌝ }
+fn report_input(chunk: &mut [u8], run: &mut [u8], records: &mut [u64], text: &mut [u8]) -> Reported
+    requires { ⌜ («BLOB_BYTES» ≤ length (now run)) × (6 * LINES ≤ length (now records)) ⌝ }
+    ensures { λ r. ⌜ Reports (now (run .entry)) (now (records .entry)) (now (text .entry)) r (now (run .exit)) (now (records .exit)) (now (text .exit)) ⌝ }
 {
-    let reading = read_all(chunk, run, places);
+    let reading = read_all(chunk, run, records);
     if reading.failed {
         return Reported {
             written: Written::Length(0),
@@ -129,17 +135,17 @@ fn report_input(chunk: &mut [u8], run: &mut [u8], places: &mut [u64], text: &mut
         };
     }
     let state = reading.state;
-    let written = report::report(state, run, places, text);
+    let written = statement_report::report(state, run, records, text);
     Reported {
         written,
         failed: false,
     }
 }
 
-fn statement(chunk: &mut [u8], run: &mut [u8], places: &mut [u64], text: &mut [u8])
-    requires { ⌜ («BLOB_BYTES» ≤ length (now run)) × (6 * LINES ≤ length (now places)) ⌝ }
+fn statement(chunk: &mut [u8], run: &mut [u8], records: &mut [u64], text: &mut [u8])
+    requires { ⌜ («BLOB_BYTES» ≤ length (now run)) × (6 * LINES ≤ length (now records)) ⌝ }
 {
-    let reported = report_input(chunk, run, places, text);
+    let reported = report_input(chunk, run, records, text);
     if reported.failed {
         os::fail(b"standard input");
         return;
@@ -151,7 +157,7 @@ fn statement(chunk: &mut [u8], run: &mut [u8], places: &mut [u64], text: &mut [u
 fn main() {
     let mut chunk = io::large_buffer();
     let mut run = run_bytes();
-    let mut places = line_places();
+    let mut records = line_places();
     let mut text = text_bytes();
-    statement(&mut chunk, &mut run, &mut places, &mut text);
+    statement(&mut chunk, &mut run, &mut records, &mut text);
 }

@@ -14,8 +14,8 @@ pub mod Opened
 pub mod Lasting
 pub mod Written
 pub mod Searches
-pub mod Twins
+pub mod Duplicates
 pub mod Slots
-pub mod LeftAside
+pub mod Omitting
 pub mod Proved
 pub mod Samples

@@ -27,7 +27,7 @@ use Rattle.store.proofs.Opened.{just-opened, opened-alike}
 use Rattle.store.proofs.Lasting.{opened-lasts}
 use Rattle.store.proofs.Written.{alike-long, alike-outside}
 use Rattle.store.proofs.Slots.{slots-above, slots-one}
-use Rattle.store.proofs.Twins.{kind-new, queued-new}
+use Rattle.store.proofs.Duplicates.{kind-new, queued-new}
 
 -- ---- an outcome says what was asked
 granted-going : (a : Asked) (f : Found) → outcome a f ≡ granted f → a ≡ Going
@@ -74,7 +74,7 @@ store-laws = record {
     written-long = λ c c′ a by by′. alike-long (rows.contact 3) (proved .contact 3) c c′ (a .valid) (a .valid′) by by′ (a .alike);
     written-alike = λ c c′ a by by′. alike-outside (rows.contact 3) (proved .contact 3) c c′ (a .valid) (a .valid′) by by′ (a .alike);
   };
-  twins = record {
+  duplicates = record {
     contact-new = λ s i b quiet is. kind-new (s .entries) (seen s) i b quiet CONTACT is refl refl;
     queued-new = λ s i b quiet is. queued-new (s .entries) (seen s) i b quiet is;
     slot-new = λ s i b quiet is. kind-new (s .entries) (seen s) i b quiet COURIER is refl refl;

@@ -6,6 +6,6 @@ pub mod Accepted
 pub mod Veiled
 pub mod Used
 pub mod Find
-pub mod Twins
-pub mod Aside
+pub mod Duplicates
+pub mod Omitted
 pub mod Proved

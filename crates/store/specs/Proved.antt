@@ -21,7 +21,7 @@ use Rattle.store.specs.Store.{Store, entryAt, isOf, before, queuedBefore
 use Rattle.store.specs.Accepted.{Accepted, FirstNo}
 use Rattle.store.specs.Veiled.{VeilEqual, OpenAgree, OutcomesAlike, FieldsAlike, copied, blanked, Apart, Disjoint}
 use Rattle.store.specs.Used.{used}
-use Rattle.store.specs.Twins.{firstTwin}
+use Rattle.store.specs.Duplicates.{firstDuplicate}
 
 -- ---- which stores are granted, and which refusal the others get
 pub record AnswerLaws : Type 0 where
@@ -73,18 +73,18 @@ pub record OpenedLaws : Type 0 where
   pub written-alike : (c c′ : Contact) → FieldsAlike c c′ → Bytes (print (rows.contact 3) c) → Bytes (print (rows.contact 3) c′)
       → Outside (veiledBytes (rows.contact 3) (print (rows.contact 3) c)) (print (rows.contact 3) c) (print (rows.contact 3) c′)
 
--- ---- 26, 30 and 32 asked of the index alone: while every answer so far was yes, an entry is new exactly where it stands before the first one that has a twin
-pub record TwinLaws : Type 0 where
+-- ---- 26, 30 and 32 asked of the index alone: while every answer so far was yes, an entry is new exactly where it stands before the first one that has a duplicate
+pub record DuplicateLaws : Type 0 where
   pub contact-new : (s : Store) (i : ℕ) → i < length (s .entries) → Quiet (across s) 0 i → entryAt (s .entries) i .kind ≡ CONTACT
-      → ltb i (firstTwin (s .entries)) ≡ not (before (s .entries) i CONTACT (entryAt (s .entries) i .id))
+      → ltb i (firstDuplicate (s .entries)) ≡ not (before (s .entries) i CONTACT (entryAt (s .entries) i .id))
   pub queued-new : (s : Store) (i : ℕ) → i < length (s .entries) → Quiet (across s) 0 i → entryAt (s .entries) i .kind ≡ QUEUED
-      → ltb i (firstTwin (s .entries)) ≡ not (queuedBefore (s .entries) i (entryAt (s .entries) i .id) (entryAt (s .entries) i .msgno))
+      → ltb i (firstDuplicate (s .entries)) ≡ not (queuedBefore (s .entries) i (entryAt (s .entries) i .id) (entryAt (s .entries) i .msgno))
   pub slot-new : (s : Store) (i : ℕ) → i < length (s .entries) → Quiet (across s) 0 i → entryAt (s .entries) i .kind ≡ COURIER
-      → ltb i (firstTwin (s .entries)) ≡ not (before (s .entries) i COURIER (entryAt (s .entries) i .id))
+      → ltb i (firstDuplicate (s .entries)) ≡ not (before (s .entries) i COURIER (entryAt (s .entries) i .id))
 
 pub record StoreLaws : Type 0 where
   pub answers : AnswerLaws
   pub slots : SlotLaws
   pub veiled : BlindLaws
   pub opened : OpenedLaws
-  pub twins : TwinLaws
+  pub duplicates : DuplicateLaws

@@ -2,7 +2,7 @@
 use rows::ContactId;
 ghost use mathlib.Core.Path.{_≡_};
 ghost use Rattle.store.specs.Store.{within, partOf};
-ghost use Rattle.store.specs.Aside.{isAside};
+ghost use Rattle.store.specs.Omitted.{isOmitted};
 
 // Where a row stands in the run, and of which kind, contact or slot, message and version it is.
 #[repr(C)]
@@ -21,8 +21,8 @@ pub enum Asked {
     Refused(u8, usize),
 }
 
-// The contact whose row is left aside while the questions are asked, with its sent_msgno.
-pub enum Aside {
+// The contact whose row is left out while the questions are asked, with its sent_msgno.
+pub enum Omitted {
     Nothing,
     Contact(ContactId, u32),
 }
@@ -65,11 +65,11 @@ pub fn part_of(run: &[u8], e: Entry) -> &[u8]
     &run[..0]
 }
 
-// Whether an entry is the one whose row is left aside.
-pub fn is_aside(e: Entry, aside: Aside) -> bool
-    ensures { λ r. ⌜ r ≡ isAside aside e ⌝ }
+// Whether an entry is the one whose row is left out.
+pub fn is_omitted(e: Entry, omitted: Omitted) -> bool
+    ensures { λ r. ⌜ r ≡ isOmitted omitted e ⌝ }
 {
-    let Aside::Contact(id, _) = aside else {
+    let Omitted::Contact(id, _) = omitted else {
         return false;
     };
     if e.kind == CONTACT {

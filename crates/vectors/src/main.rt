@@ -10,12 +10,12 @@ use libc::STDOUT_FILENO;
 use restore::Restored;
 use rows::Verdict;
 use rows::Written;
-use sheet::PLACE;
-use table::ENTRIES;
+use sheet::RECORD;
+use sheet_entries::ENTRIES;
 ghost use mathlib.Core.Path.{_≡_};
 ghost use Prim.Native.Nat.{_+_, _*_, _≤_, _<_, min};
 ghost use lib.ListN.{length};
-ghost use Rattle.table.specs.Table.{ENTRIES};
+ghost use Rattle.sheet_entries.specs.Table.{ENTRIES};
 
 // The highest number of 32 bits.
 const HIGHEST_32: u64 = 0xffff_ffff;
@@ -170,7 +170,7 @@ fn name(case: &[u8], bytes: &mut [u8]) -> bool {
     let Written::Length(n) = ascii::bytes(ascii::field(case), bytes) else {
         return false;
     };
-    let is = names::is_utf8(ascii::first(bytes, n));
+    let is = utf8::is_utf8(ascii::first(bytes, n));
     is_number(ascii::rest(case), is as u64)
 }
 
@@ -248,8 +248,8 @@ fn row(letter: u8, case: &[u8], bytes: &mut [u8], again: &mut [u8]) -> bool {
 // How many bytes an entry has in a case.
 const ENTRY: usize = 36;
 
-// How many numbers the places of a full table are.
-const PLACES: usize = 3072;
+// How many numbers the records of a full table are.
+const RECORDS: usize = 3072;
 
 // A big-endian number of four bytes; 0 where they are not all there.
 fn number_32(bytes: &[u8], at: usize) -> u32 {
@@ -271,8 +271,8 @@ fn number_64(bytes: &[u8], at: usize) -> u64 {
 fn place(bytes: &[u8], k: usize) -> u64
     requires { ⌜ k < 6 * ENTRIES ⌝ }
 {
-    let at = ENTRY * (k / PLACE);
-    match k % PLACE {
+    let at = ENTRY * (k / RECORD);
+    match k % RECORD {
         0 => number_32(bytes, at) as u64,
         1 => number_64(bytes, at + 4),
         2 => number_64(bytes, at + 20),
@@ -282,18 +282,18 @@ fn place(bytes: &[u8], k: usize) -> u64
     }
 }
 
-// The places of so many entries.
-fn places_of(bytes: &[u8], count: usize) -> [u64; PLACES]
+// The records of so many entries.
+fn records_of(bytes: &[u8], count: usize) -> [u64; RECORDS]
     requires { ⌜ count ≤ ENTRIES ⌝ }
 {
-    let mut places = [0u64; PLACES];
-    let n = PLACE * count;
+    let mut records = [0u64; RECORDS];
+    let n = RECORD * count;
     let mut k = 0;
     while k < n {
-        places[k] = place(bytes, k);
+        records[k] = place(bytes, k);
         k += 1;
     }
-    places
+    records
 }
 
 // Whether the text is these two numbers, of eight bytes each.
@@ -316,11 +316,11 @@ fn is_restored(text: &[u8], answer: Restored) -> bool {
 }
 
 // `RUN ANSWER`: the run of a store with these entries, and what restore answers.
-fn restored(case: &[u8], places: &[u64], count: usize, bytes: &mut [u8]) -> bool {
+fn restored(case: &[u8], records: &[u64], count: usize, bytes: &mut [u8]) -> bool {
     let Written::Length(n) = ascii::bytes(ascii::field(case), bytes) else {
         return false;
     };
-    let answer = table::restore(ascii::first(bytes, n), places, count);
+    let answer = sheet_entries::restore(ascii::first(bytes, n), records, count);
     is_restored(ascii::rest(case), answer)
 }
 
@@ -334,8 +334,8 @@ fn store(case: &[u8], bytes: &mut [u8], again: &mut [u8]) -> bool {
         return false;
     }
     if n % ENTRY == 0 {
-        let places = places_of(ascii::first(bytes, n), count);
-        return restored(ascii::rest(case), &places, count, again);
+        let records = records_of(ascii::first(bytes, n), count);
+        return restored(ascii::rest(case), &records, count, again);
     }
     false
 }
@@ -350,7 +350,7 @@ fn run_bytes() -> [u8; 61440]
 }
 
 // Zeros for the six numbers of each of 512 lines.
-fn no_places() -> [u64; 3072]
+fn no_records() -> [u64; 3072]
     ensures { λ r. ⌜ 3072 ≡ length r ⌝ }
 {
     [0; 3072]
@@ -359,9 +359,9 @@ fn no_places() -> [u64; 3072]
 // Writes the text that a statement of the sheet is.
 fn statement(sheet: &[u8], out: &mut [u8]) -> Written {
     let mut run = run_bytes();
-    let mut places = no_places();
-    let state = sheet::read_chunk(sheet::begin(), sheet, &mut run, &mut places);
-    report::report(state, &run, &places, out)
+    let mut records = no_records();
+    let state = sheet::read_chunk(sheet::begin(), sheet, &mut run, &mut records);
+    statement_report::report(state, &run, &records, out)
 }
 
 // Whether the field is these bytes.

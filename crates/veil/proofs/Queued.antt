@@ -18,7 +18,7 @@ use Rattle.sealed.proofs.Buckets.{queued-few}
 use Rattle.rows.proofs.RoundTrip.{three}
 use Rattle.queued_row.specs.Row as spec
 use Rattle.queued_row.specs.Row.{ownOf, tagOf, queuedOf, decoded, envelopeOf, valueOf, image}
-use Rattle.queued_row.specs.declared.Queued.{Queued}
+use Rattle.queued_row.specs.declared.Outgoing.{Outgoing}
 use Rattle.queued_row.specs.declared.QueuedRead.{QueuedRead}
 use Rattle.queued_row.proofs.RoundTrip.{sealed-last}
 use Rattle.veil.specs.Veil.{veils}
@@ -26,7 +26,7 @@ use Rattle.veil.proofs.Copied.{Granted, granted, copied}
 use Rattle.veil.proofs.Text.{Tail, long, tail}
 
 -- the struct with 0 for s
-abbrev pub blanked : Queued → Queued
+abbrev pub blanked : Outgoing → Outgoing
 blanked q = record { «created_s» = q .«created_s»; idx = q .idx; «gen_» = q .«gen_»; envelope = q .envelope; tag = q .tag; s = zeros 16 }
 
 -- ---- the value that it stands for, with zeros for the sealed text

@@ -81,11 +81,11 @@ fn veil_contact(version: u32, row: &[u8], out: &mut [u8]) -> Written
         return Written::Refused(question::OUTPUT);
     }
     let paired = at.paired;
-    let keys_at = veil_parts::veil_paired(out, 0, row, paired);
+    let keys_at = veil_contact::veil_paired(out, 0, row, paired);
     let keys = at.keys;
-    let chained_at = veil_parts::veil_keys(out, keys_at, keys);
+    let chained_at = veil_contact::veil_keys(out, keys_at, keys);
     let chained = at.chained;
-    let numbers_at = veil_parts::veil_chained(out, chained_at, row, chained);
+    let numbers_at = veil_contact::veil_chained(out, chained_at, row, chained);
     put::put_run(out, numbers_at, row, numbers_at, n - numbers_at);
     Written::Length(n)
 }

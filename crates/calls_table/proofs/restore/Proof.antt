@@ -45,7 +45,7 @@ use base.Fml.{fat}
 use types.Kit.{rewrite}
 use types.Part.{rep}
 use denote.Array.{Array, arrayVal}
-use Rattle.table.proofs.Filled.{as-many, all-lent}
+use Rattle.sheet_entries.proofs.Filled.{as-many, all-lent}
 use Rattle.walks.proofs.Table.{of-array, repeated, in-cells, whole-of, lends-whole, whole-back, first-of, lends-first, table-back}
 use Rattle.calls.proofs.RestoreLeft as RestoreLeftT
 use Rattle.calls.proofs.RestoreLeft.Laws as RestoreLeftL
@@ -55,12 +55,12 @@ use Rattle.calls_step.proofs.Mark.Laws as MarkL
 use Rattle.store.specs.declared.Entry.{Entry}
 use Rattle.store.proofs.Entry as EntryT
 use Rattle.store.proofs.Entry.Laws as EntryL
-use Rattle.table.proofs.no_entry as table-no-entry
-use Rattle.table.proofs.no_entry.Symbol as table-no-entry-def
-use Rattle.table.proofs.no_entry.Met as table-no-entry-thm
-use Rattle.table.proofs.fill as table-fill
-use Rattle.table.proofs.fill.Symbol as table-fill-def
-use Rattle.table.proofs.fill.Met as table-fill-thm
+use Rattle.sheet_entries.proofs.no_entry as sheet-entries-no-entry
+use Rattle.sheet_entries.proofs.no_entry.Symbol as sheet-entries-no-entry-def
+use Rattle.sheet_entries.proofs.no_entry.Met as sheet-entries-no-entry-thm
+use Rattle.sheet_entries.proofs.fill as sheet-entries-fill
+use Rattle.sheet_entries.proofs.fill.Symbol as sheet-entries-fill-def
+use Rattle.sheet_entries.proofs.fill.Met as sheet-entries-fill-thm
 use Rattle.calls.proofs.restore as calls-restore
 use Rattle.calls.proofs.restore.Symbol as calls-restore-def
 use Rattle.calls.proofs.restore.Met as calls-restore-thm
@@ -90,18 +90,18 @@ module _ {M : Type 1} (𝓤 : URA M) (H : Heap 𝓤) (A : Atoms 𝓤) (W : Given
   as-Entry-table = of-array W as-Entry 512
 
   -- the contracts that the proof cites, and its own
-  abbrev Its-table-no-entry : Contract 𝓤
-  Its-table-no-entry = tripleOf 𝓤 H A table-no-entry.signature (table-no-entry.spec 𝓤 H A mem calling)
+  abbrev Its-sheet-entries-no-entry : Contract 𝓤
+  Its-sheet-entries-no-entry = tripleOf 𝓤 H A sheet-entries-no-entry.signature (sheet-entries-no-entry.spec 𝓤 H A mem calling)
 
-  abbrev Its-table-fill : Contract 𝓤
-  Its-table-fill = tripleOf 𝓤 H A table-fill.signature (table-fill.spec 𝓤 H A mem calling)
+  abbrev Its-sheet-entries-fill : Contract 𝓤
+  Its-sheet-entries-fill = tripleOf 𝓤 H A sheet-entries-fill.signature (sheet-entries-fill.spec 𝓤 H A mem calling)
 
   abbrev Its-calls-restore : Contract 𝓤
   Its-calls-restore = tripleOf 𝓤 H A calls-restore.signature (calls-restore.spec 𝓤 H A mem calling)
 
   pub record Known (C : Calls 𝓤 H) : Type 1 where
-    pub table-no-entry : Triple 𝓤 (C table-no-entry-def.name) Its-table-no-entry
-    pub table-fill : Triple 𝓤 (C table-fill-def.name) Its-table-fill
+    pub sheet-entries-no-entry : Triple 𝓤 (C sheet-entries-no-entry-def.name) Its-sheet-entries-no-entry
+    pub sheet-entries-fill : Triple 𝓤 (C sheet-entries-fill-def.name) Its-sheet-entries-fill
     pub calls-restore : Triple 𝓤 (C calls-restore-def.name) Its-calls-restore
 
   abbrev clauses : Clauses 𝓤 this.ended
@@ -110,26 +110,26 @@ module _ {M : Type 1} (𝓤 : URA M) (H : Heap 𝓤) (A : Atoms 𝓤) (W : Given
   abbrev This : Contract 𝓤
   This = walkOf 𝓤 H A this.ended stayed clauses
 
-  module _ (κ₀ κ₁ : Lft) (q₀ q₁ : Share) (run : RefT (List ℕ)) (places : RefT (List ℕ)) (n : ℕ) (mark : Mark)
+  module _ (κ₀ κ₁ : Lft) (q₀ q₁ : Share) (run : RefT (List ℕ)) (records : RefT (List ℕ)) (n : ℕ) (mark : Mark)
       (in-run : Is (ShrSlice (named 0) κ₀ (UInt w8)) run (slice-vals run))
-      (in-places : Is (ShrSlice (named 1) κ₁ (UInt w64)) places (slice-vals places))
+      (in-records : Is (ShrSlice (named 1) κ₁ (UInt w64)) records (slice-vals records))
       (in-n : Lies as-w64 n)
       (in-mark : Lies as-Mark mark) where
     abbrev bound : This .Ghost
-    bound = (((κ₀, (κ₁, tt)), (q₀, (q₁, tt)), tt, (run, (places, (n, (mark, tt)))), (slice-vals run, (slice-vals places, (vals as-w64 n, (vals as-Mark mark, tt))))), tt)
+    bound = (((κ₀, (κ₁, tt)), (q₀, (q₁, tt)), tt, (run, (records, (n, (mark, tt)))), (slice-vals run, (slice-vals records, (vals as-w64 n, (vals as-Mark mark, tt))))), tt)
 
     -- what each call is handed
-    abbrev to-blank : Its-table-no-entry .Ghost
+    abbrev to-blank : Its-sheet-entries-no-entry .Ghost
     to-blank = ((tt, tt, tt, tt, tt), tt)
 
-    abbrev to-count : (ν-whole : ℕ) → (γ-whole : GName) → (l₆ : ℕ) → (blank : Entry) → Its-table-fill .Ghost
+    abbrev to-count : (ν-whole : ℕ) → (γ-whole : GName) → (l₆ : ℕ) → (blank : Entry) → Its-sheet-entries-fill .Ghost
     to-count ν-whole γ-whole l₆ blank = (
       (
         (κ₁, ((ν-whole ∷ []), tt)),
         (q₁, (fullShare, tt)),
         tt,
-        (places, (n, ((whole-of (replicate 512 blank) l₆ γ-whole), tt))),
-        (slice-vals places, (vals as-w64 n, (slice-vals (whole-of (replicate 512 blank) l₆ γ-whole), tt))),
+        (records, (n, ((whole-of (replicate 512 blank) l₆ γ-whole), tt))),
+        (slice-vals records, (vals as-w64 n, (slice-vals (whole-of (replicate 512 blank) l₆ γ-whole), tt))),
       ),
       tt,
     )
@@ -161,13 +161,13 @@ module _ {M : Type 1} (𝓤 : URA M) (H : Heap 𝓤) (A : Atoms 𝓤) (W : Given
           alloc1 ! (λ l₀. alloc1 ! (λ l₁. alloc1 ! (λ l₂. alloc1 ! (λ l₃. alloc1 !
           (λ l₄. alloc1 ! (λ l₅. alloc1 ! (λ l₆. alloc1 ! (λ l₇. alloc1 ! (λ l₈. alloc1 ! (λ l₉. alloc1 ! (λ l₁₀. alloc1 ! (λ l₁₁. alloc0 ! $ params1 ! $
           pass1 ! (init ! 20 refl (shr-slice-lawful 𝓤 H A W (named 0) κ₀ (UInt w8) .typed run (slice-vals run) in-run .0)) $
-          pass1 ! (init ! 18 refl (shr-slice-lawful 𝓤 H A W (named 1) κ₁ (UInt w64) .typed places (slice-vals places) in-places .0)) $
+          pass1 ! (init ! 18 refl (shr-slice-lawful 𝓤 H A W (named 1) κ₁ (UInt w64) .typed records (slice-vals records) in-records .0)) $
           pass1 ! (init ! 16 refl (as-w64 .lawful .typed n _ in-n .0)) $
           pass1 ! (init ! 14 refl (as-Mark .lawful .typed mark _ in-mark .0)) $
           pass0 ! $ move ! (24 ∷ 25 ∷ 26 ∷ 27 ∷ []) $
-          -- blank is table::no_entry()
+          -- blank is sheet_entries::no_entry()
           nothing ! $
-          calls-held ! fm table-no-entry.ended (table-no-entry.clauses 𝓤 H A mem calling) (known .table-no-entry) to-blank (id⊢ 𝓤 _) as-Entry (λ r ws. id⊢ 𝓤 _)
+          calls-held ! fm sheet-entries-no-entry.ended (sheet-entries-no-entry.clauses 𝓤 H A mem calling) (known .sheet-entries-no-entry) to-blank (id⊢ 𝓤 _) as-Entry (λ r ws. id⊢ 𝓤 _)
           (no-more !) (λ blank is-blank in-blank.
           land ! (into !) (init ! 16 refl (as-Entry .lawful .typed blank _ in-blank .0)) $
           assigns ! (rep ! 512 (local ! (look ! 16 refl))) (into !) (init ! 14 refl
@@ -179,9 +179,10 @@ module _ {M : Type 1} (𝓤 : URA M) (H : Heap 𝓤) (A : Atoms 𝓤) (W : Given
           rewrite ! 9 (λ (m : ℕ). ‵ (fat fullShare (sliceTy (tyRef erased mut (pointee (EntryT.the-row .written)))) l₉ 0 (sliceVal (l₆, 0) m))) (sym (length-replicate 512 blank)) refl $
           lft-new ! tt (λ ν-whole. move ! (1 ∷ []) $ lends-whole ! tt EntryT.the-row (named 0) 512 (lit< tt, lit< tt) ν-whole (replicate 512 blank) l₆ (length-replicate 512 blank)
           (λ γ-whole.
-          -- count is table::fill(places, n, table)
-          nothing ! $ move ! (1 ∷ 0 ∷ []) $ fjoin ! $ plus ! as-w64 n in-n $ lends ! 5 (named 1) κ₁ (UInt w64) places refl $ move ! (4 ∷ 2 ∷ 0 ∷ []) $
-          calls-lent ! fm table-fill.ended (table-fill.clauses 𝓤 H A mem calling) (known .table-fill) (to-count ν-whole γ-whole l₆ blank) (id⊢ 𝓤 _) as-w64 (λ r ws. id⊢ 𝓤 _)
+          -- count is sheet_entries::fill(records, n, table)
+          nothing ! $ move ! (1 ∷ 0 ∷ []) $ fjoin ! $ plus ! as-w64 n in-n $ lends ! 5 (named 1) κ₁ (UInt w64) records refl $ move ! (4 ∷ 2 ∷ 0 ∷ []) $
+          calls-lent ! fm sheet-entries-fill.ended (sheet-entries-fill.clauses 𝓤 H A mem calling) (known .sheet-entries-fill) (to-count ν-whole γ-whole l₆ blank) (id⊢ 𝓤 _) as-w64
+          (λ r ws. id⊢ 𝓤 _)
           (and-then ! (local ! (look ! 22 refl)) (and-then ! (local ! (look ! 20 refl)) (and-then ! (local ! (look ! 9 refl)) (no-more !)))) (λ count ws-count is-count in-count.
           move ! (2 ∷ []) $ fsplit ! $ drop ! $ fsplit ! $ drop ! $ fsplit ! $ fsplit ! $ move ! (1 ∷ []) $ feqL ! (λ fits-table. move ! (1 ∷ []) $ drop ! $
           land ! (into !) (init ! 15 refl (as-w64 .lawful .typed count _ in-count .0)) $
@@ -230,10 +231,10 @@ restore-spec 𝓤 H 𝓜 𝓖 𝓡 =
     entered 𝓤 H (tripleOf 𝓤 H (𝓖 .A) this.signature (this.spec 𝓤 H (𝓖 .A) (𝓜 .mem) (𝓡 .run)))
     (tables 𝓤 H 𝓜 𝓡 code.env .C) (tables 𝓤 H 𝓜 𝓡 code.env .Λ) this-def.name code.function (code.unfolded 𝓤 H 𝓜 𝓡)
     (meets 𝓤 H (𝓖 .A) W (𝓜 .mem) (𝓡 .run) (tablesOf 𝓤 H 𝓜 (tables 𝓤 H 𝓜 𝓡 code.env)) (record {
-      table-no-entry = cited 𝓤 H (Its-table-no-entry 𝓤 H (𝓖 .A) W (𝓜 .mem) (𝓡 .run)) 𝓜 𝓡 code.env
-          table-no-entry-def.name table-no-entry-def.routine code.calls-table·no-entry (table-no-entry-thm.met 𝓤 H 𝓜 𝓖 𝓡);
-      table-fill = cited 𝓤 H (Its-table-fill 𝓤 H (𝓖 .A) W (𝓜 .mem) (𝓡 .run)) 𝓜 𝓡 code.env
-          table-fill-def.name table-fill-def.routine code.calls-table·fill (table-fill-thm.met 𝓤 H 𝓜 𝓖 𝓡);
+      sheet-entries-no-entry = cited 𝓤 H (Its-sheet-entries-no-entry 𝓤 H (𝓖 .A) W (𝓜 .mem) (𝓡 .run)) 𝓜 𝓡 code.env
+          sheet-entries-no-entry-def.name sheet-entries-no-entry-def.routine code.calls-sheet-entries·no-entry (sheet-entries-no-entry-thm.met 𝓤 H 𝓜 𝓖 𝓡);
+      sheet-entries-fill = cited 𝓤 H (Its-sheet-entries-fill 𝓤 H (𝓖 .A) W (𝓜 .mem) (𝓡 .run)) 𝓜 𝓡 code.env
+          sheet-entries-fill-def.name sheet-entries-fill-def.routine code.calls-sheet-entries·fill (sheet-entries-fill-thm.met 𝓤 H 𝓜 𝓖 𝓡);
       calls-restore = cited 𝓤 H (Its-calls-restore 𝓤 H (𝓖 .A) W (𝓜 .mem) (𝓡 .run)) 𝓜 𝓡 code.env
           calls-restore-def.name calls-restore-def.routine code.calls-calls·restore (calls-restore-thm.met 𝓤 H 𝓜 𝓖 𝓡);
     }))

@@ -46,13 +46,13 @@ use base.Fml.{fat}
 use types.Kit.{rewrite}
 use types.Part.{rep}
 use denote.Array.{Array, arrayVal}
-use Rattle.table.proofs.Filled.{as-many, all-lent}
+use Rattle.sheet_entries.proofs.Filled.{as-many, all-lent}
 use Rattle.walks.proofs.Table.{of-array, repeated, in-cells, whole-of, lends-whole, whole-back, first-of, lends-first, table-back}
-use Rattle.opened.proofs.Left as LeftT
-use Rattle.opened.proofs.Left.Laws as LeftL
-use Rattle.dispatch.specs.declared.Call.{Call}
-use Rattle.dispatch.proofs.Call as CallT
-use Rattle.dispatch.proofs.Call.Laws as CallL
+use Rattle.calls_open.proofs.Left as LeftT
+use Rattle.calls_open.proofs.Left.Laws as LeftL
+use Rattle.calls_dispatch.specs.declared.Call.{Call}
+use Rattle.calls_dispatch.proofs.Call as CallT
+use Rattle.calls_dispatch.proofs.Call.Laws as CallL
 use Rattle.calls_step.specs.declared.Mark.{Mark}
 use Rattle.calls_step.proofs.Mark as MarkT
 use Rattle.calls_step.proofs.Mark.Laws as MarkL
@@ -62,12 +62,12 @@ use Rattle.contact.proofs.Contact.Laws as ContactL
 use Rattle.store.specs.declared.Entry.{Entry}
 use Rattle.store.proofs.Entry as EntryT
 use Rattle.store.proofs.Entry.Laws as EntryL
-use Rattle.table.proofs.no_entry as table-no-entry
-use Rattle.table.proofs.no_entry.Symbol as table-no-entry-def
-use Rattle.table.proofs.no_entry.Met as table-no-entry-thm
-use Rattle.table.proofs.fill as table-fill
-use Rattle.table.proofs.fill.Symbol as table-fill-def
-use Rattle.table.proofs.fill.Met as table-fill-thm
+use Rattle.sheet_entries.proofs.no_entry as sheet-entries-no-entry
+use Rattle.sheet_entries.proofs.no_entry.Symbol as sheet-entries-no-entry-def
+use Rattle.sheet_entries.proofs.no_entry.Met as sheet-entries-no-entry-thm
+use Rattle.sheet_entries.proofs.fill as sheet-entries-fill
+use Rattle.sheet_entries.proofs.fill.Symbol as sheet-entries-fill-def
+use Rattle.sheet_entries.proofs.fill.Met as sheet-entries-fill-thm
 use Rattle.calls.proofs.step as calls-step
 use Rattle.calls.proofs.step.Symbol as calls-step-def
 use Rattle.calls.proofs.step.Met as calls-step-thm
@@ -130,18 +130,18 @@ module _ {M : Type 1} (𝓤 : URA M) (H : Heap 𝓤) (A : Atoms 𝓤) (W : Given
   as-Entry-table = of-array W as-Entry 512
 
   -- the contracts that the proof cites, and its own
-  abbrev Its-table-no-entry : Contract 𝓤
-  Its-table-no-entry = tripleOf 𝓤 H A table-no-entry.signature (table-no-entry.spec 𝓤 H A mem calling)
+  abbrev Its-sheet-entries-no-entry : Contract 𝓤
+  Its-sheet-entries-no-entry = tripleOf 𝓤 H A sheet-entries-no-entry.signature (sheet-entries-no-entry.spec 𝓤 H A mem calling)
 
-  abbrev Its-table-fill : Contract 𝓤
-  Its-table-fill = tripleOf 𝓤 H A table-fill.signature (table-fill.spec 𝓤 H A mem calling)
+  abbrev Its-sheet-entries-fill : Contract 𝓤
+  Its-sheet-entries-fill = tripleOf 𝓤 H A sheet-entries-fill.signature (sheet-entries-fill.spec 𝓤 H A mem calling)
 
   abbrev Its-calls-step : Contract 𝓤
   Its-calls-step = tripleOf 𝓤 H A calls-step.signature (calls-step.spec 𝓤 H A mem calling)
 
   pub record Known (C : Calls 𝓤 H) : Type 1 where
-    pub table-no-entry : Triple 𝓤 (C table-no-entry-def.name) Its-table-no-entry
-    pub table-fill : Triple 𝓤 (C table-fill-def.name) Its-table-fill
+    pub sheet-entries-no-entry : Triple 𝓤 (C sheet-entries-no-entry-def.name) Its-sheet-entries-no-entry
+    pub sheet-entries-fill : Triple 𝓤 (C sheet-entries-fill-def.name) Its-sheet-entries-fill
     pub calls-step : Triple 𝓤 (C calls-step-def.name) Its-calls-step
 
   abbrev clauses : Clauses 𝓤 this.ended
@@ -150,10 +150,10 @@ module _ {M : Type 1} (𝓤 : URA M) (H : Heap 𝓤) (A : Atoms 𝓤) (W : Given
   abbrev This : Contract 𝓤
   This = walkOf 𝓤 H A this.ended stayed clauses
 
-  module _ (κ₀ κ₁ κ₂ κ₃ κ₄ κ₅ κ₆ κ₇ : Lft) (q₀ q₁ q₂ q₃ q₄ q₅ q₆ q₇ : Share) (run : RefT (List ℕ)) (places : RefT (List ℕ)) (n : ℕ) (call : Call) (mark : Mark) (contact : Contact)
+  module _ (κ₀ κ₁ κ₂ κ₃ κ₄ κ₅ κ₆ κ₇ : Lft) (q₀ q₁ q₂ q₃ q₄ q₅ q₆ q₇ : Share) (run : RefT (List ℕ)) (records : RefT (List ℕ)) (n : ℕ) (call : Call) (mark : Mark) (contact : Contact)
       (chains : RefT (List ℕ)) (skipped : RefT (List ℕ)) (above : RefT (List ℕ)) (unacked : RefT (List ℕ)) (expired : RefT (List ℕ)) (out : RefT (List ℕ))
       (in-run : Is (ShrSlice (named 0) κ₀ (UInt w8)) run (slice-vals run))
-      (in-places : Is (ShrSlice (named 1) κ₁ (UInt w64)) places (slice-vals places))
+      (in-records : Is (ShrSlice (named 1) κ₁ (UInt w64)) records (slice-vals records))
       (in-n : Lies as-w64 n)
       (in-call : Lies as-Call call)
       (in-mark : Lies as-Mark mark)
@@ -170,11 +170,11 @@ module _ {M : Type 1} (𝓤 : URA M) (H : Heap 𝓤) (A : Atoms 𝓤) (W : Given
         (κ₀, (κ₁, (κ₂, (κ₃, (κ₄, (κ₅, (κ₆, (κ₇, tt)))))))),
         (q₀, (q₁, (q₂, (q₃, (q₄, (q₅, (q₆, (q₇, tt)))))))),
         tt,
-        (run, (places, (n, (call, (mark, (contact, (chains, (skipped, (above, (unacked, (expired, (out, tt)))))))))))),
+        (run, (records, (n, (call, (mark, (contact, (chains, (skipped, (above, (unacked, (expired, (out, tt)))))))))))),
         (
           slice-vals run,
           (
-            slice-vals places,
+            slice-vals records,
             (
               vals as-w64 n,
               (
@@ -189,17 +189,17 @@ module _ {M : Type 1} (𝓤 : URA M) (H : Heap 𝓤) (A : Atoms 𝓤) (W : Given
     )
 
     -- what each call is handed
-    abbrev to-blank : Its-table-no-entry .Ghost
+    abbrev to-blank : Its-sheet-entries-no-entry .Ghost
     to-blank = ((tt, tt, tt, tt, tt), tt)
 
-    abbrev to-count : (ν-whole : ℕ) → (γ-whole : GName) → (l₁₄ : ℕ) → (blank : Entry) → Its-table-fill .Ghost
+    abbrev to-count : (ν-whole : ℕ) → (γ-whole : GName) → (l₁₄ : ℕ) → (blank : Entry) → Its-sheet-entries-fill .Ghost
     to-count ν-whole γ-whole l₁₄ blank = (
       (
         (κ₁, ((ν-whole ∷ []), tt)),
         (q₁, (fullShare, tt)),
         tt,
-        (places, (n, ((whole-of (replicate 512 blank) l₁₄ γ-whole), tt))),
-        (slice-vals places, (vals as-w64 n, (slice-vals (whole-of (replicate 512 blank) l₁₄ γ-whole), tt))),
+        (records, (n, ((whole-of (replicate 512 blank) l₁₄ γ-whole), tt))),
+        (slice-vals records, (vals as-w64 n, (slice-vals (whole-of (replicate 512 blank) l₁₄ γ-whole), tt))),
       ),
       tt,
     )
@@ -255,7 +255,7 @@ module _ {M : Type 1} (𝓤 : URA M) (H : Heap 𝓤) (A : Atoms 𝓤) (W : Given
           (λ l₂₁. alloc1 ! (λ l₂₂. alloc1 ! (λ l₂₃. alloc1 ! (λ l₂₄. alloc1 !
           (λ l₂₅. alloc1 ! (λ l₂₆. alloc1 ! (λ l₂₇. alloc1 ! (λ l₂₈. alloc1 ! (λ l₂₉. alloc1 ! (λ l₃₀. alloc1 ! (λ l₃₁. alloc0 ! $ params1 ! $
           pass1 ! (init ! 60 refl (shr-slice-lawful 𝓤 H A W (named 0) κ₀ (UInt w8) .typed run (slice-vals run) in-run .0)) $
-          pass1 ! (init ! 58 refl (shr-slice-lawful 𝓤 H A W (named 1) κ₁ (UInt w64) .typed places (slice-vals places) in-places .0)) $
+          pass1 ! (init ! 58 refl (shr-slice-lawful 𝓤 H A W (named 1) κ₁ (UInt w64) .typed records (slice-vals records) in-records .0)) $
           pass1 ! (init ! 56 refl (as-w64 .lawful .typed n _ in-n .0)) $
           pass1 ! (init ! 54 refl (as-Call .lawful .typed call _ in-call .0)) $
           pass1 ! (init ! 52 refl (as-Mark .lawful .typed mark _ in-mark .0)) $
@@ -267,9 +267,9 @@ module _ {M : Type 1} (𝓤 : URA M) (H : Heap 𝓤) (A : Atoms 𝓤) (W : Given
           pass1 ! (init ! 40 refl (mut-slice-lawful 𝓤 H A W (named 6) κ₆ (UInt w32) .typed expired (slice-vals expired) in-expired .0)) $
           pass1 ! (init ! 38 refl (mut-slice-lawful 𝓤 H A W (named 7) κ₇ (UInt w8) .typed out (slice-vals out) in-out .0)) $
           pass0 ! $ move ! (64 ∷ 65 ∷ 66 ∷ 67 ∷ 68 ∷ 69 ∷ 70 ∷ 71 ∷ 72 ∷ 73 ∷ 74 ∷ 75 ∷ 76 ∷ 77 ∷ 78 ∷ 79 ∷ []) $
-          -- blank is table::no_entry()
+          -- blank is sheet_entries::no_entry()
           nothing ! $
-          calls-held ! fm table-no-entry.ended (table-no-entry.clauses 𝓤 H A mem calling) (known .table-no-entry) to-blank (id⊢ 𝓤 _) as-Entry (λ r ws. id⊢ 𝓤 _)
+          calls-held ! fm sheet-entries-no-entry.ended (sheet-entries-no-entry.clauses 𝓤 H A mem calling) (known .sheet-entries-no-entry) to-blank (id⊢ 𝓤 _) as-Entry (λ r ws. id⊢ 𝓤 _)
           (no-more !) (λ blank is-blank in-blank.
           land ! (into !) (init ! 52 refl (as-Entry .lawful .typed blank _ in-blank .0)) $
           assigns ! (rep ! 512 (local ! (look ! 52 refl))) (into !) (init ! 50 refl
@@ -281,9 +281,10 @@ module _ {M : Type 1} (𝓤 : URA M) (H : Heap 𝓤) (A : Atoms 𝓤) (W : Given
           rewrite ! 45 (λ (m : ℕ). ‵ (fat fullShare (sliceTy (tyRef erased mut (pointee (EntryT.the-row .written)))) l₁₇ 0 (sliceVal (l₁₄, 0) m))) (sym (length-replicate 512 blank)) refl $
           lft-new ! tt (λ ν-whole. move ! (1 ∷ []) $ lends-whole ! tt EntryT.the-row (named 0) 512 (lit< tt, lit< tt) ν-whole (replicate 512 blank) l₁₄ (length-replicate 512 blank)
           (λ γ-whole.
-          -- count is table::fill(places, n, table)
-          nothing ! $ move ! (1 ∷ 0 ∷ []) $ fjoin ! $ plus ! as-w64 n in-n $ lends ! 11 (named 1) κ₁ (UInt w64) places refl $ move ! (4 ∷ 2 ∷ 0 ∷ []) $
-          calls-lent ! fm table-fill.ended (table-fill.clauses 𝓤 H A mem calling) (known .table-fill) (to-count ν-whole γ-whole l₁₄ blank) (id⊢ 𝓤 _) as-w64 (λ r ws. id⊢ 𝓤 _)
+          -- count is sheet_entries::fill(records, n, table)
+          nothing ! $ move ! (1 ∷ 0 ∷ []) $ fjoin ! $ plus ! as-w64 n in-n $ lends ! 11 (named 1) κ₁ (UInt w64) records refl $ move ! (4 ∷ 2 ∷ 0 ∷ []) $
+          calls-lent ! fm sheet-entries-fill.ended (sheet-entries-fill.clauses 𝓤 H A mem calling) (known .sheet-entries-fill) (to-count ν-whole γ-whole l₁₄ blank) (id⊢ 𝓤 _) as-w64
+          (λ r ws. id⊢ 𝓤 _)
           (and-then ! (local ! (look ! 74 refl)) (and-then ! (local ! (look ! 72 refl)) (and-then ! (local ! (look ! 45 refl)) (no-more !)))) (λ count ws-count is-count in-count.
           move ! (2 ∷ []) $ fsplit ! $ drop ! $ fsplit ! $ drop ! $ fsplit ! $ fsplit ! $ move ! (1 ∷ []) $ feqL ! (λ fits-table. move ! (1 ∷ []) $ drop ! $
           land ! (into !) (init ! 51 refl (as-w64 .lawful .typed count _ in-count .0)) $
@@ -469,10 +470,10 @@ step-spec 𝓤 H 𝓜 𝓖 𝓡 =
     entered 𝓤 H (tripleOf 𝓤 H (𝓖 .A) this.signature (this.spec 𝓤 H (𝓖 .A) (𝓜 .mem) (𝓡 .run)))
     (tables 𝓤 H 𝓜 𝓡 code.env .C) (tables 𝓤 H 𝓜 𝓡 code.env .Λ) this-def.name code.function (code.unfolded 𝓤 H 𝓜 𝓡)
     (meets 𝓤 H (𝓖 .A) W (𝓜 .mem) (𝓡 .run) (tablesOf 𝓤 H 𝓜 (tables 𝓤 H 𝓜 𝓡 code.env)) (record {
-      table-no-entry = cited 𝓤 H (Its-table-no-entry 𝓤 H (𝓖 .A) W (𝓜 .mem) (𝓡 .run)) 𝓜 𝓡 code.env
-          table-no-entry-def.name table-no-entry-def.routine code.calls-table·no-entry (table-no-entry-thm.met 𝓤 H 𝓜 𝓖 𝓡);
-      table-fill = cited 𝓤 H (Its-table-fill 𝓤 H (𝓖 .A) W (𝓜 .mem) (𝓡 .run)) 𝓜 𝓡 code.env
-          table-fill-def.name table-fill-def.routine code.calls-table·fill (table-fill-thm.met 𝓤 H 𝓜 𝓖 𝓡);
+      sheet-entries-no-entry = cited 𝓤 H (Its-sheet-entries-no-entry 𝓤 H (𝓖 .A) W (𝓜 .mem) (𝓡 .run)) 𝓜 𝓡 code.env
+          sheet-entries-no-entry-def.name sheet-entries-no-entry-def.routine code.calls-sheet-entries·no-entry (sheet-entries-no-entry-thm.met 𝓤 H 𝓜 𝓖 𝓡);
+      sheet-entries-fill = cited 𝓤 H (Its-sheet-entries-fill 𝓤 H (𝓖 .A) W (𝓜 .mem) (𝓡 .run)) 𝓜 𝓡 code.env
+          sheet-entries-fill-def.name sheet-entries-fill-def.routine code.calls-sheet-entries·fill (sheet-entries-fill-thm.met 𝓤 H 𝓜 𝓖 𝓡);
       calls-step = cited 𝓤 H (Its-calls-step 𝓤 H (𝓖 .A) W (𝓜 .mem) (𝓡 .run)) 𝓜 𝓡 code.env
           calls-step-def.name calls-step-def.routine code.calls-calls·step (calls-step-thm.met 𝓤 H 𝓜 𝓖 𝓡);
     }))

@@ -11,13 +11,13 @@ use borrow.Author.Tests.{eq-eqb, ne-eqb, not-true, not-false}
 use Rattle.layout.specs.Veil.{zeros}
 use Rattle.rows.specs.Checks.{kci}
 use Rattle.put.proofs.Put.{length-run}
-use Rattle.card.specs.Card.{Places, cardAt, orZeros}
+use Rattle.card.specs.Card.{Offsets, cardAt, orZeros}
 use Rattle.card.specs.declared.CardAt.{CardAt}
 use Rattle.card.proofs.Placed.{fit-places, card-placed}
 use Rattle.card.proofs.card_from.Statement.{statement}
 use Rattle.card.proofs.card_from.Tie as tie
 
-module _ (input : List ℕ) (at : CardAt) (places : Places input at) where
+module _ (input : List ℕ) (at : CardAt) (places : Offsets input at) where
   made : (key name ek : List ℕ) → key ≡ take 32 (drop 5 input) → name ≡ take (at .«name_len») (drop 38 input) ++ zeros (48 - at .«name_len»)
       → ek ≡ orZeros 1184 (cond (kci (at .caps)) (some (take 1184 (drop (38 + at .«name_len») input))) none)
       → record { «beacon_day» = at .«beacon_day»; caps = at .caps; «name_len» = at .«name_len»; «beacon_key» = key; name = name; «static_ek» = ek } ≡ cardAt input at
@@ -26,7 +26,7 @@ module _ (input : List ℕ) (at : CardAt) (places : Places input at) where
       rw (card-placed input at places, e1, e2, e3, long)
 
 -- the runs lie in the input, where it was found so
-places : (c : tie.Else1) → let s = c .before .before .before in Places (s .args .input .now) (s .args .at)
+places : (c : tie.Else1) → let s = c .before .before .before in Offsets (s .args .input .now) (s .args .at)
 places c =
     let f = c .before in
     let s = f .before .before in

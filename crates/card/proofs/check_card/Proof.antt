@@ -10,7 +10,7 @@ use Rattle.layout.proofs.At.{learn, typed, took, refused-at}
 use Rattle.layout.proofs.Steps.{Reached, start, field-yes, field-no, end-yes, end-no, done-yes}
 use Rattle.rows.specs.Rows.{card, cardRow}
 use Rattle.rows.proofs.Lawful.{card-lawful}
-use Rattle.card.specs.Card.{fieldSays, fieldRefusal, FieldPlaced}
+use Rattle.card.specs.Card.{fieldSays, fieldRefusal, FieldOffsets}
 use Rattle.card.proofs.check_card.Statement.{statement}
 use Rattle.card.proofs.check_card.Tie as tie
 
@@ -71,7 +71,7 @@ returns-2 c =
 returns-3 : tie.Need-returns-3
 returns-3 c =
     let k = to-c c in
-    (sym (ap answer (done-yes (r2 c .so))), subst (FieldPlaced (input (s1 k))) (k .before .card .given .1) (k .before .before .before .card-at .ensures .1))
+    (sym (ap answer (done-yes (r2 c .so))), subst (FieldOffsets (input (s1 k))) (k .before .card .given .1) (k .before .before .before .card-at .ensures .1))
 
 pub check-card-spec : {M : Type 1} → statement M
 check-card-spec =

@@ -6,11 +6,11 @@ use lib.ListN.{length}
 use borrow.Author.Tests.{le-leb, lt-leb, not-true, not-false}
 use Rattle.layout.proofs.At.{typed}
 use Rattle.rows.specs.Values.{Chain, Skipped}
-use Rattle.rows.specs.Checks.{oneChainAtMost, gensDistinct, placesDistinct}
+use Rattle.rows.specs.Checks.{oneChainAtMost, gensDistinct, keysDistinct}
 use Rattle.rows.proofs.Lawful.{skipped-lawful}
-use Rattle.lists.proofs.Ends.{listed-fits}
-use Rattle.parts.specs.Places.{chainedFrom}
-use Rattle.consistent.specs.declared.ChainsAsked.{ChainsAsked}
+use Rattle.contact_lists.proofs.Ends.{listed-fits}
+use Rattle.contact_parts.specs.Offsets.{chainedFrom}
+use Rattle.contact_checks.specs.declared.ChainsAsked.{ChainsAsked}
 use Rattle.contact.proofs.chains_consistent.Statement.{statement}
 use Rattle.contact.proofs.chains_consistent.Tie as tie
 
@@ -43,7 +43,7 @@ e2 c = c .before .before
 abbrev a3 : tie.After-skipped-distinct → tie.After-chains-in-row
 a3 c = a1 (e1 (e2 c))
 
-distinct : (c : tie.After-skipped-distinct) {t : Bool} → c .skipped-distinct .result ≡ t → placesDistinct (skipped (a3 c)) ≡ t
+distinct : (c : tie.After-skipped-distinct) {t : Bool} → c .skipped-distinct .result ≡ t → keysDistinct (skipped (a3 c)) ≡ t
 distinct c e = sym (c .skipped-distinct .ensures) ∙ e
 
 many : (c : tie.After-skipped-distinct) → length (skipped (a3 c)) ≡ start (a3 c) .args .at .skipped .count
@@ -58,7 +58,7 @@ yes-17 c = one (a1 c) (not-false _ (c .if1 .left))
 yes-18 : (c : tie.Else2) → gensDistinct (chains (a1 (e1 c))) ≡ true
 yes-18 c = gens (a1 (e1 c)) (not-false _ (c .if2 .left))
 
-yes-19 : (c : tie.Else3) → placesDistinct (skipped (a3 (c .before))) ≡ true
+yes-19 : (c : tie.Else3) → keysDistinct (skipped (a3 (c .before))) ≡ true
 yes-19 c = distinct (c .before) (not-false _ (c .if3 .left))
 
 -- ---- what is asked

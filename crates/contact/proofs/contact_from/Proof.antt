@@ -12,9 +12,9 @@ use Rattle.layout.proofs.Front.{number-lawful}
 use Rattle.layout.proofs.At.{typed}
 use Rattle.rows.specs.Rows.{chain, skipped, range}
 use Rattle.rows.proofs.Lawful.{chain-lawful, skipped-lawful, range-lawful}
-use Rattle.lists.specs.declared.ListAt.{ListAt}
-use Rattle.lists.proofs.Ends.{listed-fits}
-use Rattle.parts.specs.Places.{listIn, ListIn}
+use Rattle.contact_lists.specs.declared.ListAt.{ListAt}
+use Rattle.contact_lists.proofs.Ends.{listed-fits}
+use Rattle.contact_parts.specs.Offsets.{listIn, ListIn}
 use Rattle.contact.proofs.contact_from.Statement.{statement}
 use Rattle.contact.proofs.contact_from.Tie as tie
 

@@ -7,9 +7,9 @@ use borrow.Author.Needs.{needs}
 use borrow.Author.Tests.{le-leb, lt-leb, not-true, not-false}
 use Rattle.layout.proofs.At.{typed}
 use Rattle.rows.specs.Checks.{ackedSent, rising, canonical, noneAbove}
-use Rattle.consistent.proofs.Callers.{canonical-in-row}
-use Rattle.parts.specs.Parts.{Numbers}
-use Rattle.parts.specs.Places.{numbersFrom}
+use Rattle.contact_checks.proofs.Callers.{canonical-in-row}
+use Rattle.contact_parts.specs.Parts.{Numbers}
+use Rattle.contact_parts.specs.Offsets.{numbersFrom}
 use Rattle.contact.proofs.numbers_consistent.Statement.{statement}
 use Rattle.contact.proofs.numbers_consistent.Tie as tie
 

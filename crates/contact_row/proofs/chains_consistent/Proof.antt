@@ -7,13 +7,13 @@ use borrow.Author.Tests.{le-leb, lt-leb, not-true, not-false}
 use Rattle.layout.specs.Layout.{group}
 use Rattle.layout.proofs.At.{typed}
 use Rattle.rows.specs.Values.{Chain, Skipped}
-use Rattle.rows.specs.Checks.{oneChainAtMost, gensDistinct, placesDistinct}
+use Rattle.rows.specs.Checks.{oneChainAtMost, gensDistinct, keysDistinct}
 use Rattle.rows.specs.Rows.{skipped as key}
-use Rattle.lent.specs.Lent.{chainsOf, skippedOf}
-use Rattle.lent.proofs.Laws.{skipped-printed}
-use Rattle.consistent.specs.Asked.{Placed}
-use Rattle.consistent.proofs.Callers.{skipped-stand, skipped-items}
-use Rattle.consistent.specs.declared.ChainsAsked.{ChainsAsked}
+use Rattle.contact_lent.specs.Lent.{chainsOf, skippedOf}
+use Rattle.contact_lent.proofs.Laws.{skipped-printed}
+use Rattle.contact_checks.specs.Asked.{Placed}
+use Rattle.contact_checks.proofs.Callers.{skipped-stand, skipped-items}
+use Rattle.contact_checks.specs.declared.ChainsAsked.{ChainsAsked}
 use Rattle.contact_row.proofs.chains_consistent.Statement.{statement}
 use Rattle.contact_row.proofs.chains_consistent.Tie as tie
 
@@ -50,10 +50,10 @@ a3 c = a1 (e1 (e2 c))
 stand : (c : tie.After-chains-lent) → Placed 46 (group key) (start c .args .skipped .now) (start c .args .contact .skipped)
 stand c = let p = start c .pre in record { room = p .skipped; records = _; rest = _; so = p .skippedGranted .reads }
 
-distinct : (c : tie.After-skipped-distinct) {t : Bool} → c .skipped-distinct .result ≡ t → placesDistinct (skipped (a3 c)) ≡ t
+distinct : (c : tie.After-skipped-distinct) {t : Bool} → c .skipped-distinct .result ≡ t → keysDistinct (skipped (a3 c)) ≡ t
 distinct c e =
     let a = a3 c in
-    ap placesDistinct (sym (skipped-items (start a .args .skipped .now) (start a .args .contact .skipped) (typed (start a .args .skipped .now) (a .before .shared-slice-known2 .given)) (stand a)))
+    ap keysDistinct (sym (skipped-items (start a .args .skipped .now) (start a .args .contact .skipped) (typed (start a .args .skipped .now) (a .before .shared-slice-known2 .given)) (stand a)))
     ∙ sym (c .skipped-distinct .ensures) ∙ e
 
 many : (c : tie.After-chains-lent) → length (skipped c) ≡ start c .args .contact .skipped
@@ -68,7 +68,7 @@ yes-17 c = one (a1 c) (not-false _ (c .if1 .left))
 yes-18 : (c : tie.Else2) → gensDistinct (chains (a1 (e1 c))) ≡ true
 yes-18 c = gens (a1 (e1 c)) (not-false _ (c .if2 .left))
 
-yes-19 : (c : tie.Else3) → placesDistinct (skipped (a3 (c .before))) ≡ true
+yes-19 : (c : tie.Else3) → keysDistinct (skipped (a3 (c .before))) ≡ true
 yes-19 c = distinct (c .before) (not-false _ (c .if3 .left))
 
 -- ---- what is asked

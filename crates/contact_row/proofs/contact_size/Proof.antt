@@ -14,13 +14,13 @@ use Rattle.layout.proofs.Write.{asked-length}
 use Rattle.rows.specs.Answers.{writtenSays}
 use Rattle.rows.specs.Rows.{cardRow, chain, skipped}
 use Rattle.card.specs.Card as cards
-use Rattle.lent.specs.Lent.{Granted, chainsOf, skippedOf}
-use Rattle.lent.proofs.Places.{size-granted}
+use Rattle.contact_lent.specs.Lent.{Granted, chainsOf, skippedOf}
+use Rattle.contact_lent.proofs.Offsets.{size-granted}
 use Rattle.contact.specs.Consistent.{refusalIn}
 use Rattle.contact.specs.Contact.{Lists, lists}
 use Rattle.contact.specs.declared.Contact.{Contact}
-use Rattle.contact_put.specs.Row.{counted, ListsTyped}
-use Rattle.contact_put.proofs.Counts.{AllCounted, all-counted}
+use Rattle.contact_image.specs.Row.{counted, ListsTyped}
+use Rattle.contact_image.proofs.Counts.{AllCounted, all-counted}
 use Rattle.contact_row.proofs.Asked.{counted-is, not-counted, bad-card, bad-chains, bad-skipped, inconsistent, whole, size-is, sizes-few}
 use Rattle.contact_row.proofs.contact_size.Statement.{statement}
 use Rattle.contact_row.proofs.contact_size.Tie as tie

@@ -11,7 +11,7 @@ use Rattle.rows.specs.Values.{Range}
 use Rattle.rows.specs.Checks.{ackedSent, rising, canonical, noneAbove}
 use Rattle.received.specs.Lent.{pairs}
 use Rattle.contact.specs.declared.Contact.{Contact}
-use Rattle.consistent.proofs.Callers.{canonical-lent}
+use Rattle.contact_checks.proofs.Callers.{canonical-lent}
 use Rattle.contact_row.proofs.numbers_consistent.Statement.{statement}
 use Rattle.contact_row.proofs.numbers_consistent.Tie as tie
 

@@ -12,7 +12,7 @@ use Rattle.rows.specs.declared.Written.the-variants.{Length}
 use Rattle.put.proofs.Put.{put-front}
 use Rattle.contact.specs.Contact.{Lists, lists}
 use Rattle.contact.specs.declared.Contact.{Contact}
-use Rattle.contact_put.specs.Row.{image, askedContact, ListsTyped}
+use Rattle.contact_image.specs.Row.{image, askedContact, ListsTyped}
 use Rattle.contact_row.proofs.Written.{writable, length-is, left-refused, left-short, left-row}
 use Rattle.contact_row.proofs.write_contact.Statement.{statement}
 use Rattle.contact_row.proofs.write_contact.Tie as tie

@@ -9,7 +9,7 @@ use borrow.Author.Needs.{needs}
 use Rattle.layout.specs.Layout.{readRow}
 use Rattle.layout.proofs.At.{learn, typed}
 use Rattle.rows.specs.Rows.{courier}
-use Rattle.courier.specs.Courier.{checkRefusal, Places, sealedAt, heldFrom}
+use Rattle.courier.specs.Courier.{checkRefusal, Offsets, sealedAt, heldFrom}
 use Rattle.courier.proofs.Placed.{checkSays, Placed, check-says, check-placed}
 use Rattle.courier.specs.declared.HeldAt.{HeldAt}
 use Rattle.courier.specs.declared.HeldAt.the-variants.{Carried, Tombstone}
@@ -18,7 +18,7 @@ use Rattle.courier_row.proofs.read_courier.Statement.{statement}
 use Rattle.courier_row.proofs.read_courier.Tie as tie
 
 -- the sealed text starts where its length tells
-starts : (row : List ℕ) (at : HeldAt) → Places row at → length row - length (textOf (heldFrom row at)) ≡ sealedAt row at
+starts : (row : List ℕ) (at : HeldAt) → Offsets row at → length row - length (textOf (heldFrom row at)) ≡ sealedAt row at
 starts row (Carried at) p = simp length-drop (omega (arith, p .sealed))
 starts row (Tombstone at) p = simp sub-zero
 

@@ -6,13 +6,13 @@ use borrow.Author.Needs.{needs}
 use Rattle.put.proofs.Put.{_then_, wrote-long}
 use Rattle.sealed.proofs.Text.{wrote-as}
 use Rattle.queued_row.specs.Row.{ownImage}
-use Rattle.queued_row.specs.declared.Queued.{Queued}
+use Rattle.queued_row.specs.declared.Outgoing.{Outgoing}
 use Rattle.queued_row.proofs.Image.{own-absent, own-present, length-present}
 use Rattle.queued_row.proofs.put_own_envelope.Statement.{statement}
 use Rattle.queued_row.proofs.put_own_envelope.Tie as tie
 
 -- ---- the places on the way of an envelope
-abbrev outgoing : tie.After-known-told → Queued
+abbrev outgoing : tie.After-known-told → Outgoing
 outgoing k = k .before .before .before .before .before .args .outgoing
 
 long : (k : tie.After-known-told) → length (ownImage (outgoing k)) ≡ 39

@@ -1,13 +1,13 @@
 -- `queued_row::queued_from` meets its contract: the numbers, and the two runs copied or zeros.
 use mathlib.Core.Path.{subst}
 use borrow.Author.Needs.{needs}
-use Rattle.queued.specs.Queued.{OwnPlaces, EnvelopePlaces}
+use Rattle.queued.specs.Queued.{OwnOffsets, EnvelopeOffsets}
 use Rattle.queued_row.proofs.queued_from.Statement.{statement}
 use Rattle.queued_row.proofs.queued_from.Tie as tie
 
 -- the places of the envelope lie in the row
-places : (c : tie.After-known-told) → EnvelopePlaces (c .before .before .before .before .args .row .now) (c .before .own .given .0 .0)
-places c = subst (OwnPlaces _) (c .before .own .given .1) (c .before .before .before .before .pre .envelope)
+places : (c : tie.After-known-told) → EnvelopeOffsets (c .before .before .before .before .args .row .now) (c .before .own .given .0 .0)
+places c = subst (OwnOffsets _) (c .before .own .given .1) (c .before .before .before .before .pre .envelope)
 
 enum-known-own : tie.Need-enum-known-own
 enum-known-own c = search needs

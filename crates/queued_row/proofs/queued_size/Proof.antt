@@ -10,8 +10,8 @@ use Rattle.layout.specs.Write.{wrote}
 use Rattle.rows.specs.Checks.{sealedQueued}
 use Rattle.data.proofs.Leb.{few-printed}
 use Rattle.sealed.proofs.Buckets.{queued-few}
-use Rattle.queued_row.specs.Row.{image, ownImage, QueuedTyped}
-use Rattle.queued_row.specs.declared.Queued.{Queued}
+use Rattle.queued_row.specs.Row.{image, ownImage, OutgoingTyped}
+use Rattle.queued_row.specs.declared.Outgoing.{Outgoing}
 use Rattle.queued_row.proofs.Image.{whole, bad-length, length-image, own-absent, length-present}
 use Rattle.queued_row.proofs.queued_size.Statement.{statement}
 use Rattle.queued_row.proofs.queued_size.Tie as tie
@@ -20,7 +20,7 @@ use Rattle.queued_row.proofs.queued_size.Tie as tie
 abbrev t1 : tie.After-leb128-len → tie.After-typed
 t1 c = c .before .before .before
 
-abbrev outgoing : tie.After-leb128-len → Queued
+abbrev outgoing : tie.After-leb128-len → Outgoing
 outgoing c = t1 c .before .before .args .outgoing
 
 abbrev text : tie.After-leb128-len → List ℕ
@@ -57,7 +57,7 @@ returns : tie.Need-returns
 returns c =
     let l = c .before .before in
     let q = outgoing l in
-    let ty : QueuedTyped q = t1 l .typed .ensures in
+    let ty : OutgoingTyped q = t1 l .typed .ensures in
     let own : length (ownImage q) ≡ 1 = ap length (own-absent q (c .enum-told2 .given .1)) in
     sym (whole q ty (text l) (allowed l) ∙ ap wrote (omega (arith, length-image q ty (text l), l .leb128-len .ensures)))
 
@@ -71,7 +71,7 @@ returns-2 : tie.Need-returns-2
 returns-2 c =
     let l = c .before .before in
     let q = outgoing l in
-    let ty : QueuedTyped q = t1 l .typed .ensures in
+    let ty : OutgoingTyped q = t1 l .typed .ensures in
     let own : length (ownImage q) ≡ 39 = length-present q ty (c .enum-told .given .1) in
     sym (whole q ty (text l) (allowed l) ∙ ap wrote (omega (arith, length-image q ty (text l), l .leb128-len .ensures)))
 

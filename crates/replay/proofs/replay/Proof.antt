@@ -8,11 +8,11 @@ use Rattle.replay.proofs.replay.Statement.{statement}
 use Rattle.replay.proofs.replay.Tie as tie
 
 abbrev Inv-loop : tie.InvT-loop
-Inv-loop text₀ run₀ places₀ chains₀ skipped₀ above₀ unacked₀ expired₀ out₀ line₀ session₀ s₀ w₀ turns₀ text run places chains skipped above unacked expired out line session s w turns =
-    (length text ≡ length text₀) × (length run ≡ length run₀) × (length places ≡ length places₀) × (length chains ≡ length chains₀) × (length skipped ≡ length skipped₀) × (length above ≡ length above₀) × (length unacked ≡ length unacked₀) × (length expired ≡ length expired₀) × (length out ≡ length out₀) × (length line ≡ length line₀)
+Inv-loop text₀ run₀ records₀ chains₀ skipped₀ above₀ unacked₀ expired₀ out₀ line₀ session₀ s₀ w₀ turns₀ text run records chains skipped above unacked expired out line session s w turns =
+    (length text ≡ length text₀) × (length run ≡ length run₀) × (length records ≡ length records₀) × (length chains ≡ length chains₀) × (length skipped ≡ length skipped₀) × (length above ≡ length above₀) × (length unacked ≡ length unacked₀) × (length expired ≡ length expired₀) × (length out ≡ length out₀) × (length line ≡ length line₀)
 
 abbrev μ-loop : tie.MeasureT-loop
-μ-loop text₀ run₀ places₀ chains₀ skipped₀ above₀ unacked₀ expired₀ out₀ line₀ session₀ s₀ w₀ turns₀ text run places chains skipped above unacked expired out line session s w turns =
+μ-loop text₀ run₀ records₀ chains₀ skipped₀ above₀ unacked₀ expired₀ out₀ line₀ session₀ s₀ w₀ turns₀ text run records chains skipped above unacked expired out line session s w turns =
     turns
 
 begin-requires : tie.Need-begin-requires Inv-loop μ-loop

@@ -1,4 +1,4 @@
--- `replay::turn` is safe: what it lends has its length again, the run, the places and the output after two calls (`lent`).
+-- `replay::turn` is safe: what it lends has its length again, the run, the records and the output after two calls (`lent`).
 -- Assumes nothing.
 use native.Mathlib.Omega.{arith}
 use borrow.Author.Needs.{needs}

@@ -45,20 +45,20 @@ use base.Fml.{fat}
 use types.Kit.{rewrite}
 use types.Part.{rep}
 use denote.Array.{Array, arrayVal}
-use Rattle.across.specs.At.{At}
+use Rattle.restore_across.specs.At.{At}
 use Rattle.restore.proofs.Index.{as-many}
 use Rattle.walks.proofs.Table.{of-array, repeated, in-cells, whole-of, lends-whole, whole-back, first-of, lends-first, table-back, big-lit}
-use Rattle.across.specs.declared.Across.{Across}
-use Rattle.across.proofs.Across as AcrossT
-use Rattle.across.proofs.Across.Laws as AcrossL
+use Rattle.restore_across.specs.declared.Across.{Across}
+use Rattle.restore_across.proofs.Across as AcrossT
+use Rattle.restore_across.proofs.Across.Laws as AcrossL
 use Rattle.store.specs.declared.Entry.{Entry}
 use Rattle.store.proofs.Entry as EntryT
-use Rattle.store.specs.declared.Aside.{Aside}
-use Rattle.store.proofs.Aside as AsideT
-use Rattle.store.proofs.Aside.Laws as AsideL
-use Rattle.twins.proofs.first_of_many as twins-first-of-many
-use Rattle.twins.proofs.first_of_many.Symbol as twins-first-of-many-def
-use Rattle.twins.proofs.first_of_many.Met as twins-first-of-many-thm
+use Rattle.store.specs.declared.Omitted.{Omitted}
+use Rattle.store.proofs.Omitted as OmittedT
+use Rattle.store.proofs.Omitted.Laws as OmittedL
+use Rattle.restore_duplicates.proofs.first_of_many as restore-duplicates-first-of-many
+use Rattle.restore_duplicates.proofs.first_of_many.Symbol as restore-duplicates-first-of-many-def
+use Rattle.restore_duplicates.proofs.first_of_many.Met as restore-duplicates-first-of-many-thm
 use Rattle.restore.proofs.no_place as no-place
 use Rattle.restore.proofs.no_place.Symbol as no-place-def
 use Rattle.restore.proofs.no_place.Met as no-place-thm
@@ -81,8 +81,8 @@ module _ {M : Type 1} (𝓤 : URA M) (H : Heap 𝓤) (A : Atoms 𝓤) (W : Given
   abbrev as-Across : Held W AcrossT.the-row
   as-Across = of-enum W AcrossT.the-type AcrossL.the-laws AcrossL.the-plain tt
 
-  abbrev as-Aside : Held W AsideT.the-row
-  as-Aside = of-enum W AsideT.the-type AsideL.the-laws AsideL.the-plain tt
+  abbrev as-Omitted : Held W OmittedT.the-row
+  as-Omitted = of-enum W OmittedT.the-type OmittedL.the-laws OmittedL.the-plain tt
 
   abbrev as-w64 : Held W (UInt w64)
   as-w64 = number W w64
@@ -94,8 +94,8 @@ module _ {M : Type 1} (𝓤 : URA M) (H : Heap 𝓤) (A : Atoms 𝓤) (W : Given
   as-w32-table = of-array W as-w32 65536
 
   -- the contracts that the proof cites, and its own
-  abbrev Its-twins-first-of-many : Contract 𝓤
-  Its-twins-first-of-many = tripleOf 𝓤 H A twins-first-of-many.signature (twins-first-of-many.spec 𝓤 H A mem calling)
+  abbrev Its-restore-duplicates-first-of-many : Contract 𝓤
+  Its-restore-duplicates-first-of-many = tripleOf 𝓤 H A restore-duplicates-first-of-many.signature (restore-duplicates-first-of-many.spec 𝓤 H A mem calling)
 
   abbrev Its-no-place : Contract 𝓤
   Its-no-place = tripleOf 𝓤 H A no-place.signature (no-place.spec 𝓤 H A mem calling)
@@ -107,7 +107,7 @@ module _ {M : Type 1} (𝓤 : URA M) (H : Heap 𝓤) (A : Atoms 𝓤) (W : Given
   Its-across-turns = tripleOf 𝓤 H A across-turns.signature (across-turns.spec 𝓤 H A mem calling)
 
   pub record Known (C : Calls 𝓤 H) : Type 1 where
-    pub twins-first-of-many : Triple 𝓤 (C twins-first-of-many-def.name) Its-twins-first-of-many
+    pub restore-duplicates-first-of-many : Triple 𝓤 (C restore-duplicates-first-of-many-def.name) Its-restore-duplicates-first-of-many
     pub no-place : Triple 𝓤 (C no-place-def.name) Its-no-place
     pub note-all : Triple 𝓤 (C note-all-def.name) Its-note-all
     pub across-turns : Triple 𝓤 (C across-turns-def.name) Its-across-turns
@@ -118,24 +118,27 @@ module _ {M : Type 1} (𝓤 : URA M) (H : Heap 𝓤) (A : Atoms 𝓤) (W : Given
   abbrev This : Contract 𝓤
   This = walkOf 𝓤 H A this.ended stayed clauses
 
-  module _ (κ₀ κ₁ : Lft) (q₀ q₁ : Share) (run : RefT (List ℕ)) (entries : RefT (List Entry)) (aside : Aside) (state : Across)
+  module _ (κ₀ κ₁ : Lft) (q₀ q₁ : Share) (run : RefT (List ℕ)) (entries : RefT (List Entry)) (omitted : Omitted) (state : Across)
       (in-run : Is (ShrSlice (named 0) κ₀ (UInt w8)) run (slice-vals run))
       (in-entries : Is (ShrSlice (named 1) κ₁ EntryT.the-row) entries (slice-vals entries))
-      (in-aside : Lies as-Aside aside)
+      (in-omitted : Lies as-Omitted omitted)
       (in-state : Lies as-Across state)
-      (asks : At (now run) (now entries) aside 0 state) where
+      (asks : At (now run) (now entries) omitted 0 state) where
     abbrev bound : This .Ghost
-    bound = (((κ₀, (κ₁, tt)), (q₀, (q₁, tt)), tt, (run, (entries, (aside, (state, tt)))), (slice-vals run, (slice-vals entries, (vals as-Aside aside, (vals as-Across state, tt))))), tt)
+    bound = (
+      ((κ₀, (κ₁, tt)), (q₀, (q₁, tt)), tt, (run, (entries, (omitted, (state, tt)))), (slice-vals run, (slice-vals entries, (vals as-Omitted omitted, (vals as-Across state, tt))))),
+      tt,
+    )
 
     -- what each call is handed
-    abbrev to-twin : Its-twins-first-of-many .Ghost
-    to-twin = (((κ₁, tt), (q₁, tt), tt, (entries, tt), (slice-vals entries, tt)), tt)
+    abbrev to-duplicate : Its-restore-duplicates-first-of-many .Ghost
+    to-duplicate = (((κ₁, tt), (q₁, tt), tt, (entries, tt), (slice-vals entries, tt)), tt)
 
-    abbrev to-place : (twin : ℕ) → Its-no-place .Ghost
-    to-place twin = ((tt, tt, tt, tt, tt), tt)
+    abbrev to-place : (duplicate : ℕ) → Its-no-place .Ghost
+    to-place duplicate = ((tt, tt, tt, tt, tt), tt)
 
-    abbrev to-count : (ν-whole : ℕ) → (γ-whole : GName) → (l₇ : ℕ) → (twin : ℕ) → (place : ℕ) → Its-note-all .Ghost
-    to-count ν-whole γ-whole l₇ twin place = (
+    abbrev to-count : (ν-whole : ℕ) → (γ-whole : GName) → (l₇ : ℕ) → (duplicate : ℕ) → (place : ℕ) → Its-note-all .Ghost
+    to-count ν-whole γ-whole l₇ duplicate place = (
       (
         (κ₁, ((ν-whole ∷ []), tt)),
         (q₁, (fullShare, tt)),
@@ -146,14 +149,14 @@ module _ {M : Type 1} (𝓤 : URA M) (H : Heap 𝓤) (A : Atoms 𝓤) (W : Given
       tt,
     )
 
-    abbrev to-r : (ν-first : ℕ) → (γ-first : GName) → (l₇ : ℕ) → (index : List ℕ) → (twin : ℕ) → (place : ℕ) → (count : ℕ) → Its-across-turns .Ghost
-    to-r ν-first γ-first l₇ index twin place count = (
+    abbrev to-r : (ν-first : ℕ) → (γ-first : GName) → (l₇ : ℕ) → (index : List ℕ) → (duplicate : ℕ) → (place : ℕ) → (count : ℕ) → Its-across-turns .Ghost
+    to-r ν-first γ-first l₇ index duplicate place count = (
       (
         (κ₀, (κ₁, ((ν-first ∷ []), tt))),
         (q₀, (q₁, (fullShare, tt))),
         tt,
-        (run, (entries, ((first-of index count l₇ γ-first), (aside, (twin, (state, tt)))))),
-        (slice-vals run, (slice-vals entries, (slice-vals (first-of index count l₇ γ-first), (vals as-Aside aside, (vals as-w64 twin, (vals as-Across state, tt)))))),
+        (run, (entries, ((first-of index count l₇ γ-first), (omitted, (duplicate, (state, tt)))))),
+        (slice-vals run, (slice-vals entries, (slice-vals (first-of index count l₇ γ-first), (vals as-Omitted omitted, (vals as-w64 duplicate, (vals as-Across state, tt)))))),
       ),
       tt,
     )
@@ -174,17 +177,18 @@ module _ {M : Type 1} (𝓤 : URA M) (H : Heap 𝓤) (A : Atoms 𝓤) (W : Given
           (λ l₄. alloc1 ! (λ l₅. alloc1 ! (λ l₆. alloc1 ! (λ l₇. alloc1 ! (λ l₈. alloc1 ! (λ l₉. alloc1 ! (λ l₁₀. alloc1 ! (λ l₁₁. alloc1 ! (λ l₁₂. alloc0 ! $ params1 ! $
           pass1 ! (init ! 22 refl (shr-slice-lawful 𝓤 H A W (named 0) κ₀ (UInt w8) .typed run (slice-vals run) in-run .0)) $
           pass1 ! (init ! 20 refl (shr-slice-lawful 𝓤 H A W (named 1) κ₁ EntryT.the-row .typed entries (slice-vals entries) in-entries .0)) $
-          pass1 ! (init ! 18 refl (as-Aside .lawful .typed aside _ in-aside .0)) $
+          pass1 ! (init ! 18 refl (as-Omitted .lawful .typed omitted _ in-omitted .0)) $
           pass1 ! (init ! 16 refl (as-Across .lawful .typed state _ in-state .0)) $
           pass0 ! $ move ! (26 ∷ 27 ∷ 28 ∷ 29 ∷ []) $
-          -- twin is twins::first_of_many(entries)
+          -- duplicate is restore_duplicates::first_of_many(entries)
           nothing ! $ lends ! 3 (named 1) κ₁ EntryT.the-row entries refl $ move ! (2 ∷ 0 ∷ []) $
-          calls-held ! fm twins-first-of-many.ended (twins-first-of-many.clauses 𝓤 H A mem calling) (known .twins-first-of-many) to-twin (id⊢ 𝓤 _) as-w64 (λ r ws. id⊢ 𝓤 _)
-          (and-then ! (local ! (look ! 24 refl)) (no-more !)) (λ twin is-twin in-twin.
-          land ! (into !) (init ! 18 refl (as-w64 .lawful .typed twin _ in-twin .0)) $
+          calls-held ! fm restore-duplicates-first-of-many.ended (restore-duplicates-first-of-many.clauses 𝓤 H A mem calling) (known .restore-duplicates-first-of-many) to-duplicate
+          (id⊢ 𝓤 _) as-w64 (λ r ws. id⊢ 𝓤 _)
+          (and-then ! (local ! (look ! 24 refl)) (no-more !)) (λ duplicate is-duplicate in-duplicate.
+          land ! (into !) (init ! 18 refl (as-w64 .lawful .typed duplicate _ in-duplicate .0)) $
           -- place is restore::no_place()
           nothing ! $
-          calls-held ! fm no-place.ended (no-place.clauses 𝓤 H A mem calling) (known .no-place) (to-place twin) (id⊢ 𝓤 _) as-w32 (λ r ws. id⊢ 𝓤 _)
+          calls-held ! fm no-place.ended (no-place.clauses 𝓤 H A mem calling) (known .no-place) (to-place duplicate) (id⊢ 𝓤 _) as-w32 (λ r ws. id⊢ 𝓤 _)
           (no-more !) (λ place is-place in-place.
           land ! (into !) (init ! 16 refl (as-w32 .lawful .typed place _ in-place .0)) $
           assigns ! (rep ! 65536 (local ! (look ! 16 refl))) (into !) (init ! 14 refl
@@ -199,7 +203,7 @@ module _ {M : Type 1} (𝓤 : URA M) (H : Heap 𝓤) (A : Atoms 𝓤) (W : Given
           (λ γ-whole.
           -- count is restore::note_all(entries, index)
           nothing ! $ move ! (1 ∷ 0 ∷ []) $ fjoin ! $ lends ! 5 (named 1) κ₁ EntryT.the-row entries refl $ move ! (3 ∷ 2 ∷ 0 ∷ []) $
-          calls-lent ! fm note-all.ended (note-all.clauses 𝓤 H A mem calling) (known .note-all) (to-count ν-whole γ-whole l₇ twin place) (id⊢ 𝓤 _) as-w64 (λ r ws. id⊢ 𝓤 _)
+          calls-lent ! fm note-all.ended (note-all.clauses 𝓤 H A mem calling) (known .note-all) (to-count ν-whole γ-whole l₇ duplicate place) (id⊢ 𝓤 _) as-w64 (λ r ws. id⊢ 𝓤 _)
           (and-then ! (local ! (look ! 24 refl)) (and-then ! (local ! (look ! 9 refl)) (no-more !))) (λ count ws-count is-count in-count.
           move ! (2 ∷ []) $ fsplit ! $ drop ! $ fsplit ! $ fsplit ! $ move ! (1 ∷ []) $ feqL ! (λ fits-index. move ! (1 ∷ []) $ drop ! $
           land ! (into !) (init ! 15 refl (as-w64 .lawful .typed count _ in-count .0)) $
@@ -210,12 +214,12 @@ module _ {M : Type 1} (𝓤 : URA M) (H : Heap 𝓤) (A : Atoms 𝓤) (W : Given
           (init ! 5 refl (tt, (tt, (record { fits = in-count .1 }, tt)))) $
           rewrite ! 5 (λ (m : ℕ). ‵ (fat fullShare (sliceTy (tyRef erased imm (pointee ((UInt w32) .written)))) l₁₂ 0 (sliceVal (l₇, 0) m))) (as-many index count is-count) refl $
           lft-new ! tt (λ ν-first. move ! (1 ∷ []) $ lends-first ! tt (UInt w32) (named 0) 65536 (lit< tt, lit< tt) ν-first index count l₇ long-index (λ γ-first.
-          -- r is restore::across_turns(run, entries, index, aside, twin, state)
-          nothing ! $ plus ! as-Across state in-state $ plus ! as-w64 twin in-twin $ plus ! as-Aside aside in-aside $
+          -- r is restore::across_turns(run, entries, index, omitted, duplicate, state)
+          nothing ! $ plus ! as-Across state in-state $ plus ! as-w64 duplicate in-duplicate $ plus ! as-Omitted omitted in-omitted $
           lends ! 0 (named 0) (ν-first ∷ []) (UInt w32) (first-of index count l₇ γ-first) refl $ lends ! 6 (named 1) κ₁ EntryT.the-row entries refl $
           lends ! 5 (named 0) κ₀ (UInt w8) run refl $ move ! (5 ∷ 4 ∷ 3 ∷ 0 ∷ []) $
-          calls-held ! fm across-turns.ended (across-turns.clauses 𝓤 H A mem calling) (known .across-turns) (to-r ν-first γ-first l₇ index twin place count)
-          (factI 𝓤 _ (emp 𝓤) (is-twin, asks)) as-Across (λ r ws. id⊢ 𝓤 _)
+          calls-held ! fm across-turns.ended (across-turns.clauses 𝓤 H A mem calling) (known .across-turns) (to-r ν-first γ-first l₇ index duplicate place count)
+          (factI 𝓤 _ (emp 𝓤) (is-duplicate, asks)) as-Across (λ r ws. id⊢ 𝓤 _)
           (and-then ! (local ! (look ! 26 refl)) (and-then ! (local ! (look ! 24 refl))
           (and-then ! (local ! (look ! 5 refl)) (and-then ! (local ! (look ! 22 refl)) (and-then ! (local ! (look ! 18 refl)) (and-then ! (local ! (look ! 20 refl)) (no-more !)))))))
           (λ r is-r in-r.
@@ -232,8 +236,8 @@ module _ {M : Type 1} (𝓤 : URA M) (H : Heap 𝓤) (A : Atoms 𝓤) (W : Given
   module _ (𝓣 : Tables 𝓤 H) (known : Known (𝓣 .C)) where
     walks : Walks 𝓤 H A this.ended stayed (WpFn 𝓤 H (𝓣 .C) (𝓣 .Λ) code.function) clauses
     walks = walked 𝓤 H A this.ended stayed clauses (WpFn 𝓤 H (𝓣 .C) (𝓣 .Λ) code.function)
-        (λ κs. (slice-vals, (slice-vals, (vals as-Aside, (vals as-Across, tt)))))
-        (λ κs. (shr-slice-tells (named 0) (κs .0) (UInt w8), (shr-slice-tells (named 1) (κs .1 .0) EntryT.the-row, (as-Aside .tells, (as-Across .tells, tt)))))
+        (λ κs. (slice-vals, (slice-vals, (vals as-Omitted, (vals as-Across, tt)))))
+        (λ κs. (shr-slice-tells (named 0) (κs .0) (UInt w8), (shr-slice-tells (named 1) (κs .1 .0) EntryT.the-row, (as-Omitted .tells, (as-Across .tells, tt)))))
         (λ κs qs bounds a g are. needs 𝓤 _ _ (λ asks. walk (κs .0) (κs .1 .0) (qs .0) (qs .1 .0) (a .0) (a .1 .0) (a .1 .1 .0) (a .1 .1 .1 .0) (are .0) (are .1 .0) (are .1 .1 .0)
         (are .1 .1 .1 .0) asks 𝓣 (fmOf 𝓤 H (W .laws) 𝓣) known))
 
@@ -249,8 +253,9 @@ many-turns-spec 𝓤 H 𝓜 𝓖 𝓡 =
     entered 𝓤 H (tripleOf 𝓤 H (𝓖 .A) this.signature (this.spec 𝓤 H (𝓖 .A) (𝓜 .mem) (𝓡 .run)))
     (tables 𝓤 H 𝓜 𝓡 code.env .C) (tables 𝓤 H 𝓜 𝓡 code.env .Λ) this-def.name code.function (code.unfolded 𝓤 H 𝓜 𝓡)
     (meets 𝓤 H (𝓖 .A) W (𝓜 .mem) (𝓡 .run) (tablesOf 𝓤 H 𝓜 (tables 𝓤 H 𝓜 𝓡 code.env)) (record {
-      twins-first-of-many = cited 𝓤 H (Its-twins-first-of-many 𝓤 H (𝓖 .A) W (𝓜 .mem) (𝓡 .run)) 𝓜 𝓡 code.env
-          twins-first-of-many-def.name twins-first-of-many-def.routine code.calls-twins·first-of-many (twins-first-of-many-thm.met 𝓤 H 𝓜 𝓖 𝓡);
+      restore-duplicates-first-of-many = cited 𝓤 H (Its-restore-duplicates-first-of-many 𝓤 H (𝓖 .A) W (𝓜 .mem) (𝓡 .run)) 𝓜 𝓡 code.env
+          restore-duplicates-first-of-many-def.name restore-duplicates-first-of-many-def.routine code.calls-restore-duplicates·first-of-many
+          (restore-duplicates-first-of-many-thm.met 𝓤 H 𝓜 𝓖 𝓡);
       no-place = cited 𝓤 H (Its-no-place 𝓤 H (𝓖 .A) W (𝓜 .mem) (𝓡 .run)) 𝓜 𝓡 code.env
           no-place-def.name no-place-def.routine code.calls-restore·no-place (no-place-thm.met 𝓤 H 𝓜 𝓖 𝓡);
       note-all = cited 𝓤 H (Its-note-all 𝓤 H (𝓖 .A) W (𝓜 .mem) (𝓡 .run)) 𝓜 𝓡 code.env

@@ -50,12 +50,12 @@ use Rattle.walks.proofs.Again.{lent-at, at-list, lends-again, comes-back}
 use base.Fml.{fat}
 use types.Kit.{rewrite}
 use Prim.Native.Nat.{zero-le}
-use Rattle.restore.proofs.Index.{all-noted}
+use Rattle.restore.proofs.Index.{all-facts}
 use Rattle.store.specs.declared.Entry.{Entry}
 use Rattle.store.proofs.Entry as EntryT
-use Rattle.entries.proofs.entry_count as entries-entry-count
-use Rattle.entries.proofs.entry_count.Symbol as entries-entry-count-def
-use Rattle.entries.proofs.entry_count.Met as entries-entry-count-thm
+use Rattle.restore_entries.proofs.entry_count as restore-entries-entry-count
+use Rattle.restore_entries.proofs.entry_count.Symbol as restore-entries-entry-count-def
+use Rattle.restore_entries.proofs.entry_count.Met as restore-entries-entry-count-thm
 use Rattle.restore.proofs.note_at as note-at
 use Rattle.restore.proofs.note_at.Symbol as note-at-def
 use Rattle.restore.proofs.note_at.Met as note-at-thm
@@ -74,14 +74,14 @@ module _ {M : Type 1} (𝓤 : URA M) (H : Heap 𝓤) (A : Atoms 𝓤) (W : Given
   as-w64 = number W w64
 
   -- the contracts that the proof cites, and its own
-  abbrev Its-entries-entry-count : Contract 𝓤
-  Its-entries-entry-count = tripleOf 𝓤 H A entries-entry-count.signature (entries-entry-count.spec 𝓤 H A mem calling)
+  abbrev Its-restore-entries-entry-count : Contract 𝓤
+  Its-restore-entries-entry-count = tripleOf 𝓤 H A restore-entries-entry-count.signature (restore-entries-entry-count.spec 𝓤 H A mem calling)
 
   abbrev Its-note-at : Contract 𝓤
   Its-note-at = tripleOf 𝓤 H A note-at.signature (note-at.spec 𝓤 H A mem calling)
 
   pub record Known (C : Calls 𝓤 H) : Type 1 where
-    pub entries-entry-count : Triple 𝓤 (C entries-entry-count-def.name) Its-entries-entry-count
+    pub restore-entries-entry-count : Triple 𝓤 (C restore-entries-entry-count-def.name) Its-restore-entries-entry-count
     pub note-at : Triple 𝓤 (C note-at-def.name) Its-note-at
 
   abbrev clauses : Clauses 𝓤 this.ended
@@ -103,7 +103,7 @@ module _ {M : Type 1} (𝓤 : URA M) (H : Heap 𝓤) (A : Atoms 𝓤) (W : Given
     in-n : Lies as-w64 n
     in-n = (refl, in-entries .0 .1 .0)
 
-    abbrev to-n : Its-entries-entry-count .Ghost
+    abbrev to-n : Its-restore-entries-entry-count .Ghost
     to-n = (((κ₀, tt), (q₀, tt), tt, (entries, tt), (slice-vals entries, tt)), tt)
 
     -- the variables before a turn, and what is known of them
@@ -192,7 +192,7 @@ module _ {M : Type 1} (𝓤 : URA M) (H : Heap 𝓤) (A : Atoms 𝓤) (W : Given
               in-count = in-next;
               long-index =
                   fits-index ∙ (t .long-index);
-              so = all-noted (ws-next .1 .0) next told;
+              so = all-facts (ws-next .1 .0) next told;
             }) (add-one-dec n (t .i) (ltb→lt (t .i) n less)))))))
             (λ over. jumps ! $ exec ! C Λ En steps.t-5 (atRet En (This .post bound)) $
             assigns ! (of-opd ! (local ! (look ! 10 refl))) (into !) (init ! 20 refl (as-w64 .lawful .typed (t .count) _ (t .in-count) .0)) $ returns ! (look ! 20 refl) $
@@ -217,9 +217,10 @@ module _ {M : Type 1} (𝓤 : URA M) (H : Heap 𝓤) (A : Atoms 𝓤) (W : Given
           pass1 ! (init ! 14 refl (shr-slice-lawful 𝓤 H A W (named 0) κ₀ EntryT.the-row .typed entries (slice-vals entries) in-entries .0)) $
           pass1 ! (init ! 12 refl (mut-slice-lawful 𝓤 H A W (named 1) κ₁ (UInt w32) .typed index (slice-vals index) in-index .0)) $
           pass0 ! $ move ! (18 ∷ 19 ∷ 20 ∷ 21 ∷ []) $
-          -- n is entries::entry_count(entries)
+          -- n is restore_entries::entry_count(entries)
           nothing ! $ lends ! 2 (named 0) κ₀ EntryT.the-row entries refl $ move ! (1 ∷ 0 ∷ []) $
-          calls-held ! fm entries-entry-count.ended (entries-entry-count.clauses 𝓤 H A mem calling) (known .entries-entry-count) to-n (id⊢ 𝓤 _) as-w64 (λ r ws. id⊢ 𝓤 _)
+          calls-held ! fm restore-entries-entry-count.ended (restore-entries-entry-count.clauses 𝓤 H A mem calling) (known .restore-entries-entry-count) to-n (id⊢ 𝓤 _) as-w64
+          (λ r ws. id⊢ 𝓤 _)
           (and-then ! (local ! (look ! 18 refl)) (no-more !)) (λ counted is-counted in-counted.
           land ! (into !) (init ! 14 refl (as-w64 .lawful .typed counted _ in-counted .0)) $
           rewrite ! 14 (λ (m : ℕ). ‵ (fat fullShare (tyInt w64) l₃ 0 (as-w64 .val m))) is-counted refl $
@@ -246,8 +247,8 @@ note-all-spec 𝓤 H 𝓜 𝓖 𝓡 =
     entered 𝓤 H (tripleOf 𝓤 H (𝓖 .A) this.signature (this.spec 𝓤 H (𝓖 .A) (𝓜 .mem) (𝓡 .run)))
     (tables 𝓤 H 𝓜 𝓡 code.env .C) (tables 𝓤 H 𝓜 𝓡 code.env .Λ) this-def.name code.function (code.unfolded 𝓤 H 𝓜 𝓡)
     (meets 𝓤 H (𝓖 .A) W (𝓜 .mem) (𝓡 .run) (tablesOf 𝓤 H 𝓜 (tables 𝓤 H 𝓜 𝓡 code.env)) (record {
-      entries-entry-count = cited 𝓤 H (Its-entries-entry-count 𝓤 H (𝓖 .A) W (𝓜 .mem) (𝓡 .run)) 𝓜 𝓡 code.env
-          entries-entry-count-def.name entries-entry-count-def.routine code.calls-entries·entry-count (entries-entry-count-thm.met 𝓤 H 𝓜 𝓖 𝓡);
+      restore-entries-entry-count = cited 𝓤 H (Its-restore-entries-entry-count 𝓤 H (𝓖 .A) W (𝓜 .mem) (𝓡 .run)) 𝓜 𝓡 code.env
+          restore-entries-entry-count-def.name restore-entries-entry-count-def.routine code.calls-restore-entries·entry-count (restore-entries-entry-count-thm.met 𝓤 H 𝓜 𝓖 𝓡);
       note-at = cited 𝓤 H (Its-note-at 𝓤 H (𝓖 .A) W (𝓜 .mem) (𝓡 .run)) 𝓜 𝓡 code.env
           note-at-def.name note-at-def.routine code.calls-restore·note-at (note-at-thm.met 𝓤 H 𝓜 𝓖 𝓡);
     }))

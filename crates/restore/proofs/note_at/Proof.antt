@@ -39,9 +39,9 @@ use types.Part.{agg, whole, sub, look-in}
 use Rattle.store.specs.declared.Entry.{Entry}
 use Rattle.store.proofs.Entry as EntryT
 use Rattle.store.proofs.Entry.Laws as EntryL
-use Rattle.entries.proofs.entry_at as entries-entry-at
-use Rattle.entries.proofs.entry_at.Symbol as entries-entry-at-def
-use Rattle.entries.proofs.entry_at.Met as entries-entry-at-thm
+use Rattle.restore_entries.proofs.entry_at as restore-entries-entry-at
+use Rattle.restore_entries.proofs.entry_at.Symbol as restore-entries-entry-at-def
+use Rattle.restore_entries.proofs.entry_at.Met as restore-entries-entry-at-thm
 use Rattle.restore.proofs.note as note
 use Rattle.restore.proofs.note.Symbol as note-def
 use Rattle.restore.proofs.note.Met as note-thm
@@ -62,14 +62,14 @@ module _ {M : Type 1} (𝓤 : URA M) (H : Heap 𝓤) (A : Atoms 𝓤) (W : Given
   as-Entry = of-struct W EntryT.the-type EntryL.the-laws EntryL.the-plain
 
   -- the contracts that the proof cites, and its own
-  abbrev Its-entries-entry-at : Contract 𝓤
-  Its-entries-entry-at = tripleOf 𝓤 H A entries-entry-at.signature (entries-entry-at.spec 𝓤 H A mem calling)
+  abbrev Its-restore-entries-entry-at : Contract 𝓤
+  Its-restore-entries-entry-at = tripleOf 𝓤 H A restore-entries-entry-at.signature (restore-entries-entry-at.spec 𝓤 H A mem calling)
 
   abbrev Its-note : Contract 𝓤
   Its-note = tripleOf 𝓤 H A note.signature (note.spec 𝓤 H A mem calling)
 
   pub record Known (C : Calls 𝓤 H) : Type 1 where
-    pub entries-entry-at : Triple 𝓤 (C entries-entry-at-def.name) Its-entries-entry-at
+    pub restore-entries-entry-at : Triple 𝓤 (C restore-entries-entry-at-def.name) Its-restore-entries-entry-at
     pub note : Triple 𝓤 (C note-def.name) Its-note
 
   abbrev clauses : Clauses 𝓤 this.ended
@@ -86,7 +86,7 @@ module _ {M : Type 1} (𝓤 : URA M) (H : Heap 𝓤) (A : Atoms 𝓤) (W : Given
     bound = (((κ₀, (κ₁, tt)), (q₀, (q₁, tt)), tt, (entries, (index, (i, tt))), (slice-vals entries, (slice-vals index, (vals as-w64 i, tt)))), tt)
 
     -- what each call is handed
-    abbrev to-e : Its-entries-entry-at .Ghost
+    abbrev to-e : Its-restore-entries-entry-at .Ghost
     to-e = (((κ₀, tt), (q₀, tt), tt, (entries, (i, tt)), (slice-vals entries, (vals as-w64 i, tt))), tt)
 
     abbrev to-r : (e : Entry) → Its-note .Ghost
@@ -109,9 +109,9 @@ module _ {M : Type 1} (𝓤 : URA M) (H : Heap 𝓤) (A : Atoms 𝓤) (W : Given
           pass1 ! (init ! 8 refl (mut-slice-lawful 𝓤 H A W (named 1) κ₁ (UInt w32) .typed index (slice-vals index) in-index .0)) $
           pass1 ! (init ! 6 refl (as-w64 .lawful .typed i _ in-i .0)) $
           pass0 ! $ move ! (14 ∷ 15 ∷ 16 ∷ 17 ∷ []) $
-          -- e is entries::entry_at(entries, i)
+          -- e is restore_entries::entry_at(entries, i)
           nothing ! $ plus ! as-w64 i in-i $ lends ! 2 (named 0) κ₀ EntryT.the-row entries refl $ move ! (1 ∷ 0 ∷ []) $
-          calls-held ! fm entries-entry-at.ended (entries-entry-at.clauses 𝓤 H A mem calling) (known .entries-entry-at) to-e (id⊢ 𝓤 _) as-Entry (λ r ws. id⊢ 𝓤 _)
+          calls-held ! fm restore-entries-entry-at.ended (restore-entries-entry-at.clauses 𝓤 H A mem calling) (known .restore-entries-entry-at) to-e (id⊢ 𝓤 _) as-Entry (λ r ws. id⊢ 𝓤 _)
           (and-then ! (local ! (look ! 14 refl)) (and-then ! (local ! (look ! 10 refl)) (no-more !))) (λ e is-e in-e.
           land ! (into !) (init ! 8 refl (as-Entry .lawful .typed e _ in-e .0)) $
           assigns ! (addr ! (from ! (fld ! refl (hop ! (look-in ! 12 (sub ! 0 refl (whole !))) (stop !))))) (into !) (init ! 6 refl (tt, tt)) $
@@ -151,8 +151,8 @@ note-at-spec 𝓤 H 𝓜 𝓖 𝓡 =
     entered 𝓤 H (tripleOf 𝓤 H (𝓖 .A) this.signature (this.spec 𝓤 H (𝓖 .A) (𝓜 .mem) (𝓡 .run)))
     (tables 𝓤 H 𝓜 𝓡 code.env .C) (tables 𝓤 H 𝓜 𝓡 code.env .Λ) this-def.name code.function (code.unfolded 𝓤 H 𝓜 𝓡)
     (meets 𝓤 H (𝓖 .A) W (𝓜 .mem) (𝓡 .run) (tablesOf 𝓤 H 𝓜 (tables 𝓤 H 𝓜 𝓡 code.env)) (record {
-      entries-entry-at = cited 𝓤 H (Its-entries-entry-at 𝓤 H (𝓖 .A) W (𝓜 .mem) (𝓡 .run)) 𝓜 𝓡 code.env
-          entries-entry-at-def.name entries-entry-at-def.routine code.calls-entries·entry-at (entries-entry-at-thm.met 𝓤 H 𝓜 𝓖 𝓡);
+      restore-entries-entry-at = cited 𝓤 H (Its-restore-entries-entry-at 𝓤 H (𝓖 .A) W (𝓜 .mem) (𝓡 .run)) 𝓜 𝓡 code.env
+          restore-entries-entry-at-def.name restore-entries-entry-at-def.routine code.calls-restore-entries·entry-at (restore-entries-entry-at-thm.met 𝓤 H 𝓜 𝓖 𝓡);
       note = cited 𝓤 H (Its-note 𝓤 H (𝓖 .A) W (𝓜 .mem) (𝓡 .run)) 𝓜 𝓡 code.env
           note-def.name note-def.routine code.calls-restore·note (note-thm.met 𝓤 H 𝓜 𝓖 𝓡);
     }))

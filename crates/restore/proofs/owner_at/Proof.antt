@@ -41,30 +41,30 @@ use Rattle.store.proofs.Entry.Laws as EntryL
 use Rattle.store.specs.declared.Wanted.{Wanted}
 use Rattle.store.proofs.Wanted as WantedT
 use Rattle.store.proofs.Wanted.Laws as WantedL
-use Rattle.across.proofs.contact_of as across-contact-of
-use Rattle.across.proofs.contact_of.Symbol as across-contact-of-def
-use Rattle.across.proofs.contact_of.Met as across-contact-of-thm
+use Rattle.restore_across.proofs.contact_of as restore-across-contact-of
+use Rattle.restore_across.proofs.contact_of.Symbol as restore-across-contact-of-def
+use Rattle.restore_across.proofs.contact_of.Met as restore-across-contact-of-thm
 use Rattle.restore.proofs.hint_of as hint-of
 use Rattle.restore.proofs.hint_of.Symbol as hint-of-def
 use Rattle.restore.proofs.hint_of.Met as hint-of-thm
-use Rattle.entries.proofs.entry_at as entries-entry-at
-use Rattle.entries.proofs.entry_at.Symbol as entries-entry-at-def
-use Rattle.entries.proofs.entry_at.Met as entries-entry-at-thm
-use Rattle.across.proofs.tried as across-tried
-use Rattle.across.proofs.tried.Symbol as across-tried-def
-use Rattle.across.proofs.tried.Met as across-tried-thm
-use Rattle.across.proofs.near_limit as across-near-limit
-use Rattle.across.proofs.near_limit.Symbol as across-near-limit-def
-use Rattle.across.proofs.near_limit.Met as across-near-limit-thm
-use Rattle.entries.proofs.find as entries-find
-use Rattle.entries.proofs.find.Symbol as entries-find-def
-use Rattle.entries.proofs.find.Met as entries-find-thm
-use Rattle.across.proofs.far_limit as across-far-limit
-use Rattle.across.proofs.far_limit.Symbol as across-far-limit-def
-use Rattle.across.proofs.far_limit.Met as across-far-limit-thm
-use Rattle.across.proofs.chosen as across-chosen
-use Rattle.across.proofs.chosen.Symbol as across-chosen-def
-use Rattle.across.proofs.chosen.Met as across-chosen-thm
+use Rattle.restore_entries.proofs.entry_at as restore-entries-entry-at
+use Rattle.restore_entries.proofs.entry_at.Symbol as restore-entries-entry-at-def
+use Rattle.restore_entries.proofs.entry_at.Met as restore-entries-entry-at-thm
+use Rattle.restore_across.proofs.tried as restore-across-tried
+use Rattle.restore_across.proofs.tried.Symbol as restore-across-tried-def
+use Rattle.restore_across.proofs.tried.Met as restore-across-tried-thm
+use Rattle.restore_across.proofs.near_limit as restore-across-near-limit
+use Rattle.restore_across.proofs.near_limit.Symbol as restore-across-near-limit-def
+use Rattle.restore_across.proofs.near_limit.Met as restore-across-near-limit-thm
+use Rattle.restore_entries.proofs.find as restore-entries-find
+use Rattle.restore_entries.proofs.find.Symbol as restore-entries-find-def
+use Rattle.restore_entries.proofs.find.Met as restore-entries-find-thm
+use Rattle.restore_across.proofs.far_limit as restore-across-far-limit
+use Rattle.restore_across.proofs.far_limit.Symbol as restore-across-far-limit-def
+use Rattle.restore_across.proofs.far_limit.Met as restore-across-far-limit-thm
+use Rattle.restore_across.proofs.chosen as restore-across-chosen
+use Rattle.restore_across.proofs.chosen.Symbol as restore-across-chosen-def
+use Rattle.restore_across.proofs.chosen.Met as restore-across-chosen-thm
 use Rattle.restore.proofs.owner_at as this
 use Rattle.restore.proofs.owner_at.Key as this-def
 use Rattle.restore.proofs.owner_at.Statement as stated
@@ -85,39 +85,39 @@ module _ {M : Type 1} (𝓤 : URA M) (H : Heap 𝓤) (A : Atoms 𝓤) (W : Given
   as-Wanted = of-struct W WantedT.the-type WantedL.the-laws WantedL.the-plain
 
   -- the contracts that the proof cites, and its own
-  abbrev Its-across-contact-of : Contract 𝓤
-  Its-across-contact-of = tripleOf 𝓤 H A across-contact-of.signature (across-contact-of.spec 𝓤 H A mem calling)
+  abbrev Its-restore-across-contact-of : Contract 𝓤
+  Its-restore-across-contact-of = tripleOf 𝓤 H A restore-across-contact-of.signature (restore-across-contact-of.spec 𝓤 H A mem calling)
 
   abbrev Its-hint-of : Contract 𝓤
   Its-hint-of = tripleOf 𝓤 H A hint-of.signature (hint-of.spec 𝓤 H A mem calling)
 
-  abbrev Its-entries-entry-at : Contract 𝓤
-  Its-entries-entry-at = tripleOf 𝓤 H A entries-entry-at.signature (entries-entry-at.spec 𝓤 H A mem calling)
+  abbrev Its-restore-entries-entry-at : Contract 𝓤
+  Its-restore-entries-entry-at = tripleOf 𝓤 H A restore-entries-entry-at.signature (restore-entries-entry-at.spec 𝓤 H A mem calling)
 
-  abbrev Its-across-tried : Contract 𝓤
-  Its-across-tried = tripleOf 𝓤 H A across-tried.signature (across-tried.spec 𝓤 H A mem calling)
+  abbrev Its-restore-across-tried : Contract 𝓤
+  Its-restore-across-tried = tripleOf 𝓤 H A restore-across-tried.signature (restore-across-tried.spec 𝓤 H A mem calling)
 
-  abbrev Its-across-near-limit : Contract 𝓤
-  Its-across-near-limit = tripleOf 𝓤 H A across-near-limit.signature (across-near-limit.spec 𝓤 H A mem calling)
+  abbrev Its-restore-across-near-limit : Contract 𝓤
+  Its-restore-across-near-limit = tripleOf 𝓤 H A restore-across-near-limit.signature (restore-across-near-limit.spec 𝓤 H A mem calling)
 
-  abbrev Its-entries-find : Contract 𝓤
-  Its-entries-find = tripleOf 𝓤 H A entries-find.signature (entries-find.spec 𝓤 H A mem calling)
+  abbrev Its-restore-entries-find : Contract 𝓤
+  Its-restore-entries-find = tripleOf 𝓤 H A restore-entries-find.signature (restore-entries-find.spec 𝓤 H A mem calling)
 
-  abbrev Its-across-far-limit : Contract 𝓤
-  Its-across-far-limit = tripleOf 𝓤 H A across-far-limit.signature (across-far-limit.spec 𝓤 H A mem calling)
+  abbrev Its-restore-across-far-limit : Contract 𝓤
+  Its-restore-across-far-limit = tripleOf 𝓤 H A restore-across-far-limit.signature (restore-across-far-limit.spec 𝓤 H A mem calling)
 
-  abbrev Its-across-chosen : Contract 𝓤
-  Its-across-chosen = tripleOf 𝓤 H A across-chosen.signature (across-chosen.spec 𝓤 H A mem calling)
+  abbrev Its-restore-across-chosen : Contract 𝓤
+  Its-restore-across-chosen = tripleOf 𝓤 H A restore-across-chosen.signature (restore-across-chosen.spec 𝓤 H A mem calling)
 
   pub record Known (C : Calls 𝓤 H) : Type 1 where
-    pub across-contact-of : Triple 𝓤 (C across-contact-of-def.name) Its-across-contact-of
+    pub restore-across-contact-of : Triple 𝓤 (C restore-across-contact-of-def.name) Its-restore-across-contact-of
     pub hint-of : Triple 𝓤 (C hint-of-def.name) Its-hint-of
-    pub entries-entry-at : Triple 𝓤 (C entries-entry-at-def.name) Its-entries-entry-at
-    pub across-tried : Triple 𝓤 (C across-tried-def.name) Its-across-tried
-    pub across-near-limit : Triple 𝓤 (C across-near-limit-def.name) Its-across-near-limit
-    pub entries-find : Triple 𝓤 (C entries-find-def.name) Its-entries-find
-    pub across-far-limit : Triple 𝓤 (C across-far-limit-def.name) Its-across-far-limit
-    pub across-chosen : Triple 𝓤 (C across-chosen-def.name) Its-across-chosen
+    pub restore-entries-entry-at : Triple 𝓤 (C restore-entries-entry-at-def.name) Its-restore-entries-entry-at
+    pub restore-across-tried : Triple 𝓤 (C restore-across-tried-def.name) Its-restore-across-tried
+    pub restore-across-near-limit : Triple 𝓤 (C restore-across-near-limit-def.name) Its-restore-across-near-limit
+    pub restore-entries-find : Triple 𝓤 (C restore-entries-find-def.name) Its-restore-entries-find
+    pub restore-across-far-limit : Triple 𝓤 (C restore-across-far-limit-def.name) Its-restore-across-far-limit
+    pub restore-across-chosen : Triple 𝓤 (C restore-across-chosen-def.name) Its-restore-across-chosen
 
   abbrev clauses : Clauses 𝓤 this.ended
   clauses = this.clauses 𝓤 H A mem calling
@@ -125,53 +125,53 @@ module _ {M : Type 1} (𝓤 : URA M) (H : Heap 𝓤) (A : Atoms 𝓤) (W : Given
   abbrev This : Contract 𝓤
   This = walkOf 𝓤 H A this.ended stayed clauses
 
-  module _ (κ₀ κ₁ : Lft) (q₀ q₁ : Share) (entries : RefT (List Entry)) (index : RefT (List ℕ)) (e : Entry) (upto : ℕ) (spot : ℕ)
+  module _ (κ₀ κ₁ : Lft) (q₀ q₁ : Share) (entries : RefT (List Entry)) (index : RefT (List ℕ)) (e : Entry) (upto : ℕ) (latest : ℕ)
       (in-entries : Is (ShrSlice (named 0) κ₀ EntryT.the-row) entries (slice-vals entries))
       (in-index : Is (ShrSlice (named 1) κ₁ (UInt w32)) index (slice-vals index))
       (in-e : Lies as-Entry e)
       (in-upto : Lies as-w64 upto)
-      (in-spot : Lies as-w64 spot) where
+      (in-latest : Lies as-w64 latest) where
     abbrev bound : This .Ghost
     bound = (
       (
         (κ₀, (κ₁, tt)),
         (q₀, (q₁, tt)),
         tt,
-        (entries, (index, (e, (upto, (spot, tt))))),
-        (slice-vals entries, (slice-vals index, (vals as-Entry e, (vals as-w64 upto, (vals as-w64 spot, tt))))),
+        (entries, (index, (e, (upto, (latest, tt))))),
+        (slice-vals entries, (slice-vals index, (vals as-Entry e, (vals as-w64 upto, (vals as-w64 latest, tt))))),
       ),
       tt,
     )
 
     -- what each call is handed
-    abbrev to-wanted : Its-across-contact-of .Ghost
+    abbrev to-wanted : Its-restore-across-contact-of .Ghost
     to-wanted = ((tt, tt, tt, (e, tt), (vals as-Entry e, tt)), tt)
 
     abbrev to-hint : (wanted : Wanted) → Its-hint-of .Ghost
     to-hint wanted = (((κ₁, tt), (q₁, tt), tt, (index, (e, (upto, tt))), (slice-vals index, (vals as-Entry e, (vals as-w64 upto, tt)))), tt)
 
-    abbrev to-a : (wanted : Wanted) → (hint : ℕ) → Its-entries-entry-at .Ghost
-    to-a wanted hint = (((κ₀, tt), (q₀, tt), tt, (entries, (spot, tt)), (slice-vals entries, (vals as-w64 spot, tt))), tt)
+    abbrev to-a : (wanted : Wanted) → (hint : ℕ) → Its-restore-entries-entry-at .Ghost
+    to-a wanted hint = (((κ₀, tt), (q₀, tt), tt, (entries, (latest, tt)), (slice-vals entries, (vals as-w64 latest, tt))), tt)
 
-    abbrev to-b : (wanted : Wanted) → (hint : ℕ) → (a : Entry) → Its-entries-entry-at .Ghost
+    abbrev to-b : (wanted : Wanted) → (hint : ℕ) → (a : Entry) → Its-restore-entries-entry-at .Ghost
     to-b wanted hint a = (((κ₀, tt), (q₀, tt), tt, (entries, (hint, tt)), (slice-vals entries, (vals as-w64 hint, tt))), tt)
 
-    abbrev to-p : (wanted : Wanted) → (hint : ℕ) → (a : Entry) → (b : Entry) → Its-across-tried .Ghost
+    abbrev to-p : (wanted : Wanted) → (hint : ℕ) → (a : Entry) → (b : Entry) → Its-restore-across-tried .Ghost
     to-p wanted hint a b = (
       (
         tt,
         tt,
         tt,
-        (e, (a, (spot, (b, (hint, (upto, tt)))))),
-        (vals as-Entry e, (vals as-Entry a, (vals as-w64 spot, (vals as-Entry b, (vals as-w64 hint, (vals as-w64 upto, tt)))))),
+        (e, (a, (latest, (b, (hint, (upto, tt)))))),
+        (vals as-Entry e, (vals as-Entry a, (vals as-w64 latest, (vals as-Entry b, (vals as-w64 hint, (vals as-w64 upto, tt)))))),
       ),
       tt,
     )
 
-    abbrev to-near : (wanted : Wanted) → (hint : ℕ) → (a : Entry) → (b : Entry) → (p : ℕ) → Its-across-near-limit .Ghost
-    to-near wanted hint a b p = ((tt, tt, tt, (p, (spot, (upto, tt))), (vals as-w64 p, (vals as-w64 spot, (vals as-w64 upto, tt)))), tt)
+    abbrev to-near : (wanted : Wanted) → (hint : ℕ) → (a : Entry) → (b : Entry) → (p : ℕ) → Its-restore-across-near-limit .Ghost
+    to-near wanted hint a b p = ((tt, tt, tt, (p, (latest, (upto, tt))), (vals as-w64 p, (vals as-w64 latest, (vals as-w64 upto, tt)))), tt)
 
-    abbrev to-q : (wanted : Wanted) → (hint : ℕ) → (a : Entry) → (b : Entry) → (p : ℕ) → (near : ℕ) → Its-entries-find .Ghost
+    abbrev to-q : (wanted : Wanted) → (hint : ℕ) → (a : Entry) → (b : Entry) → (p : ℕ) → (near : ℕ) → Its-restore-entries-find .Ghost
     to-q wanted hint a b p near = (
       (
         (κ₀, tt),
@@ -183,10 +183,10 @@ module _ {M : Type 1} (𝓤 : URA M) (H : Heap 𝓤) (A : Atoms 𝓤) (W : Given
       tt,
     )
 
-    abbrev to-far : (wanted : Wanted) → (hint : ℕ) → (a : Entry) → (b : Entry) → (p : ℕ) → (near : ℕ) → (q : ℕ) → Its-across-far-limit .Ghost
+    abbrev to-far : (wanted : Wanted) → (hint : ℕ) → (a : Entry) → (b : Entry) → (p : ℕ) → (near : ℕ) → (q : ℕ) → Its-restore-across-far-limit .Ghost
     to-far wanted hint a b p near q = ((tt, tt, tt, (p, (q, (near, (upto, tt)))), (vals as-w64 p, (vals as-w64 q, (vals as-w64 near, (vals as-w64 upto, tt))))), tt)
 
-    abbrev to-o : (wanted : Wanted) → (hint : ℕ) → (a : Entry) → (b : Entry) → (p : ℕ) → (near : ℕ) → (q : ℕ) → (far : ℕ) → Its-entries-find .Ghost
+    abbrev to-o : (wanted : Wanted) → (hint : ℕ) → (a : Entry) → (b : Entry) → (p : ℕ) → (near : ℕ) → (q : ℕ) → (far : ℕ) → Its-restore-entries-find .Ghost
     to-o wanted hint a b p near q far = (
       (
         (κ₀, tt),
@@ -198,7 +198,7 @@ module _ {M : Type 1} (𝓤 : URA M) (H : Heap 𝓤) (A : Atoms 𝓤) (W : Given
       tt,
     )
 
-    abbrev to-r : (wanted : Wanted) → (hint : ℕ) → (a : Entry) → (b : Entry) → (p : ℕ) → (near : ℕ) → (q : ℕ) → (far : ℕ) → (o : ℕ) → Its-across-chosen .Ghost
+    abbrev to-r : (wanted : Wanted) → (hint : ℕ) → (a : Entry) → (b : Entry) → (p : ℕ) → (near : ℕ) → (q : ℕ) → (far : ℕ) → (o : ℕ) → Its-restore-across-chosen .Ghost
     to-r wanted hint a b p near q far o = ((tt, tt, tt, (p, (q, (o, (far, (upto, tt))))), (vals as-w64 p, (vals as-w64 q, (vals as-w64 o, (vals as-w64 far, (vals as-w64 upto, tt)))))), tt)
 
     module _ (𝓣 : Tables 𝓤 H) (fm : FmC 𝓤 H (W .laws) (𝓣 .C)) (known : Known (𝓣 .C)) where
@@ -220,11 +220,12 @@ module _ {M : Type 1} (𝓤 : URA M) (H : Heap 𝓤) (A : Atoms 𝓤) (W : Given
           pass1 ! (init ! 24 refl (shr-slice-lawful 𝓤 H A W (named 1) κ₁ (UInt w32) .typed index (slice-vals index) in-index .0)) $
           pass1 ! (init ! 22 refl (as-Entry .lawful .typed e _ in-e .0)) $
           pass1 ! (init ! 20 refl (as-w64 .lawful .typed upto _ in-upto .0)) $
-          pass1 ! (init ! 18 refl (as-w64 .lawful .typed spot _ in-spot .0)) $
+          pass1 ! (init ! 18 refl (as-w64 .lawful .typed latest _ in-latest .0)) $
           pass0 ! $ move ! (30 ∷ 31 ∷ 32 ∷ 33 ∷ []) $
-          -- wanted is across::contact_of(e)
+          -- wanted is restore_across::contact_of(e)
           nothing ! $ plus ! as-Entry e in-e $
-          calls-held ! fm across-contact-of.ended (across-contact-of.clauses 𝓤 H A mem calling) (known .across-contact-of) to-wanted (id⊢ 𝓤 _) as-Wanted (λ r ws. id⊢ 𝓤 _)
+          calls-held ! fm restore-across-contact-of.ended (restore-across-contact-of.clauses 𝓤 H A mem calling) (known .restore-across-contact-of) to-wanted (id⊢ 𝓤 _) as-Wanted
+          (λ r ws. id⊢ 𝓤 _)
           (and-then ! (local ! (look ! 27 refl)) (no-more !)) (λ wanted is-wanted in-wanted.
           land ! (into !) (init ! 20 refl (as-Wanted .lawful .typed wanted _ in-wanted .0)) $
           -- hint is restore::hint_of(index, e, upto)
@@ -232,49 +233,56 @@ module _ {M : Type 1} (𝓤 : URA M) (H : Heap 𝓤) (A : Atoms 𝓤) (W : Given
           calls-held ! fm hint-of.ended (hint-of.clauses 𝓤 H A mem calling) (known .hint-of) (to-hint wanted) (id⊢ 𝓤 _) as-w64 (λ r ws. id⊢ 𝓤 _)
           (and-then ! (local ! (look ! 28 refl)) (and-then ! (local ! (look ! 26 refl)) (and-then ! (local ! (look ! 24 refl)) (no-more !)))) (λ hint is-hint in-hint.
           land ! (into !) (init ! 18 refl (as-w64 .lawful .typed hint _ in-hint .0)) $
-          -- a is entries::entry_at(entries, spot)
-          nothing ! $ plus ! as-w64 spot in-spot $ lends ! 2 (named 0) κ₀ EntryT.the-row entries refl $ move ! (2 ∷ 0 ∷ []) $
-          calls-held ! fm entries-entry-at.ended (entries-entry-at.clauses 𝓤 H A mem calling) (known .entries-entry-at) (to-a wanted hint) (id⊢ 𝓤 _) as-Entry (λ r ws. id⊢ 𝓤 _)
+          -- a is restore_entries::entry_at(entries, latest)
+          nothing ! $ plus ! as-w64 latest in-latest $ lends ! 2 (named 0) κ₀ EntryT.the-row entries refl $ move ! (2 ∷ 0 ∷ []) $
+          calls-held ! fm restore-entries-entry-at.ended (restore-entries-entry-at.clauses 𝓤 H A mem calling) (known .restore-entries-entry-at) (to-a wanted hint) (id⊢ 𝓤 _) as-Entry
+          (λ r ws. id⊢ 𝓤 _)
           (and-then ! (local ! (look ! 30 refl)) (and-then ! (local ! (look ! 22 refl)) (no-more !))) (λ a is-a in-a.
           land ! (into !) (init ! 16 refl (as-Entry .lawful .typed a _ in-a .0)) $
-          -- b is entries::entry_at(entries, hint)
+          -- b is restore_entries::entry_at(entries, hint)
           nothing ! $ plus ! as-w64 hint in-hint $ lends ! 2 (named 0) κ₀ EntryT.the-row entries refl $ move ! (1 ∷ 0 ∷ []) $
-          calls-held ! fm entries-entry-at.ended (entries-entry-at.clauses 𝓤 H A mem calling) (known .entries-entry-at) (to-b wanted hint a) (id⊢ 𝓤 _) as-Entry (λ r ws. id⊢ 𝓤 _)
+          calls-held ! fm restore-entries-entry-at.ended (restore-entries-entry-at.clauses 𝓤 H A mem calling) (known .restore-entries-entry-at) (to-b wanted hint a) (id⊢ 𝓤 _) as-Entry
+          (λ r ws. id⊢ 𝓤 _)
           (and-then ! (local ! (look ! 30 refl)) (and-then ! (local ! (look ! 18 refl)) (no-more !))) (λ b is-b in-b.
           land ! (into !) (init ! 14 refl (as-Entry .lawful .typed b _ in-b .0)) $
-          -- p is across::tried(e, a, spot, b, hint, upto)
-          nothing ! $ plus ! as-w64 upto in-upto $ plus ! as-w64 hint in-hint $ plus ! as-Entry b in-b $ plus ! as-w64 spot in-spot $ plus ! as-Entry a in-a $ plus ! as-Entry e in-e $
-          calls-held ! fm across-tried.ended (across-tried.clauses 𝓤 H A mem calling) (known .across-tried) (to-p wanted hint a b) (id⊢ 𝓤 _) as-w64 (λ r ws. id⊢ 𝓤 _)
+          -- p is restore_across::tried(e, a, latest, b, hint, upto)
+          nothing ! $ plus ! as-w64 upto in-upto $ plus ! as-w64 hint in-hint $ plus ! as-Entry b in-b $ plus ! as-w64 latest in-latest $ plus ! as-Entry a in-a $ plus ! as-Entry e in-e $
+          calls-held ! fm restore-across-tried.ended (restore-across-tried.clauses 𝓤 H A mem calling) (known .restore-across-tried) (to-p wanted hint a b) (id⊢ 𝓤 _) as-w64 (λ r ws. id⊢ 𝓤 _)
           (and-then ! (local ! (look ! 27 refl)) (and-then ! (local ! (look ! 17 refl))
           (and-then ! (local ! (look ! 23 refl)) (and-then ! (local ! (look ! 15 refl)) (and-then ! (local ! (look ! 19 refl)) (and-then ! (local ! (look ! 25 refl)) (no-more !)))))))
           (λ p is-p in-p.
           land ! (into !) (init ! 12 refl (as-w64 .lawful .typed p _ in-p .0)) $
-          -- near is across::near_limit(p, spot, upto)
-          nothing ! $ plus ! as-w64 upto in-upto $ plus ! as-w64 spot in-spot $ plus ! as-w64 p in-p $
-          calls-held ! fm across-near-limit.ended (across-near-limit.clauses 𝓤 H A mem calling) (known .across-near-limit) (to-near wanted hint a b p) (id⊢ 𝓤 _) as-w64 (λ r ws. id⊢ 𝓤 _)
+          -- near is restore_across::near_limit(p, latest, upto)
+          nothing ! $ plus ! as-w64 upto in-upto $ plus ! as-w64 latest in-latest $ plus ! as-w64 p in-p $
+          calls-held ! fm restore-across-near-limit.ended (restore-across-near-limit.clauses 𝓤 H A mem calling) (known .restore-across-near-limit) (to-near wanted hint a b p) (id⊢ 𝓤 _)
+          as-w64 (λ r ws. id⊢ 𝓤 _)
           (and-then ! (local ! (look ! 13 refl)) (and-then ! (local ! (look ! 23 refl)) (and-then ! (local ! (look ! 25 refl)) (no-more !)))) (λ near is-near in-near.
           land ! (into !) (init ! 10 refl (as-w64 .lawful .typed near _ in-near .0)) $
-          -- q is entries::find(entries, wanted, near, upto)
+          -- q is restore_entries::find(entries, wanted, near, upto)
           nothing ! $ plus ! as-w64 upto in-upto $ plus ! as-w64 near in-near $ plus ! as-Wanted wanted in-wanted $ lends ! 2 (named 0) κ₀ EntryT.the-row entries refl $ move ! (1 ∷ 0 ∷ []) $
-          calls-held ! fm entries-find.ended (entries-find.clauses 𝓤 H A mem calling) (known .entries-find) (to-q wanted hint a b p near) (id⊢ 𝓤 _) as-w64 (λ r ws. id⊢ 𝓤 _)
+          calls-held ! fm restore-entries-find.ended (restore-entries-find.clauses 𝓤 H A mem calling) (known .restore-entries-find) (to-q wanted hint a b p near) (id⊢ 𝓤 _) as-w64
+          (λ r ws. id⊢ 𝓤 _)
           (and-then ! (local ! (look ! 30 refl)) (and-then ! (local ! (look ! 20 refl)) (and-then ! (local ! (look ! 10 refl)) (and-then ! (local ! (look ! 24 refl)) (no-more !)))))
           (λ q is-q in-q.
           land ! (into !) (init ! 8 refl (as-w64 .lawful .typed q _ in-q .0)) $
-          -- far is across::far_limit(p, q, near, upto)
+          -- far is restore_across::far_limit(p, q, near, upto)
           nothing ! $ plus ! as-w64 upto in-upto $ plus ! as-w64 near in-near $ plus ! as-w64 q in-q $ plus ! as-w64 p in-p $
-          calls-held ! fm across-far-limit.ended (across-far-limit.clauses 𝓤 H A mem calling) (known .across-far-limit) (to-far wanted hint a b p near q) (id⊢ 𝓤 _) as-w64 (λ r ws. id⊢ 𝓤 _)
+          calls-held ! fm restore-across-far-limit.ended (restore-across-far-limit.clauses 𝓤 H A mem calling) (known .restore-across-far-limit) (to-far wanted hint a b p near q) (id⊢ 𝓤 _)
+          as-w64 (λ r ws. id⊢ 𝓤 _)
           (and-then ! (local ! (look ! 13 refl)) (and-then ! (local ! (look ! 9 refl)) (and-then ! (local ! (look ! 11 refl)) (and-then ! (local ! (look ! 25 refl)) (no-more !)))))
           (λ far is-far in-far.
           land ! (into !) (init ! 6 refl (as-w64 .lawful .typed far _ in-far .0)) $
-          -- o is entries::find(entries, wanted, 0, far)
+          -- o is restore_entries::find(entries, wanted, 0, far)
           nothing ! $ plus ! as-w64 far in-far $ plus ! as-w64 0 (refl, lit< tt) $ plus ! as-Wanted wanted in-wanted $ lends ! 2 (named 0) κ₀ EntryT.the-row entries refl $
           move ! (1 ∷ 0 ∷ []) $
-          calls-held ! fm entries-find.ended (entries-find.clauses 𝓤 H A mem calling) (known .entries-find) (to-o wanted hint a b p near q far) (id⊢ 𝓤 _) as-w64 (λ r ws. id⊢ 𝓤 _)
+          calls-held ! fm restore-entries-find.ended (restore-entries-find.clauses 𝓤 H A mem calling) (known .restore-entries-find) (to-o wanted hint a b p near q far) (id⊢ 𝓤 _) as-w64
+          (λ r ws. id⊢ 𝓤 _)
           (and-then ! (local ! (look ! 30 refl)) (and-then ! (local ! (look ! 20 refl)) (and-then ! (lit ! tt) (and-then ! (local ! (look ! 6 refl)) (no-more !))))) (λ o is-o in-o.
           land ! (into !) (init ! 4 refl (as-w64 .lawful .typed o _ in-o .0)) $
-          -- r is across::chosen(p, q, o, far, upto)
+          -- r is restore_across::chosen(p, q, o, far, upto)
           nothing ! $ plus ! as-w64 upto in-upto $ plus ! as-w64 far in-far $ plus ! as-w64 o in-o $ plus ! as-w64 q in-q $ plus ! as-w64 p in-p $
-          calls-held ! fm across-chosen.ended (across-chosen.clauses 𝓤 H A mem calling) (known .across-chosen) (to-r wanted hint a b p near q far o) (id⊢ 𝓤 _) as-w64 (λ r ws. id⊢ 𝓤 _)
+          calls-held ! fm restore-across-chosen.ended (restore-across-chosen.clauses 𝓤 H A mem calling) (known .restore-across-chosen) (to-r wanted hint a b p near q far o) (id⊢ 𝓤 _) as-w64
+          (λ r ws. id⊢ 𝓤 _)
           (and-then ! (local ! (look ! 13 refl)) (and-then ! (local ! (look ! 9 refl))
           (and-then ! (local ! (look ! 5 refl)) (and-then ! (local ! (look ! 7 refl)) (and-then ! (local ! (look ! 25 refl)) (no-more !)))))) (λ r is-r in-r.
           land ! (into !) (init ! 32 refl (as-w64 .lawful .typed r _ in-r .0)) $
@@ -282,7 +290,7 @@ module _ {M : Type 1} (𝓤 : URA M) (H : Heap 𝓤) (A : Atoms 𝓤) (W : Given
           gone ! 32 refl refl $ gone ! 30 refl refl $ gone ! 28 refl refl $ gone ! 26 refl refl $ gone ! 24 refl refl $ gone ! 22 refl refl $ gone ! 20 refl refl $ gone ! 18 refl refl $
           gone ! 16 refl refl $ gone ! 14 refl refl $ gone ! 12 refl refl $ gone ! 10 refl refl $ gone ! 8 refl refl $ gone ! 6 refl refl $ gone ! 4 refl refl $ free0 ! $
           suffices ! _ (ends-at 𝓤 H A this.ended stayed clauses W bound (as-w64 .val r) r (tt, (tt, (tt, (tt, (tt, tt))))) (tt, (tt, (tt, (tt, (tt, tt)))))) $
-          says ! (owner-is (now entries) e upto spot hint a b p near q far o r wanted is-wanted is-a is-b is-p is-near is-q is-far is-o is-r) $
+          says ! (owner-is (now entries) e upto latest hint a b p near q far o r wanted is-wanted is-a is-b is-p is-near is-q is-far is-o is-r) $
           keep ! (0 ∷ 1 ∷ []) $ retok ! 2 (κ₀, (κ₁, tt)) (q₀, (q₁, tt)) $ frame ! $ nothing ! $ none ! $ none ! $ none ! $ none ! $ none ! $ frame ! $
           owned ! (UInt w64) (Is (UInt w64)) (as-w64 .makes) r _ in-r $ done !)))))))))))))))))))))))))
 
@@ -306,20 +314,20 @@ owner-at-spec 𝓤 H 𝓜 𝓖 𝓡 =
     entered 𝓤 H (tripleOf 𝓤 H (𝓖 .A) this.signature (this.spec 𝓤 H (𝓖 .A) (𝓜 .mem) (𝓡 .run)))
     (tables 𝓤 H 𝓜 𝓡 code.env .C) (tables 𝓤 H 𝓜 𝓡 code.env .Λ) this-def.name code.function (code.unfolded 𝓤 H 𝓜 𝓡)
     (meets 𝓤 H (𝓖 .A) W (𝓜 .mem) (𝓡 .run) (tablesOf 𝓤 H 𝓜 (tables 𝓤 H 𝓜 𝓡 code.env)) (record {
-      across-contact-of = cited 𝓤 H (Its-across-contact-of 𝓤 H (𝓖 .A) W (𝓜 .mem) (𝓡 .run)) 𝓜 𝓡 code.env
-          across-contact-of-def.name across-contact-of-def.routine code.calls-across·contact-of (across-contact-of-thm.met 𝓤 H 𝓜 𝓖 𝓡);
+      restore-across-contact-of = cited 𝓤 H (Its-restore-across-contact-of 𝓤 H (𝓖 .A) W (𝓜 .mem) (𝓡 .run)) 𝓜 𝓡 code.env
+          restore-across-contact-of-def.name restore-across-contact-of-def.routine code.calls-restore-across·contact-of (restore-across-contact-of-thm.met 𝓤 H 𝓜 𝓖 𝓡);
       hint-of = cited 𝓤 H (Its-hint-of 𝓤 H (𝓖 .A) W (𝓜 .mem) (𝓡 .run)) 𝓜 𝓡 code.env
           hint-of-def.name hint-of-def.routine code.calls-restore·hint-of (hint-of-thm.met 𝓤 H 𝓜 𝓖 𝓡);
-      entries-entry-at = cited 𝓤 H (Its-entries-entry-at 𝓤 H (𝓖 .A) W (𝓜 .mem) (𝓡 .run)) 𝓜 𝓡 code.env
-          entries-entry-at-def.name entries-entry-at-def.routine code.calls-entries·entry-at (entries-entry-at-thm.met 𝓤 H 𝓜 𝓖 𝓡);
-      across-tried = cited 𝓤 H (Its-across-tried 𝓤 H (𝓖 .A) W (𝓜 .mem) (𝓡 .run)) 𝓜 𝓡 code.env
-          across-tried-def.name across-tried-def.routine code.calls-across·tried (across-tried-thm.met 𝓤 H 𝓜 𝓖 𝓡);
-      across-near-limit = cited 𝓤 H (Its-across-near-limit 𝓤 H (𝓖 .A) W (𝓜 .mem) (𝓡 .run)) 𝓜 𝓡 code.env
-          across-near-limit-def.name across-near-limit-def.routine code.calls-across·near-limit (across-near-limit-thm.met 𝓤 H 𝓜 𝓖 𝓡);
-      entries-find = cited 𝓤 H (Its-entries-find 𝓤 H (𝓖 .A) W (𝓜 .mem) (𝓡 .run)) 𝓜 𝓡 code.env
-          entries-find-def.name entries-find-def.routine code.calls-entries·find (entries-find-thm.met 𝓤 H 𝓜 𝓖 𝓡);
-      across-far-limit = cited 𝓤 H (Its-across-far-limit 𝓤 H (𝓖 .A) W (𝓜 .mem) (𝓡 .run)) 𝓜 𝓡 code.env
-          across-far-limit-def.name across-far-limit-def.routine code.calls-across·far-limit (across-far-limit-thm.met 𝓤 H 𝓜 𝓖 𝓡);
-      across-chosen = cited 𝓤 H (Its-across-chosen 𝓤 H (𝓖 .A) W (𝓜 .mem) (𝓡 .run)) 𝓜 𝓡 code.env
-          across-chosen-def.name across-chosen-def.routine code.calls-across·chosen (across-chosen-thm.met 𝓤 H 𝓜 𝓖 𝓡);
+      restore-entries-entry-at = cited 𝓤 H (Its-restore-entries-entry-at 𝓤 H (𝓖 .A) W (𝓜 .mem) (𝓡 .run)) 𝓜 𝓡 code.env
+          restore-entries-entry-at-def.name restore-entries-entry-at-def.routine code.calls-restore-entries·entry-at (restore-entries-entry-at-thm.met 𝓤 H 𝓜 𝓖 𝓡);
+      restore-across-tried = cited 𝓤 H (Its-restore-across-tried 𝓤 H (𝓖 .A) W (𝓜 .mem) (𝓡 .run)) 𝓜 𝓡 code.env
+          restore-across-tried-def.name restore-across-tried-def.routine code.calls-restore-across·tried (restore-across-tried-thm.met 𝓤 H 𝓜 𝓖 𝓡);
+      restore-across-near-limit = cited 𝓤 H (Its-restore-across-near-limit 𝓤 H (𝓖 .A) W (𝓜 .mem) (𝓡 .run)) 𝓜 𝓡 code.env
+          restore-across-near-limit-def.name restore-across-near-limit-def.routine code.calls-restore-across·near-limit (restore-across-near-limit-thm.met 𝓤 H 𝓜 𝓖 𝓡);
+      restore-entries-find = cited 𝓤 H (Its-restore-entries-find 𝓤 H (𝓖 .A) W (𝓜 .mem) (𝓡 .run)) 𝓜 𝓡 code.env
+          restore-entries-find-def.name restore-entries-find-def.routine code.calls-restore-entries·find (restore-entries-find-thm.met 𝓤 H 𝓜 𝓖 𝓡);
+      restore-across-far-limit = cited 𝓤 H (Its-restore-across-far-limit 𝓤 H (𝓖 .A) W (𝓜 .mem) (𝓡 .run)) 𝓜 𝓡 code.env
+          restore-across-far-limit-def.name restore-across-far-limit-def.routine code.calls-restore-across·far-limit (restore-across-far-limit-thm.met 𝓤 H 𝓜 𝓖 𝓡);
+      restore-across-chosen = cited 𝓤 H (Its-restore-across-chosen 𝓤 H (𝓖 .A) W (𝓜 .mem) (𝓡 .run)) 𝓜 𝓡 code.env
+          restore-across-chosen-def.name restore-across-chosen-def.routine code.calls-restore-across·chosen (restore-across-chosen-thm.met 𝓤 H 𝓜 𝓖 𝓡);
     }))

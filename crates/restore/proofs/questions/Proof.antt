@@ -40,27 +40,27 @@ use Rattle.restore.proofs.Restored as RestoredT
 use Rattle.restore.proofs.Restored.Laws as RestoredL
 use Rattle.store.specs.declared.Entry.{Entry}
 use Rattle.store.proofs.Entry as EntryT
-use Rattle.store.specs.declared.Aside.{Aside}
-use Rattle.store.proofs.Aside as AsideT
-use Rattle.store.proofs.Aside.Laws as AsideL
+use Rattle.store.specs.declared.Omitted.{Omitted}
+use Rattle.store.proofs.Omitted as OmittedT
+use Rattle.store.proofs.Omitted.Laws as OmittedL
 use Rattle.store.specs.declared.Asked.{Asked}
 use Rattle.store.proofs.Asked as AskedT
 use Rattle.store.proofs.Asked.Laws as AskedL
-use Rattle.across.specs.declared.Across.{Across}
-use Rattle.across.proofs.Across as AcrossT
-use Rattle.across.proofs.Across.Laws as AcrossL
-use Rattle.entries.proofs.entry_count as entries-entry-count
-use Rattle.entries.proofs.entry_count.Symbol as entries-entry-count-def
-use Rattle.entries.proofs.entry_count.Met as entries-entry-count-thm
+use Rattle.restore_across.specs.declared.Across.{Across}
+use Rattle.restore_across.proofs.Across as AcrossT
+use Rattle.restore_across.proofs.Across.Laws as AcrossL
+use Rattle.restore_entries.proofs.entry_count as restore-entries-entry-count
+use Rattle.restore_entries.proofs.entry_count.Symbol as restore-entries-entry-count-def
+use Rattle.restore_entries.proofs.entry_count.Met as restore-entries-entry-count-thm
 use Rattle.restore.proofs.begin as begin
 use Rattle.restore.proofs.begin.Symbol as begin-def
 use Rattle.restore.proofs.begin.Met as begin-thm
 use Rattle.restore.proofs.turns as turns
 use Rattle.restore.proofs.turns.Symbol as turns-def
 use Rattle.restore.proofs.turns.Met as turns-thm
-use Rattle.across.proofs.begin as across-begin
-use Rattle.across.proofs.begin.Symbol as across-begin-def
-use Rattle.across.proofs.begin.Met as across-begin-thm
+use Rattle.restore_across.proofs.begin as restore-across-begin
+use Rattle.restore_across.proofs.begin.Symbol as restore-across-begin-def
+use Rattle.restore_across.proofs.begin.Met as restore-across-begin-thm
 use Rattle.restore.proofs.few_times as few-times
 use Rattle.restore.proofs.few_times.Symbol as few-times-def
 use Rattle.restore.proofs.few_times.Met as few-times-thm
@@ -98,8 +98,8 @@ module _ {M : Type 1} (𝓤 : URA M) (H : Heap 𝓤) (A : Atoms 𝓤) (W : Given
   abbrev as-Restored : Held W RestoredT.the-row
   as-Restored = of-enum W RestoredT.the-type RestoredL.the-laws RestoredL.the-plain tt
 
-  abbrev as-Aside : Held W AsideT.the-row
-  as-Aside = of-enum W AsideT.the-type AsideL.the-laws AsideL.the-plain tt
+  abbrev as-Omitted : Held W OmittedT.the-row
+  as-Omitted = of-enum W OmittedT.the-type OmittedL.the-laws OmittedL.the-plain tt
 
   abbrev as-w64 : Held W (UInt w64)
   as-w64 = number W w64
@@ -114,8 +114,8 @@ module _ {M : Type 1} (𝓤 : URA M) (H : Heap 𝓤) (A : Atoms 𝓤) (W : Given
   as-w8 = number W w8
 
   -- the contracts that the proof cites, and its own
-  abbrev Its-entries-entry-count : Contract 𝓤
-  Its-entries-entry-count = tripleOf 𝓤 H A entries-entry-count.signature (entries-entry-count.spec 𝓤 H A mem calling)
+  abbrev Its-restore-entries-entry-count : Contract 𝓤
+  Its-restore-entries-entry-count = tripleOf 𝓤 H A restore-entries-entry-count.signature (restore-entries-entry-count.spec 𝓤 H A mem calling)
 
   abbrev Its-begin : Contract 𝓤
   Its-begin = tripleOf 𝓤 H A begin.signature (begin.spec 𝓤 H A mem calling)
@@ -123,8 +123,8 @@ module _ {M : Type 1} (𝓤 : URA M) (H : Heap 𝓤) (A : Atoms 𝓤) (W : Given
   abbrev Its-turns : Contract 𝓤
   Its-turns = tripleOf 𝓤 H A turns.signature (turns.spec 𝓤 H A mem calling)
 
-  abbrev Its-across-begin : Contract 𝓤
-  Its-across-begin = tripleOf 𝓤 H A across-begin.signature (across-begin.spec 𝓤 H A mem calling)
+  abbrev Its-restore-across-begin : Contract 𝓤
+  Its-restore-across-begin = tripleOf 𝓤 H A restore-across-begin.signature (restore-across-begin.spec 𝓤 H A mem calling)
 
   abbrev Its-few-times : Contract 𝓤
   Its-few-times = tripleOf 𝓤 H A few-times.signature (few-times.spec 𝓤 H A mem calling)
@@ -151,10 +151,10 @@ module _ {M : Type 1} (𝓤 : URA M) (H : Heap 𝓤) (A : Atoms 𝓤) (W : Given
   Its-answer = tripleOf 𝓤 H A answer.signature (answer.spec 𝓤 H A mem calling)
 
   pub record Known (C : Calls 𝓤 H) : Type 1 where
-    pub entries-entry-count : Triple 𝓤 (C entries-entry-count-def.name) Its-entries-entry-count
+    pub restore-entries-entry-count : Triple 𝓤 (C restore-entries-entry-count-def.name) Its-restore-entries-entry-count
     pub begin : Triple 𝓤 (C begin-def.name) Its-begin
     pub turns : Triple 𝓤 (C turns-def.name) Its-turns
-    pub across-begin : Triple 𝓤 (C across-begin-def.name) Its-across-begin
+    pub restore-across-begin : Triple 𝓤 (C restore-across-begin-def.name) Its-restore-across-begin
     pub few-times : Triple 𝓤 (C few-times-def.name) Its-few-times
     pub few-if : Triple 𝓤 (C few-if-def.name) Its-few-if
     pub many-times : Triple 𝓤 (C many-times-def.name) Its-many-times
@@ -170,15 +170,15 @@ module _ {M : Type 1} (𝓤 : URA M) (H : Heap 𝓤) (A : Atoms 𝓤) (W : Given
   abbrev This : Contract 𝓤
   This = walkOf 𝓤 H A this.ended stayed clauses
 
-  module _ (κ₀ κ₁ : Lft) (q₀ q₁ : Share) (run : RefT (List ℕ)) (entries : RefT (List Entry)) (aside : Aside)
+  module _ (κ₀ κ₁ : Lft) (q₀ q₁ : Share) (run : RefT (List ℕ)) (entries : RefT (List Entry)) (omitted : Omitted)
       (in-run : Is (ShrSlice (named 0) κ₀ (UInt w8)) run (slice-vals run))
       (in-entries : Is (ShrSlice (named 1) κ₁ EntryT.the-row) entries (slice-vals entries))
-      (in-aside : Lies as-Aside aside) where
+      (in-omitted : Lies as-Omitted omitted) where
     abbrev bound : This .Ghost
-    bound = (((κ₀, (κ₁, tt)), (q₀, (q₁, tt)), tt, (run, (entries, (aside, tt))), (slice-vals run, (slice-vals entries, (vals as-Aside aside, tt)))), tt)
+    bound = (((κ₀, (κ₁, tt)), (q₀, (q₁, tt)), tt, (run, (entries, (omitted, tt))), (slice-vals run, (slice-vals entries, (vals as-Omitted omitted, tt)))), tt)
 
     -- what each call is handed
-    abbrev to-n : Its-entries-entry-count .Ghost
+    abbrev to-n : Its-restore-entries-entry-count .Ghost
     to-n = (((κ₁, tt), (q₁, tt), tt, (entries, tt), (slice-vals entries, tt)), tt)
 
     abbrev to-begun : (n : ℕ) → Its-begin .Ghost
@@ -190,8 +190,8 @@ module _ {M : Type 1} (𝓤 : URA M) (H : Heap 𝓤) (A : Atoms 𝓤) (W : Given
         (κ₀, (κ₁, tt)),
         (q₀, (q₁, tt)),
         tt,
-        (run, (entries, (aside, (1, (begun, tt))))),
-        (slice-vals run, (slice-vals entries, (vals as-Aside aside, (vals as-w8 1, (vals as-Asked begun, tt))))),
+        (run, (entries, (omitted, (1, (begun, tt))))),
+        (slice-vals run, (slice-vals entries, (vals as-Omitted omitted, (vals as-w8 1, (vals as-Asked begun, tt))))),
       ),
       tt,
     )
@@ -202,8 +202,8 @@ module _ {M : Type 1} (𝓤 : URA M) (H : Heap 𝓤) (A : Atoms 𝓤) (W : Given
         (κ₀, (κ₁, tt)),
         (q₀, (q₁, tt)),
         tt,
-        (run, (entries, (aside, (2, (ordered, tt))))),
-        (slice-vals run, (slice-vals entries, (vals as-Aside aside, (vals as-w8 2, (vals as-Asked ordered, tt))))),
+        (run, (entries, (omitted, (2, (ordered, tt))))),
+        (slice-vals run, (slice-vals entries, (vals as-Omitted omitted, (vals as-w8 2, (vals as-Asked ordered, tt))))),
       ),
       tt,
     )
@@ -214,13 +214,13 @@ module _ {M : Type 1} (𝓤 : URA M) (H : Heap 𝓤) (A : Atoms 𝓤) (W : Given
         (κ₀, (κ₁, tt)),
         (q₀, (q₁, tt)),
         tt,
-        (run, (entries, (aside, (3, (bounded, tt))))),
-        (slice-vals run, (slice-vals entries, (vals as-Aside aside, (vals as-w8 3, (vals as-Asked bounded, tt))))),
+        (run, (entries, (omitted, (3, (bounded, tt))))),
+        (slice-vals run, (slice-vals entries, (vals as-Omitted omitted, (vals as-w8 3, (vals as-Asked bounded, tt))))),
       ),
       tt,
     )
 
-    abbrev to-state : (n : ℕ) → (begun : Asked) → (ordered : Asked) → (bounded : Asked) → (read : Asked) → Its-across-begin .Ghost
+    abbrev to-state : (n : ℕ) → (begun : Asked) → (ordered : Asked) → (bounded : Asked) → (read : Asked) → Its-restore-across-begin .Ghost
     to-state n begun ordered bounded read = ((tt, tt, tt, (read, tt), (vals as-Asked read, tt)), tt)
 
     abbrev to-few : (n : ℕ) → (begun : Asked) → (ordered : Asked) → (bounded : Asked) → (read : Asked) → (state : Across) → Its-few-times .Ghost
@@ -232,8 +232,8 @@ module _ {M : Type 1} (𝓤 : URA M) (H : Heap 𝓤) (A : Atoms 𝓤) (W : Given
         (κ₀, (κ₁, tt)),
         (q₀, (q₁, tt)),
         tt,
-        (run, (entries, (aside, (0, (few, (state, tt)))))),
-        (slice-vals run, (slice-vals entries, (vals as-Aside aside, (vals as-w64 0, (vals as-w64 few, (vals as-Across state, tt)))))),
+        (run, (entries, (omitted, (0, (few, (state, tt)))))),
+        (slice-vals run, (slice-vals entries, (vals as-Omitted omitted, (vals as-w64 0, (vals as-w64 few, (vals as-Across state, tt)))))),
       ),
       tt,
     )
@@ -247,8 +247,8 @@ module _ {M : Type 1} (𝓤 : URA M) (H : Heap 𝓤) (A : Atoms 𝓤) (W : Given
         (κ₀, (κ₁, tt)),
         (q₀, (q₁, tt)),
         tt,
-        (run, (entries, (aside, (few, (many, (some, tt)))))),
-        (slice-vals run, (slice-vals entries, (vals as-Aside aside, (vals as-w64 few, (vals as-w64 many, (vals as-Across some, tt)))))),
+        (run, (entries, (omitted, (few, (many, (some, tt)))))),
+        (slice-vals run, (slice-vals entries, (vals as-Omitted omitted, (vals as-w64 few, (vals as-w64 many, (vals as-Across some, tt)))))),
       ),
       tt,
     )
@@ -268,8 +268,8 @@ module _ {M : Type 1} (𝓤 : URA M) (H : Heap 𝓤) (A : Atoms 𝓤) (W : Given
         (κ₀, (κ₁, tt)),
         (q₀, (q₁, tt)),
         tt,
-        (run, (entries, (aside, (often, (most, (more, tt)))))),
-        (slice-vals run, (slice-vals entries, (vals as-Aside aside, (vals as-w64 often, (vals as-w64 most, (vals as-Across more, tt)))))),
+        (run, (entries, (omitted, (often, (most, (more, tt)))))),
+        (slice-vals run, (slice-vals entries, (vals as-Omitted omitted, (vals as-w64 often, (vals as-w64 most, (vals as-Across more, tt)))))),
       ),
       tt,
     )
@@ -295,11 +295,12 @@ module _ {M : Type 1} (𝓤 : URA M) (H : Heap 𝓤) (A : Atoms 𝓤) (W : Given
           (λ l₉. alloc1 ! (λ l₁₀. alloc1 ! (λ l₁₁. alloc1 ! (λ l₁₂. alloc1 ! (λ l₁₃. alloc1 ! (λ l₁₄. alloc1 ! (λ l₁₅. alloc1 ! (λ l₁₆. alloc0 ! $ params1 ! $
           pass1 ! (init ! 30 refl (shr-slice-lawful 𝓤 H A W (named 0) κ₀ (UInt w8) .typed run (slice-vals run) in-run .0)) $
           pass1 ! (init ! 28 refl (shr-slice-lawful 𝓤 H A W (named 1) κ₁ EntryT.the-row .typed entries (slice-vals entries) in-entries .0)) $
-          pass1 ! (init ! 26 refl (as-Aside .lawful .typed aside _ in-aside .0)) $
+          pass1 ! (init ! 26 refl (as-Omitted .lawful .typed omitted _ in-omitted .0)) $
           pass0 ! $ move ! (34 ∷ 35 ∷ 36 ∷ 37 ∷ []) $
-          -- n is entries::entry_count(entries)
+          -- n is restore_entries::entry_count(entries)
           nothing ! $ lends ! 3 (named 1) κ₁ EntryT.the-row entries refl $ move ! (2 ∷ 0 ∷ []) $
-          calls-held ! fm entries-entry-count.ended (entries-entry-count.clauses 𝓤 H A mem calling) (known .entries-entry-count) to-n (id⊢ 𝓤 _) as-w64 (λ r ws. id⊢ 𝓤 _)
+          calls-held ! fm restore-entries-entry-count.ended (restore-entries-entry-count.clauses 𝓤 H A mem calling) (known .restore-entries-entry-count) to-n (id⊢ 𝓤 _) as-w64
+          (λ r ws. id⊢ 𝓤 _)
           (and-then ! (local ! (look ! 32 refl)) (no-more !)) (λ n is-n in-n.
           land ! (into !) (init ! 28 refl (as-w64 .lawful .typed n _ in-n .0)) $
           -- begun is restore::begin(n)
@@ -307,30 +308,31 @@ module _ {M : Type 1} (𝓤 : URA M) (H : Heap 𝓤) (A : Atoms 𝓤) (W : Given
           calls-held ! fm begin.ended (begin.clauses 𝓤 H A mem calling) (known .begin) (to-begun n) (id⊢ 𝓤 _) as-Asked (λ r ws. id⊢ 𝓤 _)
           (and-then ! (local ! (look ! 29 refl)) (no-more !)) (λ begun is-begun in-begun.
           land ! (into !) (init ! 26 refl (as-Asked .lawful .typed begun _ in-begun .0)) $
-          -- ordered is restore::turns(run, entries, aside, 1, begun)
-          nothing ! $ plus ! as-Asked begun in-begun $ plus ! as-w8 1 (refl, lit< tt) $ plus ! as-Aside aside in-aside $ lends ! 3 (named 1) κ₁ EntryT.the-row entries refl $
+          -- ordered is restore::turns(run, entries, omitted, 1, begun)
+          nothing ! $ plus ! as-Asked begun in-begun $ plus ! as-w8 1 (refl, lit< tt) $ plus ! as-Omitted omitted in-omitted $ lends ! 3 (named 1) κ₁ EntryT.the-row entries refl $
           lends ! 2 (named 0) κ₀ (UInt w8) run refl $ move ! (2 ∷ 1 ∷ 0 ∷ []) $
           calls-held ! fm turns.ended (turns.clauses 𝓤 H A mem calling) (known .turns) (to-ordered n begun) (id⊢ 𝓤 _) as-Asked (λ r ws. id⊢ 𝓤 _)
           (and-then ! (local ! (look ! 33 refl)) (and-then ! (local ! (look ! 31 refl))
           (and-then ! (local ! (look ! 29 refl)) (and-then ! (lit ! tt) (and-then ! (local ! (look ! 25 refl)) (no-more !)))))) (λ ordered is-ordered in-ordered.
           land ! (into !) (init ! 24 refl (as-Asked .lawful .typed ordered _ in-ordered .0)) $
-          -- bounded is restore::turns(run, entries, aside, 2, ordered)
-          nothing ! $ plus ! as-Asked ordered in-ordered $ plus ! as-w8 2 (refl, lit< tt) $ plus ! as-Aside aside in-aside $ lends ! 3 (named 1) κ₁ EntryT.the-row entries refl $
+          -- bounded is restore::turns(run, entries, omitted, 2, ordered)
+          nothing ! $ plus ! as-Asked ordered in-ordered $ plus ! as-w8 2 (refl, lit< tt) $ plus ! as-Omitted omitted in-omitted $ lends ! 3 (named 1) κ₁ EntryT.the-row entries refl $
           lends ! 2 (named 0) κ₀ (UInt w8) run refl $ move ! (1 ∷ 2 ∷ 0 ∷ []) $
           calls-held ! fm turns.ended (turns.clauses 𝓤 H A mem calling) (known .turns) (to-bounded n begun ordered) (id⊢ 𝓤 _) as-Asked (λ r ws. id⊢ 𝓤 _)
           (and-then ! (local ! (look ! 33 refl)) (and-then ! (local ! (look ! 31 refl))
           (and-then ! (local ! (look ! 29 refl)) (and-then ! (lit ! tt) (and-then ! (local ! (look ! 23 refl)) (no-more !)))))) (λ bounded is-bounded in-bounded.
           land ! (into !) (init ! 22 refl (as-Asked .lawful .typed bounded _ in-bounded .0)) $
-          -- read is restore::turns(run, entries, aside, 3, bounded)
-          nothing ! $ plus ! as-Asked bounded in-bounded $ plus ! as-w8 3 (refl, lit< tt) $ plus ! as-Aside aside in-aside $ lends ! 3 (named 1) κ₁ EntryT.the-row entries refl $
+          -- read is restore::turns(run, entries, omitted, 3, bounded)
+          nothing ! $ plus ! as-Asked bounded in-bounded $ plus ! as-w8 3 (refl, lit< tt) $ plus ! as-Omitted omitted in-omitted $ lends ! 3 (named 1) κ₁ EntryT.the-row entries refl $
           lends ! 2 (named 0) κ₀ (UInt w8) run refl $ move ! (1 ∷ 2 ∷ 0 ∷ []) $
           calls-held ! fm turns.ended (turns.clauses 𝓤 H A mem calling) (known .turns) (to-read n begun ordered bounded) (id⊢ 𝓤 _) as-Asked (λ r ws. id⊢ 𝓤 _)
           (and-then ! (local ! (look ! 33 refl)) (and-then ! (local ! (look ! 31 refl))
           (and-then ! (local ! (look ! 29 refl)) (and-then ! (lit ! tt) (and-then ! (local ! (look ! 21 refl)) (no-more !)))))) (λ read is-read in-read.
           land ! (into !) (init ! 20 refl (as-Asked .lawful .typed read _ in-read .0)) $
-          -- state is across::begin(read)
+          -- state is restore_across::begin(read)
           nothing ! $ plus ! as-Asked read in-read $
-          calls-held ! fm across-begin.ended (across-begin.clauses 𝓤 H A mem calling) (known .across-begin) (to-state n begun ordered bounded read) (id⊢ 𝓤 _) as-Across (λ r ws. id⊢ 𝓤 _)
+          calls-held ! fm restore-across-begin.ended (restore-across-begin.clauses 𝓤 H A mem calling) (known .restore-across-begin) (to-state n begun ordered bounded read) (id⊢ 𝓤 _)
+          as-Across (λ r ws. id⊢ 𝓤 _)
           (and-then ! (local ! (look ! 21 refl)) (no-more !)) (λ state is-state in-state.
           land ! (into !) (init ! 18 refl (as-Across .lawful .typed state _ in-state .0)) $
           -- few is restore::few_times(n)
@@ -338,11 +340,11 @@ module _ {M : Type 1} (𝓤 : URA M) (H : Heap 𝓤) (A : Atoms 𝓤) (W : Given
           calls-held ! fm few-times.ended (few-times.clauses 𝓤 H A mem calling) (known .few-times) (to-few n begun ordered bounded read state) (id⊢ 𝓤 _) as-w64 (λ r ws. id⊢ 𝓤 _)
           (and-then ! (local ! (look ! 29 refl)) (no-more !)) (λ few is-few in-few.
           land ! (into !) (init ! 16 refl (as-w64 .lawful .typed few _ in-few .0)) $
-          -- some is restore::few_if(run, entries, aside, 0, few, state)
-          nothing ! $ plus ! as-Across state in-state $ plus ! as-w64 few in-few $ plus ! as-w64 0 (refl, lit< tt) $ plus ! as-Aside aside in-aside $
+          -- some is restore::few_if(run, entries, omitted, 0, few, state)
+          nothing ! $ plus ! as-Across state in-state $ plus ! as-w64 few in-few $ plus ! as-w64 0 (refl, lit< tt) $ plus ! as-Omitted omitted in-omitted $
           lends ! 3 (named 1) κ₁ EntryT.the-row entries refl $ lends ! 2 (named 0) κ₀ (UInt w8) run refl $ move ! (1 ∷ 2 ∷ 0 ∷ []) $
           calls-held ! fm few-if.ended (few-if.clauses 𝓤 H A mem calling) (known .few-if) (to-some n begun ordered bounded read state few)
-          (factI 𝓤 _ (emp 𝓤) (is-few, begins-at (now run) (now entries) aside n begun ordered bounded read state is-n is-begun is-ordered is-bounded is-read is-state)) as-Across
+          (factI 𝓤 _ (emp 𝓤) (is-few, begins-at (now run) (now entries) omitted n begun ordered bounded read state is-n is-begun is-ordered is-bounded is-read is-state)) as-Across
           (λ r ws. id⊢ 𝓤 _)
           (and-then ! (local ! (look ! 33 refl)) (and-then ! (local ! (look ! 31 refl))
           (and-then ! (local ! (look ! 29 refl)) (and-then ! (lit ! tt) (and-then ! (local ! (look ! 15 refl)) (and-then ! (local ! (look ! 17 refl)) (no-more !)))))))
@@ -353,11 +355,11 @@ module _ {M : Type 1} (𝓤 : URA M) (H : Heap 𝓤) (A : Atoms 𝓤) (W : Given
           calls-held ! fm many-times.ended (many-times.clauses 𝓤 H A mem calling) (known .many-times) (to-many n begun ordered bounded read state few some) (id⊢ 𝓤 _) as-w64 (λ r ws. id⊢ 𝓤 _)
           (and-then ! (local ! (look ! 29 refl)) (and-then ! (local ! (look ! 17 refl)) (no-more !))) (λ many is-many in-many.
           land ! (into !) (init ! 12 refl (as-w64 .lawful .typed many _ in-many .0)) $
-          -- more is restore::many_if(run, entries, aside, few, many, some)
-          nothing ! $ plus ! as-Across some in-some $ plus ! as-w64 many in-many $ plus ! as-w64 few in-few $ plus ! as-Aside aside in-aside $
+          -- more is restore::many_if(run, entries, omitted, few, many, some)
+          nothing ! $ plus ! as-Across some in-some $ plus ! as-w64 many in-many $ plus ! as-w64 few in-few $ plus ! as-Omitted omitted in-omitted $
           lends ! 3 (named 1) κ₁ EntryT.the-row entries refl $ lends ! 2 (named 0) κ₀ (UInt w8) run refl $ move ! (1 ∷ 2 ∷ 0 ∷ []) $
           calls-held ! fm many-if.ended (many-if.clauses 𝓤 H A mem calling) (known .many-if) (to-more n begun ordered bounded read state few some many)
-          (factI 𝓤 _ (emp 𝓤) (not-few (now run) (now entries) aside few many (few + many) (1 - (few + many)) is-few is-many refl refl some is-some)) as-Across (λ r ws. id⊢ 𝓤 _)
+          (factI 𝓤 _ (emp 𝓤) (not-few (now run) (now entries) omitted few many (few + many) (1 - (few + many)) is-few is-many refl refl some is-some)) as-Across (λ r ws. id⊢ 𝓤 _)
           (and-then ! (local ! (look ! 33 refl)) (and-then ! (local ! (look ! 31 refl))
           (and-then ! (local ! (look ! 29 refl)) (and-then ! (local ! (look ! 15 refl)) (and-then ! (local ! (look ! 11 refl)) (and-then ! (local ! (look ! 13 refl)) (no-more !)))))))
           (λ more is-more in-more.
@@ -374,11 +376,11 @@ module _ {M : Type 1} (𝓤 : URA M) (H : Heap 𝓤) (A : Atoms 𝓤) (W : Given
           (λ r ws. id⊢ 𝓤 _)
           (and-then ! (local ! (look ! 9 refl)) (no-more !)) (λ most is-most in-most.
           land ! (into !) (init ! 6 refl (as-w64 .lawful .typed most _ in-most .0)) $
-          -- end is restore::most_if(run, entries, aside, often, most, more)
-          nothing ! $ plus ! as-Across more in-more $ plus ! as-w64 most in-most $ plus ! as-w64 often in-often $ plus ! as-Aside aside in-aside $
+          -- end is restore::most_if(run, entries, omitted, often, most, more)
+          nothing ! $ plus ! as-Across more in-more $ plus ! as-w64 most in-most $ plus ! as-w64 often in-often $ plus ! as-Omitted omitted in-omitted $
           lends ! 3 (named 1) κ₁ EntryT.the-row entries refl $ lends ! 2 (named 0) κ₀ (UInt w8) run refl $ move ! (1 ∷ 2 ∷ 0 ∷ []) $
           calls-held ! fm most-if.ended (most-if.clauses 𝓤 H A mem calling) (known .most-if) (to-end n begun ordered bounded read state few some many more often most)
-          (factI 𝓤 _ (emp 𝓤) (not-many (now run) (now entries) aside few many often most is-few is-many is-often is-most more is-more)) as-Across (λ r ws. id⊢ 𝓤 _)
+          (factI 𝓤 _ (emp 𝓤) (not-many (now run) (now entries) omitted few many often most is-few is-many is-often is-most more is-more)) as-Across (λ r ws. id⊢ 𝓤 _)
           (and-then ! (local ! (look ! 33 refl)) (and-then ! (local ! (look ! 31 refl))
           (and-then ! (local ! (look ! 29 refl)) (and-then ! (local ! (look ! 7 refl)) (and-then ! (local ! (look ! 5 refl)) (and-then ! (local ! (look ! 9 refl)) (no-more !)))))))
           (λ end is-end in-end.
@@ -394,15 +396,15 @@ module _ {M : Type 1} (𝓤 : URA M) (H : Heap 𝓤) (A : Atoms 𝓤) (W : Given
           gone ! 20 refl refl $ gone ! 18 refl refl $ gone ! 16 refl refl $ gone ! 14 refl refl $ gone ! 12 refl refl $ gone ! 10 refl refl $ gone ! 8 refl refl $ gone ! 6 refl refl $
           gone ! 4 refl refl $ free0 ! $
           suffices ! _ (ends-at 𝓤 H A this.ended stayed clauses W bound (as-Restored .val r) r (tt, (tt, (tt, tt))) (tt, (tt, (tt, tt)))) $
-          says ! (answers (now run) (now entries) aside end r (made (now run) (now entries) aside few many often most is-few is-many is-often is-most end is-end) is-r) $
+          says ! (answers (now run) (now entries) omitted end r (made (now run) (now entries) omitted few many often most is-few is-many is-often is-most end is-end) is-r) $
           keep ! (0 ∷ 1 ∷ []) $ retok ! 2 (κ₀, (κ₁, tt)) (q₀, (q₁, tt)) $ frame ! $ nothing ! $ none ! $ none ! $ none ! $ frame ! $
           owned ! RestoredT.the-row (Is RestoredT.the-row) (as-Restored .makes) r _ in-r $ done !)))))))))))))))))))))))))))))))
 
   module _ (𝓣 : Tables 𝓤 H) (known : Known (𝓣 .C)) where
     walks : Walks 𝓤 H A this.ended stayed (WpFn 𝓤 H (𝓣 .C) (𝓣 .Λ) code.function) clauses
     walks = walked 𝓤 H A this.ended stayed clauses (WpFn 𝓤 H (𝓣 .C) (𝓣 .Λ) code.function)
-        (λ κs. (slice-vals, (slice-vals, (vals as-Aside, tt))))
-        (λ κs. (shr-slice-tells (named 0) (κs .0) (UInt w8), (shr-slice-tells (named 1) (κs .1 .0) EntryT.the-row, (as-Aside .tells, tt))))
+        (λ κs. (slice-vals, (slice-vals, (vals as-Omitted, tt))))
+        (λ κs. (shr-slice-tells (named 0) (κs .0) (UInt w8), (shr-slice-tells (named 1) (κs .1 .0) EntryT.the-row, (as-Omitted .tells, tt))))
         (λ κs qs bounds a g are. via 𝓤 _ (fst∗ 𝓤 _ (emp 𝓤)) (walk (κs .0) (κs .1 .0) (qs .0) (qs .1 .0) (a .0) (a .1 .0) (a .1 .1 .0) (are .0) (are .1 .0) (are .1 .1 .0) 𝓣
         (fmOf 𝓤 H (W .laws) 𝓣) known))
 
@@ -418,14 +420,14 @@ questions-spec 𝓤 H 𝓜 𝓖 𝓡 =
     entered 𝓤 H (tripleOf 𝓤 H (𝓖 .A) this.signature (this.spec 𝓤 H (𝓖 .A) (𝓜 .mem) (𝓡 .run)))
     (tables 𝓤 H 𝓜 𝓡 code.env .C) (tables 𝓤 H 𝓜 𝓡 code.env .Λ) this-def.name code.function (code.unfolded 𝓤 H 𝓜 𝓡)
     (meets 𝓤 H (𝓖 .A) W (𝓜 .mem) (𝓡 .run) (tablesOf 𝓤 H 𝓜 (tables 𝓤 H 𝓜 𝓡 code.env)) (record {
-      entries-entry-count = cited 𝓤 H (Its-entries-entry-count 𝓤 H (𝓖 .A) W (𝓜 .mem) (𝓡 .run)) 𝓜 𝓡 code.env
-          entries-entry-count-def.name entries-entry-count-def.routine code.calls-entries·entry-count (entries-entry-count-thm.met 𝓤 H 𝓜 𝓖 𝓡);
+      restore-entries-entry-count = cited 𝓤 H (Its-restore-entries-entry-count 𝓤 H (𝓖 .A) W (𝓜 .mem) (𝓡 .run)) 𝓜 𝓡 code.env
+          restore-entries-entry-count-def.name restore-entries-entry-count-def.routine code.calls-restore-entries·entry-count (restore-entries-entry-count-thm.met 𝓤 H 𝓜 𝓖 𝓡);
       begin = cited 𝓤 H (Its-begin 𝓤 H (𝓖 .A) W (𝓜 .mem) (𝓡 .run)) 𝓜 𝓡 code.env
           begin-def.name begin-def.routine code.calls-restore·begin (begin-thm.met 𝓤 H 𝓜 𝓖 𝓡);
       turns = cited 𝓤 H (Its-turns 𝓤 H (𝓖 .A) W (𝓜 .mem) (𝓡 .run)) 𝓜 𝓡 code.env
           turns-def.name turns-def.routine code.calls-restore·turns (turns-thm.met 𝓤 H 𝓜 𝓖 𝓡);
-      across-begin = cited 𝓤 H (Its-across-begin 𝓤 H (𝓖 .A) W (𝓜 .mem) (𝓡 .run)) 𝓜 𝓡 code.env
-          across-begin-def.name across-begin-def.routine code.calls-across·begin (across-begin-thm.met 𝓤 H 𝓜 𝓖 𝓡);
+      restore-across-begin = cited 𝓤 H (Its-restore-across-begin 𝓤 H (𝓖 .A) W (𝓜 .mem) (𝓡 .run)) 𝓜 𝓡 code.env
+          restore-across-begin-def.name restore-across-begin-def.routine code.calls-restore-across·begin (restore-across-begin-thm.met 𝓤 H 𝓜 𝓖 𝓡);
       few-times = cited 𝓤 H (Its-few-times 𝓤 H (𝓖 .A) W (𝓜 .mem) (𝓡 .run)) 𝓜 𝓡 code.env
           few-times-def.name few-times-def.routine code.calls-restore·few-times (few-times-thm.met 𝓤 H 𝓜 𝓖 𝓡);
       few-if = cited 𝓤 H (Its-few-if 𝓤 H (𝓖 .A) W (𝓜 .mem) (𝓡 .run)) 𝓜 𝓡 code.env

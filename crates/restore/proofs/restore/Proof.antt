@@ -37,9 +37,9 @@ use Rattle.restore.proofs.Restored as RestoredT
 use Rattle.restore.proofs.Restored.Laws as RestoredL
 use Rattle.store.specs.declared.Entry.{Entry}
 use Rattle.store.proofs.Entry as EntryT
-use Rattle.store.specs.declared.Aside.{Aside}
-use Rattle.store.proofs.Aside as AsideT
-use Rattle.store.proofs.Aside.Laws as AsideL
+use Rattle.store.specs.declared.Omitted.{Omitted}
+use Rattle.store.proofs.Omitted as OmittedT
+use Rattle.store.proofs.Omitted.Laws as OmittedL
 use Rattle.restore.proofs.nothing as nothing
 use Rattle.restore.proofs.nothing.Symbol as nothing-def
 use Rattle.restore.proofs.nothing.Met as nothing-thm
@@ -59,8 +59,8 @@ module _ {M : Type 1} (𝓤 : URA M) (H : Heap 𝓤) (A : Atoms 𝓤) (W : Given
   abbrev as-Restored : Held W RestoredT.the-row
   as-Restored = of-enum W RestoredT.the-type RestoredL.the-laws RestoredL.the-plain tt
 
-  abbrev as-Aside : Held W AsideT.the-row
-  as-Aside = of-enum W AsideT.the-type AsideL.the-laws AsideL.the-plain tt
+  abbrev as-Omitted : Held W OmittedT.the-row
+  as-Omitted = of-enum W OmittedT.the-type OmittedL.the-laws OmittedL.the-plain tt
 
   -- the contracts that the proof cites, and its own
   abbrev Its-nothing : Contract 𝓤
@@ -86,11 +86,11 @@ module _ {M : Type 1} (𝓤 : URA M) (H : Heap 𝓤) (A : Atoms 𝓤) (W : Given
     bound = (((κ₀, (κ₁, tt)), (q₀, (q₁, tt)), tt, (run, (entries, tt)), (slice-vals run, (slice-vals entries, tt))), tt)
 
     -- what each call is handed
-    abbrev to-aside : Its-nothing .Ghost
-    to-aside = ((tt, tt, tt, tt, tt), tt)
+    abbrev to-omitted : Its-nothing .Ghost
+    to-omitted = ((tt, tt, tt, tt, tt), tt)
 
-    abbrev to-r : (aside : Aside) → Its-questions .Ghost
-    to-r aside = (((κ₀, (κ₁, tt)), (q₀, (q₁, tt)), tt, (run, (entries, (aside, tt))), (slice-vals run, (slice-vals entries, (vals as-Aside aside, tt)))), tt)
+    abbrev to-r : (omitted : Omitted) → Its-questions .Ghost
+    to-r omitted = (((κ₀, (κ₁, tt)), (q₀, (q₁, tt)), tt, (run, (entries, (omitted, tt))), (slice-vals run, (slice-vals entries, (vals as-Omitted omitted, tt)))), tt)
 
     module _ (𝓣 : Tables 𝓤 H) (fm : FmC 𝓤 H (W .laws) (𝓣 .C)) (known : Known (𝓣 .C)) where
       abbrev C : Calls 𝓤 H
@@ -108,20 +108,20 @@ module _ {M : Type 1} (𝓤 : URA M) (H : Heap 𝓤) (A : Atoms 𝓤) (W : Given
           pass1 ! (init ! 4 refl (shr-slice-lawful 𝓤 H A W (named 0) κ₀ (UInt w8) .typed run (slice-vals run) in-run .0)) $
           pass1 ! (init ! 2 refl (shr-slice-lawful 𝓤 H A W (named 1) κ₁ EntryT.the-row .typed entries (slice-vals entries) in-entries .0)) $
           pass0 ! $ move ! (8 ∷ 9 ∷ 10 ∷ 11 ∷ []) $
-          -- aside is restore::nothing()
+          -- omitted is restore::nothing()
           nothing ! $
-          calls-held ! fm nothing.ended (nothing.clauses 𝓤 H A mem calling) (known .nothing) to-aside (id⊢ 𝓤 _) as-Aside (λ r ws. id⊢ 𝓤 _)
-          (no-more !) (λ aside is-aside in-aside.
-          land ! (into !) (init ! 4 refl (as-Aside .lawful .typed aside _ in-aside .0)) $
-          -- r is restore::questions(run, entries, aside)
-          nothing ! $ plus ! as-Aside aside in-aside $ lends ! 3 (named 1) κ₁ EntryT.the-row entries refl $ lends ! 2 (named 0) κ₀ (UInt w8) run refl $ move ! (1 ∷ 2 ∷ 0 ∷ []) $
-          calls-held ! fm questions.ended (questions.clauses 𝓤 H A mem calling) (known .questions) (to-r aside) (id⊢ 𝓤 _) as-Restored (λ r ws. id⊢ 𝓤 _)
+          calls-held ! fm nothing.ended (nothing.clauses 𝓤 H A mem calling) (known .nothing) to-omitted (id⊢ 𝓤 _) as-Omitted (λ r ws. id⊢ 𝓤 _)
+          (no-more !) (λ omitted is-omitted in-omitted.
+          land ! (into !) (init ! 4 refl (as-Omitted .lawful .typed omitted _ in-omitted .0)) $
+          -- r is restore::questions(run, entries, omitted)
+          nothing ! $ plus ! as-Omitted omitted in-omitted $ lends ! 3 (named 1) κ₁ EntryT.the-row entries refl $ lends ! 2 (named 0) κ₀ (UInt w8) run refl $ move ! (1 ∷ 2 ∷ 0 ∷ []) $
+          calls-held ! fm questions.ended (questions.clauses 𝓤 H A mem calling) (known .questions) (to-r omitted) (id⊢ 𝓤 _) as-Restored (λ r ws. id⊢ 𝓤 _)
           (and-then ! (local ! (look ! 7 refl)) (and-then ! (local ! (look ! 5 refl)) (and-then ! (local ! (look ! 3 refl)) (no-more !)))) (λ r is-r in-r.
           land ! (into !) (init ! 10 refl (as-Restored .lawful .typed r _ in-r .0)) $
           returns ! (look ! 10 refl) $
           gone ! 10 refl refl $ gone ! 8 refl refl $ gone ! 6 refl refl $ gone ! 4 refl refl $ free0 ! $
           suffices ! _ (ends-at 𝓤 H A this.ended stayed clauses W bound (as-Restored .val r) r (tt, (tt, tt)) (tt, (tt, tt))) $
-          says ! (restores (now run) (now entries) aside r is-aside is-r) $
+          says ! (restores (now run) (now entries) omitted r is-omitted is-r) $
           keep ! (0 ∷ 1 ∷ []) $ retok ! 2 (κ₀, (κ₁, tt)) (q₀, (q₁, tt)) $ frame ! $ nothing ! $ none ! $ none ! $ frame ! $
           owned ! RestoredT.the-row (Is RestoredT.the-row) (as-Restored .makes) r _ in-r $ done !))))))
 

@@ -27,10 +27,10 @@ by : (k : tie.After-slice-known6) → Bytes (row k)
 by k = typed (row k) (k .before .before .before .before .before .before .shared-slice-known .given)
 
 -- ---- on the way: the lists lent to the reader, and those that it left, known again
-abbrev with-room : tie.After-read-contact → tie.Else1
+abbrev with-room : tie.After-decode → tie.Else1
 with-room r = r .before .before .before .before .before .before
 
-abbrev read : tie.After-slice-known11 → tie.After-read-contact
+abbrev read : tie.After-slice-known11 → tie.After-decode
 read c = c .before .before .before .before .before .before .before .before .before .before
 
 -- before the contact is handed on, and the lists and the output are lent
@@ -62,8 +62,8 @@ returns c =
     ap (λ (q : ℕ). leaves (refuses q) (lent k) (start k .args .out .now)) (c .without-room .ensures)
     ∙ no-room (start k .args .version) (row k) (lent k) (start k .args .out .now) (short .if1 .taken)
 
-read-contact-requires : tie.Need-read-contact-requires
-read-contact-requires c κs = search needs
+decode-requires : tie.Need-decode-requires
+decode-requires c κs = search needs
 
 enum-known-verdict : tie.Need-enum-known-verdict
 enum-known-verdict c = search needs
@@ -88,7 +88,7 @@ returns-2 c =
     let known = c .before in
     let r = read (known .before .before) in
     let k = with-room r .before in
-    refused (start k .args .version) (row k) (lent k) (start k .args .out .now) (with-room r .if1 .left) (r .read-contact .ensures) (known .verdict .given .1)
+    refused (start k .args .version) (row k) (lent k) (start k .args .out .now) (with-room r .if1 .left) (r .decode .ensures) (known .verdict .given .1)
 
 enum-told : tie.Need-enum-told
 enum-told c = search needs
@@ -120,7 +120,7 @@ returns-3 c =
     let t = accepted w in
     let r = read (t .before .before) in
     let k = with-room r .before in
-    granted (start k .args .version) (row k) (lent k) (start k .args .out .now) (with-room r .if1 .left) (r .read-contact .ensures) (by k) (t .enum-told .given .1) (w .write-contact .ensures)
+    granted (start k .args .version) (row k) (lent k) (start k .args .out .now) (with-room r .if1 .left) (r .decode .ensures) (by k) (t .enum-told .given .1) (w .write-contact .ensures)
 
 pub rewrite-contact-spec : {M : Type 1} → statement M
 rewrite-contact-spec =
@@ -133,7 +133,7 @@ rewrite-contact-spec =
     same-length-4
     same-length-5
     returns
-    read-contact-requires
+    decode-requires
     enum-known-verdict
     same-length-6
     same-length-7

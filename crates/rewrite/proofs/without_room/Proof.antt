@@ -12,7 +12,7 @@ use Rattle.layout.specs.RowLaws.{Bytes}
 use Rattle.layout.proofs.At.{learn, typed}
 use Rattle.rows.specs.Values as value
 use Rattle.rows.specs.Rows.{contact}
-use Rattle.contact.specs.Check.{contactFrom, Places, checkRefusal}
+use Rattle.contact.specs.Check.{contactFrom, Offsets, checkRefusal}
 use Rattle.contact.specs.Contact.{Lists, lists, longEnough}
 use Rattle.contact.specs.declared.ContactAt.{ContactAt}
 use Rattle.contact.proofs.Placed.{checkSays, Placed, check-says, check-placed}
@@ -50,7 +50,7 @@ read c = learn (checkSays (row (checked c))) (says (checked c)) (c .before .befo
 enough : (c : tie.After-long-enough) → longEnough (contactFrom (row (checked c)) (at c)) (lent (checked c)) ≡ c .long-enough .result
 enough c =
     let k = checked c in
-    let places : Places (row k) (at c) = subst (Placed (row k)) (c .before .before .check .given .1) (check-placed (row k) (by k) (start k .args .version) (k .check-contact .ensures)) in
+    let places : Offsets (row k) (at c) = subst (Placed (row k)) (c .before .before .check .given .1) (check-placed (row k) (by k) (start k .args .version) (k .check-contact .ensures)) in
     counts-are (row k) (by k) (at c) places (lent k) ∙ sym (c .long-enough .ensures)
 
 asked : (c : tie.After-long-enough) {t : Bool} → c .long-enough .result ≡ t

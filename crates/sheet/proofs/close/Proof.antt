@@ -16,7 +16,7 @@ stopped-requires : tie.Need-stopped-requires
 stopped-requires c κs = search needs
 
 returns : tie.Need-returns
-unfolding machine.closed machine.closedPlaces
+unfolding machine.closed machine.closedRecords
 returns c =
     let t = c .before in
     let r = t .before in
@@ -38,7 +38,7 @@ same-length : tie.Need-same-length
 same-length c = search needs
 
 returns-2 : tie.Need-returns-2
-unfolding machine.closed machine.closedPlaces
+unfolding machine.closed machine.closedRecords
 returns-2 c =
     let p = c .before .before .before in
     let t = p .before .before in
@@ -51,7 +51,7 @@ stopped-requires-2 : tie.Need-stopped-requires-2
 stopped-requires-2 c κs = search needs
 
 returns-3 : tie.Need-returns-3
-unfolding machine.closed machine.closedPlaces
+unfolding machine.closed machine.closedRecords
 returns-3 c =
     let t = c .before in
     let r = t .before .before in

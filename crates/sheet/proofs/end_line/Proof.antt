@@ -13,7 +13,7 @@ same-length : tie.Need-same-length
 same-length c = search needs
 
 returns : tie.Need-returns
-unfolding machine.endStep machine.endPlaces
+unfolding machine.endStep machine.endRecords
 returns c =
     let x = c .before .before in
     let is = eq-eqb _ _ (x .before .before .if1 .taken) in
@@ -23,7 +23,7 @@ stopped-requires : tie.Need-stopped-requires
 stopped-requires c κs = search needs
 
 returns-2 : tie.Need-returns-2
-unfolding machine.endStep machine.endPlaces
+unfolding machine.endStep machine.endRecords
 returns-2 c =
     let t = c .before in
     let high = ne-eqb _ _ (t .before .if1 .left) in
@@ -33,7 +33,7 @@ stopped-requires-2 : tie.Need-stopped-requires-2
 stopped-requires-2 c κs = search needs
 
 returns-3 : tie.Need-returns-3
-unfolding machine.endStep machine.endPlaces
+unfolding machine.endStep machine.endRecords
 returns-3 c =
     let t = c .before in
     let w = t .before .before in
@@ -44,7 +44,7 @@ stopped-requires-3 : tie.Need-stopped-requires-3
 stopped-requires-3 c κs = search needs
 
 returns-4 : tie.Need-returns-4
-unfolding machine.endStep machine.endPlaces
+unfolding machine.endStep machine.endRecords
 returns-4 c =
     let t = c .before in
     let w = t .before .before in
@@ -55,7 +55,7 @@ stopped-requires-4 : tie.Need-stopped-requires-4
 stopped-requires-4 c κs = search needs
 
 returns-5 : tie.Need-returns-5
-unfolding machine.endStep machine.endPlaces
+unfolding machine.endStep machine.endRecords
 returns-5 c =
     let w = c .before in
     let high = ne-eqb _ _ (w .before .before .if1 .left) in

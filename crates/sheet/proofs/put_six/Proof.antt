@@ -25,65 +25,65 @@ stores l at a b c d e f =
 wide-requires : tie.Need-wide-requires
 wide-requires c κs = search needs
 
-mul-places : tie.Need-mul-places
-mul-places c = search needs
+mul-records : tie.Need-mul-records
+mul-records c = search needs
 
-slice-write-places : tie.Need-slice-write-places
-slice-write-places c = search needs
+slice-write-records : tie.Need-slice-write-records
+slice-write-records c = search needs
 
 id-in-requires : tie.Need-id-in-requires
 id-in-requires c κs = search needs
 
-add-places : tie.Need-add-places
-add-places c = search needs
+add-records : tie.Need-add-records
+add-records c = search needs
 
-mul-places-2 : tie.Need-mul-places-2
-mul-places-2 c = search needs
+mul-records-2 : tie.Need-mul-records-2
+mul-records-2 c = search needs
 
-slice-write-places-2 : tie.Need-slice-write-places-2
-slice-write-places-2 c = simp length-set (omega arith)
+slice-write-records-2 : tie.Need-slice-write-records-2
+slice-write-records-2 c = simp length-set (omega arith)
 
-add-places-2 : tie.Need-add-places-2
-add-places-2 c = search needs
+add-records-2 : tie.Need-add-records-2
+add-records-2 c = search needs
 
-mul-places-3 : tie.Need-mul-places-3
-mul-places-3 c = search needs
+mul-records-3 : tie.Need-mul-records-3
+mul-records-3 c = search needs
 
-slice-write-places-3 : tie.Need-slice-write-places-3
-slice-write-places-3 c = simp length-set (omega arith)
+slice-write-records-3 : tie.Need-slice-write-records-3
+slice-write-records-3 c = simp length-set (omega arith)
 
 difference-requires : tie.Need-difference-requires
 difference-requires c κs = search needs
 
-add-places-3 : tie.Need-add-places-3
-add-places-3 c = search needs
+add-records-3 : tie.Need-add-records-3
+add-records-3 c = search needs
 
-mul-places-4 : tie.Need-mul-places-4
-mul-places-4 c = search needs
+mul-records-4 : tie.Need-mul-records-4
+mul-records-4 c = search needs
 
-slice-write-places-4 : tie.Need-slice-write-places-4
-slice-write-places-4 c = simp length-set (omega arith)
+slice-write-records-4 : tie.Need-slice-write-records-4
+slice-write-records-4 c = simp length-set (omega arith)
 
 msgno-in-requires : tie.Need-msgno-in-requires
 msgno-in-requires c κs = search needs
 
-add-places-4 : tie.Need-add-places-4
-add-places-4 c = search needs
+add-records-4 : tie.Need-add-records-4
+add-records-4 c = search needs
 
-mul-places-5 : tie.Need-mul-places-5
-mul-places-5 c = search needs
+mul-records-5 : tie.Need-mul-records-5
+mul-records-5 c = search needs
 
-slice-write-places-5 : tie.Need-slice-write-places-5
-slice-write-places-5 c = simp length-set (omega arith)
+slice-write-records-5 : tie.Need-slice-write-records-5
+slice-write-records-5 c = simp length-set (omega arith)
 
-add-places-5 : tie.Need-add-places-5
-add-places-5 c = search needs
+add-records-5 : tie.Need-add-records-5
+add-records-5 c = search needs
 
-mul-places-6 : tie.Need-mul-places-6
-mul-places-6 c = search needs
+mul-records-6 : tie.Need-mul-records-6
+mul-records-6 c = search needs
 
-slice-write-places-6 : tie.Need-slice-write-places-6
-slice-write-places-6 c = simp length-set (omega arith)
+slice-write-records-6 : tie.Need-slice-write-records-6
+slice-write-records-6 c = simp length-set (omega arith)
 
 same-length : tie.Need-same-length
 same-length c = search needs
@@ -99,25 +99,25 @@ put-six-spec =
     tie.close
     (tie.spec
     wide-requires
-    mul-places
-    slice-write-places
+    mul-records
+    slice-write-records
     id-in-requires
-    add-places
-    mul-places-2
-    slice-write-places-2
-    add-places-2
-    mul-places-3
-    slice-write-places-3
+    add-records
+    mul-records-2
+    slice-write-records-2
+    add-records-2
+    mul-records-3
+    slice-write-records-3
     difference-requires
-    add-places-3
-    mul-places-4
-    slice-write-places-4
+    add-records-3
+    mul-records-4
+    slice-write-records-4
     msgno-in-requires
-    add-places-4
-    mul-places-5
-    slice-write-places-5
-    add-places-5
-    mul-places-6
-    slice-write-places-6
+    add-records-4
+    mul-records-5
+    slice-write-records-5
+    add-records-5
+    mul-records-6
+    slice-write-records-6
     same-length
     returns)

@@ -23,10 +23,10 @@ unfolding machine.fed
 fed-end chunk i h le = rw (drop-of-length-le chunk le)
 
 abbrev Inv-loop : tie.InvT-loop
-Inv-loop chunk run₀ places₀ s₀ i₀ run places s i = (i ≤ length chunk) × (fed (drop i chunk) (held s run places) ≡ fed chunk (held s₀ run₀ places₀)) × (length run ≡ length run₀) × (length places ≡ length places₀)
+Inv-loop chunk run₀ records₀ s₀ i₀ run records s i = (i ≤ length chunk) × (fed (drop i chunk) (held s run records) ≡ fed chunk (held s₀ run₀ records₀)) × (length run ≡ length run₀) × (length records ≡ length records₀)
 
 abbrev μ-loop : tie.MeasureT-loop
-μ-loop chunk run₀ places₀ s₀ i₀ run places s i = length chunk - i
+μ-loop chunk run₀ records₀ s₀ i₀ run records s i = length chunk - i
 
 -- the pairs that stand from the i-th byte on
 found : (c : tie.After-pairs-in Inv-loop μ-loop) → let l = c .before .before .before in
@@ -95,8 +95,8 @@ loop-again c =
     let n = p .pairs-in .result in
     let chunk = l .before .before .before .before .args .chunk .now in
     let after : drop (l .loop .i + 2 * n) chunk ≡ drop (2 * n) (drop (l .loop .i) chunk) = sym (drop-drop (2 * n) (l .loop .i) chunk) in
-    let h = held (l .loop .s) (l .loop .run) (l .loop .places) in
-    (found p .stand, rw after (ap (fed (drop (2 * n) (drop (l .loop .i) chunk))) (t .take-pairs .ensures (l .loop .places) ∙ ap (λ (x : List ℕ). fed x h) (lent-are a)) ∙ fed-split (2 * n) (drop (l .loop .i) chunk) h ∙ l .loop .inv .1), search needs, search needs)
+    let h = held (l .loop .s) (l .loop .run) (l .loop .records) in
+    (found p .stand, rw after (ap (fed (drop (2 * n) (drop (l .loop .i) chunk))) (t .take-pairs .ensures (l .loop .records) ∙ ap (λ (x : List ℕ). fed x h) (lent-are a)) ∙ fed-split (2 * n) (drop (l .loop .i) chunk) h ∙ l .loop .inv .1), search needs, search needs)
 
 shared-slice-read-b : tie.Need-shared-slice-read-b Inv-loop μ-loop
 shared-slice-read-b c = search needs

@@ -10,17 +10,17 @@ use Rattle.statement.proofs.read_all.Statement.{statement}
 use Rattle.statement.proofs.read_all.Tie as tie
 
 abbrev Inv-loop : tie.InvT-loop
-Inv-loop chunk₀ run₀ places₀ reading₀ turns₀ chunk run places reading turns =
-    (length chunk ≡ length chunk₀) × (length run ≡ length run₀) × (length places ≡ length places₀) × Reads run₀ places₀ reading run places turns
+Inv-loop chunk₀ run₀ records₀ reading₀ turns₀ chunk run records reading turns =
+    (length chunk ≡ length chunk₀) × (length run ≡ length run₀) × (length records ≡ length records₀) × Reads run₀ records₀ reading run records turns
 
 abbrev μ-loop : tie.MeasureT-loop
-μ-loop chunk₀ run₀ places₀ reading₀ turns₀ chunk run places reading turns = turns
+μ-loop chunk₀ run₀ records₀ reading₀ turns₀ chunk run records reading turns = turns
 
 begin-requires : tie.Need-begin-requires Inv-loop μ-loop
 begin-requires c κs = search needs
 
 loop-holds : tie.Need-loop-holds Inv-loop μ-loop
-loop-holds c = let a = c .before .before .before .before .args in (refl, refl, refl, reads-start (a .run .now) (a .places .now) (c .begin .ensures) refl)
+loop-holds c = let a = c .before .before .before .before .args in (refl, refl, refl, reads-start (a .run .now) (a .records .now) (c .begin .ensures) refl)
 
 read-some-requires : tie.Need-read-some-requires Inv-loop μ-loop
 read-some-requires c κs = search needs

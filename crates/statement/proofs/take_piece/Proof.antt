@@ -45,7 +45,7 @@ returns c =
     let got = toZ-ofZ (s .fits .got) in
     let count = n .count .ensures .1 ∙ ap (λ (z : ℤ). clamped z (length (a .chunk .now))) got in
     record {
-      fed-is = k .read-chunk .ensures ∙ ap (λ (m : ℕ). fed (take m (a .chunk .now)) (held (a .state) (a .run .now) (a .places .now))) count;
+      fed-is = k .read-chunk .ensures ∙ ap (λ (m : ℕ). fed (take m (a .chunk .now)) (held (a .state) (a .run .now) (a .records .now))) count;
       more-is = ap (ltb 0) count;
       failed-is = ap (λ (z : ℤ). ltZ z (pos 0)) got ∙ below-zero (a .got);
     }

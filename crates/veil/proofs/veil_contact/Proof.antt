@@ -10,13 +10,13 @@ use Rattle.layout.specs.RowLaws.{Bytes}
 use Rattle.layout.proofs.At.{learn, typed}
 use Rattle.rows.specs.Rows.{contact}
 use Rattle.put.proofs.Put.{_then_, wrote-long}
-use Rattle.parts.specs.Parts.{paired, keys, chained, numbers}
-use Rattle.parts.specs.Places.{pairedFrom, numbersFrom}
-use Rattle.contact.specs.Check.{contactFrom, Places, checkRefusal}
+use Rattle.contact_parts.specs.Parts.{paired, keys, chained, numbers}
+use Rattle.contact_parts.specs.Offsets.{pairedFrom, numbersFrom}
+use Rattle.contact.specs.Check.{contactFrom, Offsets, checkRefusal}
 use Rattle.contact.proofs.Placed.{Placed, checkSays, check-says, check-placed}
 use Rattle.contact.specs.declared.ContactAt.{ContactAt}
-use Rattle.veil_parts.specs.Veiled.{Stands, veiledKeys, veiledChained}
-use Rattle.veil_parts.proofs.Whole.{paired-stands, veiled-copy, copy-long, numbers-run}
+use Rattle.veil_contact.specs.Veiled.{Stands, veiledKeys, veiledChained}
+use Rattle.veil_contact.proofs.Whole.{paired-stands, veiled-copy, copy-long, numbers-run}
 use Rattle.veil.proofs.Copied.{copy-refused, copy-short, copy-stored}
 use borrow.Author.Needs.{needs}
 use Rattle.veil.proofs.veil_contact.Statement.{statement}
@@ -44,7 +44,7 @@ says k = let a = k .before .before .before .args in check-says (a .row .now) (ty
 read : (f : tie.After-known-told) → readRow (contact (start f .args .version)) (row f) ≡ accepted (contactFrom (row f) (at f))
 read f = learn (checkSays (row f)) (says (checked f)) (f .before .check .given .1)
 
-places : (f : tie.After-known-told) → Places (row f) (at f)
+places : (f : tie.After-known-told) → Offsets (row f) (at f)
 places f = subst (Placed (row f)) (f .before .check .given .1) (check-placed (row f) (by f) (start f .args .version) (checked f .check-contact .ensures))
 
 stands : (f : tie.After-known-told) → Stands paired (row f) 0 (pairedFrom (row f) (at f .paired))

@@ -1,7 +1,0 @@
--- What is proved of the S lines and the calls.
--- Assumes nothing.
-use Rattle.report_laws.specs.Proved.{LineLaws}
-use Rattle.report_laws.proofs.Lines.{lines-said}
-
-pub proved : LineLaws
-proved = record { lines-said = lines-said }

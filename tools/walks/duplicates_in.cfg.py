@@ -1,0 +1,11 @@
+crate = "restore_duplicates"
+fn = "duplicates_in"
+PASS = "(now entries) last part best"
+TURN = "{i} {s} {next} {less} {so}"
+invariant = f"Pass {PASS} {{bits}} {{i}} {{s}}"
+start = f"starts {PASS} (now bits)"
+next = f"goes-on {PASS} {{bits}} {{next_bits}} {TURN} {{told}}"
+measure = "{s} - {i}"
+nearer = f"nearer {PASS} {{bits}} {TURN} ({{told}} .0)"
+ends = f"ends {PASS} {{bits}} {{i}} {{s}} {{over}} {{so}}"
+uses = ["use Rattle.restore_duplicates.proofs.Passes.{Pass, starts, goes-on, nearer, ends}"]
