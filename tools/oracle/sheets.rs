@@ -120,7 +120,7 @@ pub fn compare_rust(seed: u64, times: u64) -> bool {
     faults.is_empty() && all
 }
 
-/// The Rust refuses without number and place, and 33 is left aside.
+/// The Rust refuses without number and place, and 33 is left out.
 fn same(model: &str, rust: &str) -> bool {
     let unnumbered = model.starts_with("R,") && rust == "R,?,?\n";
     model == rust || unnumbered || model.starts_with("R,33,")

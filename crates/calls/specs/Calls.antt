@@ -62,6 +62,6 @@ openedFor (mark.Opened id) = asking.Opened
 abbrev pub askingFor : Call → Mark → Asking
 askingFor c m = byOpen (λ id. storedFor m) (openedFor m) c
 
--- ---- what is noted of the store
+-- ---- what is known of the store
 abbrev pub factsAs : Passed → (queued : ℕ) → ContactId → Facts
 factsAs p queued id = record { sought = p .sought; queued = queued; id = id; gate = gateOf (p .passed) }

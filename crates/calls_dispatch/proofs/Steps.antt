@@ -233,7 +233,7 @@ module _ (m : Mark) (run : List ℕ) (es : List Entry) (c : Contact) (l : Lists)
           ∙ ap (λ (j : ContactId). steps.opening (j .0) h (contactIn es (j .0))) (its e)
           ∙ store-yes m _ (answered e))
 
-  -- ---- so what a step leaves is the ledger's, where what was noted of the store is right
+  -- ---- so what a step leaves is the ledger's, where the facts are right of the store
   acted-is : (call : Call) (facts : Facts) → OfStore call h facts → facts .gate ≡ Through → ContactTyped c → ListsTyped l
       → let d = acted call facts m run c l out in leftOf (d .left) h (d .lists) (d .out) ≡ step HIGHEST (callOf call) h
   acted-is (Open id) facts o so fields typed = open-is facts o so refl (refl, refl)

@@ -108,7 +108,7 @@ countsQueued Take = false
 countsQueued Statement = true
 countsQueued Write = false
 
--- what is noted is right of what is handed in
+-- the facts are right of what is handed in
 pub record OfStore (c : Call) (h : Input) (k : Facts) : Type 0 where
   pub gate : k .gate ≡ gateOf (passedFor c (h .mark) h)
   pub which : k .id ≡ idFor c (h .mark)

@@ -59,7 +59,7 @@ module _ (N : ℕ) (wide : N + 1 ≡ 256 ^ 4) where
   requests-typed g [] l = tt
   requests-typed g (t ∷ ts) l = (blank-typed (t .call) (l .0), requests-typed (lastLeft g (step N (t .call) (t .input))) ts (l .2))
 
-  -- a list that serves these wishes is paired with the first
+  -- a list that serves these requests is paired with the first
   paired : (ts us : List Turn) → Each (λ t. Blankable (t .call)) ts → Serves (requests ts) us → Paired ts us
   unfolding requests
   paired [] [] a s = tt

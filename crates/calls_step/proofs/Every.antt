@@ -80,7 +80,7 @@ module _ (N : ℕ) (wide : N + 1 ≡ 256 ^ 4) where
     on-opened statement t = statement-good N wide run es o ls out sound same
     on-opened write t = write-good N wide run es o ls out sound same
 
-  -- ---- every call, on a hand-in that stands for the ledger's state
+  -- ---- every call, on an input that stands for the ledger's state
   pub call-good : (c : Call) → Typed N c → (l : Ledger) → SoundLedger N l → (h : Input) → StandsFor N l h → Agree c l h
   call-good c t nothing s h e = subst (Agree c nothing) (e .stands) (on-nothing (h .run) (h .entries) (h .contact) (h .lists) (h .out) c t)
   call-good c t (restored run es) s h e = subst (Agree c (restored run es)) (e .stands) (on-restored run es (h .contact) (h .lists) (h .out) s c t)
@@ -107,7 +107,7 @@ module _ (N : ℕ) (wide : N + 1 ≡ 256 ^ 4) where
       let good = call-good (t .call) (legal .0) l (k .sound) (t .input) (continued-stands N l g (t .input) (k .left) (legal .1)) in
       (good .agrees, all-agree ts (ledger N (t .call) (lentOf (t .input)) l .state) (lastLeft g (step N (t .call) (t .input))) (kept-next l g (t .input) _ _ k good) (legal .2))
 
-  -- what holds of each call on a hand-in that stands for a sound state holds of each turn of a legal list
+  -- what holds of each call on an input that stands for a sound state holds of each turn of a legal list
   pub each-turn : (P : Turn → Type 0) → ((c : Call) → Typed N c → (l : Ledger) → SoundLedger N l → (h : Input) → StandsFor N l h → P (record { call = c; input = h }))
       → (ts : List Turn) (l : Ledger) (g : Input) → Kept l g → Legal N g ts → Each P ts
   each-turn P f [] l g k legal = tt

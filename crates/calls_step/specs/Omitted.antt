@@ -1,5 +1,5 @@
 -- How 34 can be asked of an open contact without its row being written: of the fields by what a writer asks, and of the entries with the contact's row left
--- aside. That this is question 34 is proved (Proved.antt), so it need not be believed; the code's contracts may cite it. Assumes nothing.
+-- out. That this is question 34 is proved (Proved.antt), so it need not be believed; the code's contracts may cite it. Assumes nothing.
 use Prim.Native.Nat.{ℕ}
 use mathlib.Core.List.{List}
 use mathlib.Core.Bool.{Bool, true, false, _&&_}

@@ -68,7 +68,7 @@ module _ (N : ℕ) where
   SoundLedger (restored run es) = SoundStore run es
   SoundLedger (opened run es o) = Sound run es o
 
-  -- ---- a hand-in stands for the ledger's state: it is what would stand there by it
+  -- ---- an input stands for the ledger's state: it is what would stand there by it
   pub record StandsFor (l : Ledger) (h : Input) : Type 0 where
     pub stands : standing N l 0 (h .out) h ≡ h
 

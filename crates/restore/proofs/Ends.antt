@@ -54,7 +54,7 @@ ends-at run es omitted (Refused number place) at = ap (λ (a : Asked). granting 
 pub answers : (run : List ℕ) (es : List Entry) (omitted : Omitted) (end : Across) (r : Restored) → At run es omitted (length es) end → r ≡ ended end → r ≡ questioned run es omitted
 answers run es omitted end r at is-r = is-r ∙ ends-at run es omitted end at
 
--- ---- restore: with nothing aside
+-- ---- restore: with nothing left out
 restored : (run : List ℕ) (es : List Entry) → questioned run es Nothing ≡ answered (restore (storeOf run es))
 restored run es = go (asked (storeOf run es))
   where

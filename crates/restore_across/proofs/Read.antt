@@ -103,7 +103,7 @@ reads version row by (refusedBy q) e = (ap (ownerRead version) (sym e), refused 
 pub owner-read : (version : ℕ) (row : List ℕ) → Bytes row → {r known : SentCheck} → r ≡ sentChecked (checked version (readRow (rows.contact version) row)) → r ≡ known → Reads version row known
 owner-read version row by said known = subst (Reads version row) (sym said ∙ known) (reads version row by (readRow (rows.contact version) row) refl)
 
--- ... and of the one aside
+-- ... and of the one left out
 pub omitted-for : (omitted : Omitted) (row : List ℕ) → OwnerStands (omittedSeen omitted) row (ownerOmitted omitted)
 omitted-for left.Nothing row = bare row 0
 omitted-for (left.Contact id sent) row = bare row sent

@@ -13,7 +13,7 @@ use Rattle.store.specs.Kinds.{CONTACT, Kind, contact, kindOf, layoutOf, 
 use Rattle.store.specs.Store.{storeOf, partOf, seen}
 use Rattle.store.specs.Omitted.{isOmitted, omittedSeen, seenOmitted}
 
--- only a contact is aside
+-- only a contact is left out
 pub not-omitted : (omitted : Omitted) (e : Entry) (k : ℕ) → e .kind ≡ k → eqb k CONTACT ≡ false → isOmitted omitted e ≡ false
 not-omitted Nothing e k is other = refl
 not-omitted (Contact id sent) e k is other = ap (λ (n : ℕ). eqb n CONTACT && eqb (e .id) (id .0)) is ∙ ap (λ (t : Bool). t && eqb (e .id) (id .0)) other

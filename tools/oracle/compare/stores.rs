@@ -214,7 +214,7 @@ fn rattle_faults(store: &Store, due: &Answer) -> Vec<String> {
 }
 
 /// Whether the Rust accepts what it can be asked about, and what differs: acceptance, and on acceptance every row written
-/// again, next_contact and next_slot. 33 is left aside.
+/// again, next_contact and next_slot. 33 is left out.
 fn rust_faults(store: &Store, due: &Answer) -> (Option<bool>, Vec<String>) {
     let mut fit = None;
     let mut due = *due;

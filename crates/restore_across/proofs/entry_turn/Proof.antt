@@ -1,4 +1,4 @@
--- `restore_across::settle` meets its contract.
+-- `restore_across::entry_turn` meets its contract.
 use mathlib.Core.Path.{_≡_, refl, ap}
 use borrow.Author.Needs.{needs}
 use Rattle.store.specs.Kinds.{Kind, device, contact, queued, courier, unknown, kindOf}
