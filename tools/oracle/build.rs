@@ -94,7 +94,7 @@ pub fn card(random: &mut Random, kci: bool, name: usize) -> Card {
         caps: random.below(2) as u8 + if kci { 2 } else { 0 },
         beacon_day: random.number(),
         beacon_key: random.array(),
-        name: utf8::of_size(random.pick(&utf8::SCRIPTS), name),
+        name: names::of_size(random.pick(&names::SCRIPTS), name),
         static_key: kci.then(|| random.bytes(1184)),
     }
 }

@@ -67,14 +67,14 @@ fn compare(tally: &mut Tally, row: &[u8]) {
 fn fitting(random: &mut Random, visit: &mut impl FnMut(&[u8])) {
     for caps in 0..4 {
         for size in 0..=48 {
-            for script in utf8::SCRIPTS {
-                let row = Parts::fitting(caps, &utf8::of_size(script, size)).row(random);
+            for script in names::SCRIPTS {
+                let row = Parts::fitting(caps, &names::of_size(script, size)).row(random);
                 visit(&row);
                 extended(&row, visit);
                 every_value(&row, 0, visit);
                 every_value(&row, NAME_LENGTH_AT, visit);
                 // Cards with a key are long: every byte of one script's is enough.
-                if caps & CAPS_KCI == 0 || script == utf8::SCRIPTS[0] {
+                if caps & CAPS_KCI == 0 || script == names::SCRIPTS[0] {
                     damaged(&row, visit);
                     truncated(&row, visit);
                 }
@@ -159,7 +159,7 @@ fn key_sizes(random: &mut Random, visit: &mut impl FnMut(&[u8])) {
 
 /// Each character, whole or broken, at every place of a name, at its end and before more.
 fn pieces_in_names(random: &mut Random, visit: &mut impl FnMut(&[u8])) {
-    for piece in utf8::pieces() {
+    for piece in names::pieces() {
         for before in 0..=48 - piece.len() {
             let mut name = vec![b'x'; before];
             name.extend_from_slice(piece);
@@ -177,7 +177,7 @@ fn pieces_in_names(random: &mut Random, visit: &mut impl FnMut(&[u8])) {
 
 /// A random card with up to three things done to it.
 fn generated(random: &mut Random) -> Vec<u8> {
-    let name = utf8::of_size(random.pick(&utf8::SCRIPTS), random.below(49));
+    let name = names::of_size(random.pick(&names::SCRIPTS), random.below(49));
     let mut row = Parts::fitting(random.below(4) as u8, &name).row(random);
     for _ in 0..random.below(4) {
         change(&mut row, random);

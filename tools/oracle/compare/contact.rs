@@ -77,7 +77,7 @@ fn cards(random: &mut Random, compare: &mut Compare<Contact>) {
             put(&card, length);
         }
     }
-    for name in utf8::pieces() {
+    for name in names::pieces() {
         let mut card = card[..37].to_vec();
         card.push(name.len() as u8);
         card.extend(name);

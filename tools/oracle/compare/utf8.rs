@@ -48,7 +48,7 @@ fn four_bytes(visit: &mut impl FnMut(&[u8])) {
 
 /// Characters, whole or broken, next to each other.
 fn pairs_and_triples(visit: &mut impl FnMut(&[u8])) {
-    let pieces = utf8::pieces();
+    let pieces = names::pieces();
     for first in &pieces {
         for second in &pieces {
             visit(&[*first, *second].concat());
@@ -64,10 +64,10 @@ fn random_names(mut random: Random, visit: &mut impl FnMut(&[u8])) {
     for _ in 0..RANDOM_NAMES {
         let mut name = Vec::new();
         for _ in 0..random.below(20) {
-            name.extend_from_slice(random.pick(&utf8::WHOLE));
+            name.extend_from_slice(random.pick(&names::WHOLE));
         }
         match random.below(4) {
-            0 => name.extend_from_slice(random.pick(&utf8::BROKEN)),
+            0 => name.extend_from_slice(random.pick(&names::BROKEN)),
             1 if !name.is_empty() => {
                 let at = random.below(name.len());
                 name[at] = random.byte();
