@@ -181,7 +181,7 @@ fn keys_differ(bytes: &[u8], first: usize, count: usize, bits: &mut [u64]) -> bo
     true
 }
 
-// The same with a filter of 512 bytes for few keys, and of 64 KB for many.
+// The same with a filter of 512 bytes for few keys, and of 4 KB for many: a larger frame would be touched page by page wherever a contact row is checked.
 fn few_differ(bytes: &[u8], first: usize, count: usize) -> bool
     requires { ⌜ KeysStand count (drop first (now bytes)) ⌝ }
     ensures { λ r. ⌜ r ≡ distinct eqb (keyNumbers count (drop first (now (bytes .entry)))) ⌝ }
@@ -194,7 +194,7 @@ fn many_differ(bytes: &[u8], first: usize, count: usize) -> bool
     requires { ⌜ KeysStand count (drop first (now bytes)) ⌝ }
     ensures { λ r. ⌜ r ≡ distinct eqb (keyNumbers count (drop first (now (bytes .entry)))) ⌝ }
 {
-    let mut bits: [u64; 8192] = [0; 8192];
+    let mut bits: [u64; 512] = [0; 512];
     keys_differ(bytes, first, count, &mut bits)
 }
 
