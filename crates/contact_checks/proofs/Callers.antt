@@ -70,7 +70,7 @@ canonical-lent k from l h = alone (canonical from (pairs k l)) (none-above-pairs
 abbrev key : Form Skipped
 key = group skipped
 
--- a key that fills its key is read in front of the others as it is by itself
+-- a key that fills its place is read in front of the others as it is by itself
 in-front : (l : List ℕ) (k : Skipped) (rest : List ℕ) → Bytes l → 46 ≤ length l → key .read (take 46 l) ≡ value k rest → key .read l ≡ value k (drop 46 l)
 in-front l k rest by h e =
     let by46 = bytes-take 46 l by in

@@ -61,7 +61,7 @@ module _ {B C : Type 0} (width : List ℕ → ℕ) (cell : List ℕ → C) (of :
         go (value bs rest) e p = many count (drop first row) bs rest e
         go (refused q) e p = absurd (let z : _≡_ {A = ℕ} 0 1 = cc in omega arith)
 
--- the records of lent keys
+-- the items of lent places
 module _ {B C : Type 0} (w : ℕ) (cell : List ℕ → C) (of : B → C) (f : Form B) (shows : (l : List ℕ) (b : B) (rest : List ℕ) → f .read (take w l) ≡ value b rest → of b ≡ cell l) where
   in-places : (n : ℕ) (l : List ℕ) (bs : List B) (rest : List ℕ) → w * n ≤ length l → readPlaces w f n l ≡ value bs rest → Many (λ l. w) cell of n l bs
   unfolding places.readPlaces

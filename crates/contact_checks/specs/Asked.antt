@@ -11,7 +11,7 @@ use Rattle.rows.specs.Checks.{oneChainAtMost, gensDistinct}
 use Rattle.contact_lists.specs.Places.{readPlaces}
 use Rattle.contact_checks.specs.declared.ChainsAsked.{ChainsAsked}
 
--- `count` records stand in lent keys of w bytes
+-- `count` items stand in lent places of w bytes
 pub record Placed {B : Type 0} (w : ℕ) (f : Form B) (lent : List ℕ) (count : ℕ) : Type 0 where
   pub room : w * count ≤ length lent
   pub records : List B

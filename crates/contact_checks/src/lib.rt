@@ -198,7 +198,7 @@ fn many_differ(bytes: &[u8], first: usize, count: usize) -> bool
     keys_differ(bytes, first, count, &mut bits)
 }
 
-// 19, of skipped keys of a row, or of a lent list, whose keys are a row's bytes. Keys in rising order are seen in one pass.
+// 19, of skipped keys of a row, or of a lent list, whose places hold a row's bytes. Keys in rising order are seen in one pass.
 pub fn skipped_distinct(bytes: &[u8], first: usize, count: usize) -> bool
     requires { ⌜ Stands (group skipped) (now bytes) first count ⌝ }
     ensures { λ r. ⌜ r ≡ keysDistinct (items (group skipped) count (drop first (now (bytes .entry)))) ⌝ }

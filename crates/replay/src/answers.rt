@@ -32,7 +32,7 @@ pub(super) fn print(written: Written, line: &[u8]) -> bool {
     false
 }
 
-// The open contact, its fields as a row, and the records of the list above contiguous that were written.
+// The open contact, its fields as a row, and the places of the list above contiguous that were written.
 fn opened_state(
     id: ContactId,
     contact: Contact,

@@ -338,7 +338,7 @@ fn entry_records() -> [u64; 6144]
     [0; 6144]
 }
 
-// The records of 256 chains, of 500 skipped keys, of 7,680 pairs or 15,360 numbers.
+// The places of 256 chains, of 500 skipped keys, of 7,680 pairs or 15,360 numbers.
 fn chain_places() -> [u8; 13056]
     ensures { λ r. ⌜ 13056 ≡ length r ⌝ }
 {

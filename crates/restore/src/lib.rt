@@ -318,6 +318,7 @@ fn many_if(
     after
 }
 
+// The same of most entries: the second caller of `many_turns`.
 fn most_if(
     run: &[u8],
     entries: &[Entry],

@@ -228,7 +228,7 @@ pub fn tried(e: Entry, a: Entry, latest: usize, b: Entry, hint: usize, upto: usi
     place_or(e, a, latest, upto, other)
 }
 
-// From where on it is looked for: from no place where it was found at p, else from `latest`.
+// From where on it is looked for: nowhere where it was found at p, else from `latest` on.
 pub fn near_limit(p: usize, latest: usize, upto: usize) -> usize
     ensures { λ r. ⌜ r ≡ nearLimit p latest upto ⌝ }
 {

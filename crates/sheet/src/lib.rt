@@ -1,7 +1,7 @@
 // The sheet, read byte by byte (questions 41 to 44): lines `D,version,blob`, `C,contact,version,blob`, `Q,contact,msgno,version,blob`,
 // `K,slot,version,blob`, each with its LF. A chunk of any length may be handed in at a time; the state is all that is kept between chunks.
-// Blob bytes go to a lent run, and of each line six numbers go to lent records: kind, id, start, length, msgno, version. A run shorter than
-// 61,440 bytes, or records for fewer than 512 lines, lower the limits of 44; no place and no byte past them is touched.
+// Blob bytes go to a lent run, and of each line six numbers, its record, go to a lent list: kind, id, start, length, msgno, version. A run shorter than
+// 61,440 bytes, or a list for fewer than 512 records, lower the limits of 44; no number and no byte past them is touched.
 // 41 is answered as soon as it is sure. 42 and 43 wait for the line's end, since its later bytes can still make it 41.
 use ascii::Said;
 use layout::question;
@@ -35,7 +35,7 @@ pub const BLOB_BYTES: usize = 61440;
 
 pub const LINES: usize = 512;
 
-// How many numbers stand in the records for a line.
+// How many numbers a record has.
 pub const RECORD: usize = 6;
 
 // The highest number of 32 bits.

@@ -16,7 +16,7 @@ ghost use Rattle.sheet.specs.Sheet.{«BLOB_BYTES», LINES};
 ghost use Rattle.sheet.specs.Machine.{atLine, held};
 ghost use Rattle.statement.specs.Pieces.{Taken, ReadOne, ReadAll, Reports};
 
-// How many numbers there are records for.
+// How many numbers the records have.
 const RECORDS: usize = RECORD * LINES;
 
 // What was read so far. After the last piece, or after a read that failed, there is no more.

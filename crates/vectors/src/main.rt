@@ -248,7 +248,7 @@ fn row(letter: u8, case: &[u8], bytes: &mut [u8], again: &mut [u8]) -> bool {
 // How many bytes an entry has in a case.
 const ENTRY: usize = 36;
 
-// How many numbers the records of a full table are.
+// How many numbers the records of a full table have.
 const RECORDS: usize = 3072;
 
 // A big-endian number of four bytes; 0 where they are not all there.

@@ -1,4 +1,4 @@
--- `vectors::places_of` is safe and ends: there are no more entries than a table has records for. The measure is how many records are left.
+-- `vectors::records_of` is safe and ends: there are no more entries than a table has records for. The measure is how many records are left.
 -- Assumes nothing.
 use Prim.Native.Nat.{_-_, _*_, _≤_}
 use borrow.Author.Needs.{needs}
