@@ -11,10 +11,10 @@ use Rattle.store.specs.Store.{entryAt, partOf}
 use Rattle.store.specs.Duplicates.{firstDuplicate}
 use Rattle.restore_across.specs.declared.Owner.{Owner}
 use Rattle.restore_across.specs.declared.Across.{Across}
-use Rattle.restore_across.specs.Owner.{ownerFound, OwnerStands}
+use Rattle.restore_across.specs.Owner.{ownerFound, OwnerStands, Known}
 use Rattle.restore_across.specs.Across.{OwnerAt, ownerLimit, Reusable, entryTurn}
 use Rattle.restore_across.specs.At.{At}
-use Rattle.restore_across.proofs.Laws.{reusable, turned}
+use Rattle.restore_across.proofs.Laws.{reusable, known, turned}
 
 -- ---- one turn: what is found is what the definitions name
 module _ (run : List ℕ) (es : List Entry) (omitted : Omitted) (duplicate i : ℕ) (s : Across) (asks : (duplicate ≡ firstDuplicate es) × (i < length es) × At run es omitted i s)
@@ -30,6 +30,9 @@ module _ (run : List ℕ) (es : List Entry) (omitted : Omitted) (duplicate i : �
 
   pub may-reuse : Reusable run omitted c p limit s
   may-reuse = subst (λ (x : Entry × ℕ). Reusable run omitted (x .0) p (x .1) s) (sym (λ k. (is-c k, limited k))) (reusable run es omitted i s (asks .1) (asks .2) p its-owner)
+
+  pub is-known : p < limit → Known run omitted c
+  is-known = subst (λ (x : Entry × ℕ). p < x .1 → Known run omitted (x .0)) (sym (λ k. (is-c k, limited k))) (known run es omitted i s (asks .1) (asks .2) p its-owner)
 
   pub entryTurn-at : (o : Owner) (r : Across) → OwnerStands (ownerFound run omitted c p limit) (partOf run c) o → r ≡ entryTurn run e c i p duplicate o s → At run es omitted (i + 1) r
   entryTurn-at o r stands is-r = subst (At run es omitted (i + 1)) (sym (is-r ∙ (λ k. entryTurn run (is-e k) (is-c k) i p (asks .0 k) o s)))

@@ -26,10 +26,10 @@ use Rattle.store.proofs.Duplicates.{acrossBy, no-duplicates, one-contact, kind-
 use Rattle.restore_across.specs.declared.Owner.{Owner}
 use Rattle.restore_across.specs.declared.Progress.{Progress}
 use Rattle.restore_across.specs.declared.Across.the-variants.{Going}
-use Rattle.restore_across.specs.Owner.{ownerSeen, OwnerStands}
+use Rattle.restore_across.specs.Owner.{ownerSeen, OwnerStands, Known}
 use Rattle.restore_across.specs.Across.{after, raised, depositorIn, nextContactIn, OwnerAt, ownerLimit, lowIn, Reusable, deviceTurn, contactTurn, queuedTurn, courierTurn, entryTurnAs}
 use Rattle.restore_across.specs.At.{readSo, sight, askedOf, Kept, KeptIn, At}
-use Rattle.restore_across.proofs.Steps.{turns-last, SoFar, so-far, first-device, device-first}
+use Rattle.restore_across.proofs.Steps.{turns-last, SoFar, so-far, first-device, device-first, contact-known}
 
 -- ---- a kind's number
 abbrev Numbered : Kind → ℕ → Type 0
@@ -209,3 +209,11 @@ module _ (run : List ℕ) (es : List Entry) (omitted : Omitted) (i : ℕ) (w : P
     owner-again l x =
         let is = is-of CONTACT (e .id) (entryAt es p) (found .hit l) .0 in
         subst (λ (n : ℕ). OwnerStands (ownerSeen run omitted (entryAt es n)) (partOf run (entryAt es n)) (w .owner)) (sym x) (kept .owner (subst (λ (n : ℕ). entryAt es n .kind ≡ CONTACT) x is))
+
+    -- ... and its row was accepted
+    pub owner-known : p < ownerLimit e i (Going w) → Known run omitted (entryAt es p)
+    owner-known l = contact-known run es omitted (all-so .read) p (below (eqb (e .kind) QUEUED) l) (is-of CONTACT (e .id) (entryAt es p) (found .hit l) .0)
+      where
+        below : (t : Bool) → p < cond t i 0 → p < length es
+        below true h = omega (arith, h, b)
+        below false h = absurd (omega (arith, h))

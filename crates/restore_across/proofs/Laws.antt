@@ -21,10 +21,10 @@ use Rattle.restore_across.specs.declared.Owner.{Owner}
 use Rattle.restore_across.specs.declared.Across.{Across}
 use Rattle.restore_across.specs.declared.Across.the-variants.{Going, Refused}
 use Rattle.restore_across.specs.Across.{begunFrom, OwnerAt, ownerLimit, Reusable, entryTurn}
-use Rattle.restore_across.specs.Owner.{ownerSeen, ownerFound, OwnerStands}
+use Rattle.restore_across.specs.Owner.{ownerSeen, ownerFound, OwnerStands, Known}
 use Rattle.restore_across.specs.At.{readSo, sight, At}
 use Rattle.restore_across.proofs.Steps.{turns-last, first-device}
-use Rattle.restore_across.proofs.ByKind.{turn-as, owner-again}
+use Rattle.restore_across.proofs.ByKind.{turn-as, owner-again, owner-known}
 
 module _ (run : List ℕ) (es : List Entry) (omitted : Omitted) (i : ℕ) (s : Across) (b : i < length es) (at : At run es omitted i s) (p : ℕ) (found : OwnerAt es (entryAt es i) (ownerLimit (entryAt es i) i s) p) where
   abbrev e : Entry
@@ -42,6 +42,13 @@ module _ (run : List ℕ) (es : List Entry) (omitted : Omitted) (i : ℕ) (s : A
       go : (s : Across) → At run es omitted i s → OwnerAt es e (ownerLimit e i s) p → Reusable run omitted c p (ownerLimit e i s) s
       go (Going w) a own = owner-again run es omitted i w b (a .asked) (a .so-kept) p own
       go (Refused n j) a own = tt
+
+  pub known : p < limit → Known run omitted c
+  known = go s at found
+    where
+      go : (s : Across) → At run es omitted i s → OwnerAt es e (ownerLimit e i s) p → p < ownerLimit e i s → Known run omitted c
+      go (Going w) a own l = owner-known run es omitted i w b (a .asked) (a .so-kept) p own l
+      go (Refused n j) a own l = absurd (omega (arith, l))
 
   pub turned : (o : Owner) → OwnerStands (ownerFound run omitted c p limit) (partOf run c) o → At run es omitted (i + 1) (entryTurn run e c i p (firstDuplicate es) o s)
   turned o stands = rw (add-one i) (go s at found stands)

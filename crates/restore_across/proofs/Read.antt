@@ -19,17 +19,18 @@ use Rattle.rows.specs.Rows as rows
 use Rattle.rows.proofs.Proved.{proved}
 use Rattle.contact_lists.specs.Lists as lists
 use Rattle.contact_lists.proofs.Ends.{none-left}
-use Rattle.store.specs.Kinds.{contact, Seen, seenOf}
-use Rattle.contact.specs.Check.{contactAt, checked, sentChecked, contactFrom, Offsets}
+use Rattle.store.specs.Kinds.{contact, seenOf, refusalIn}
+use Rattle.store.proofs.Rounds.{some≢none}
+use Rattle.contact.specs.Check.{contactAt, checked, contactFrom, Offsets}
 use Rattle.contact.specs.declared.ContactAt.{ContactAt}
 use Rattle.contact.specs.declared.ContactCheck.the-variants.{Fields}
-use Rattle.contact.specs.declared.SentCheck.{SentCheck}
-use Rattle.contact.specs.declared.SentCheck.the-variants as sent
 use Rattle.contact.proofs.Placed.{check-says, check-placed}
+use Rattle.contact_known.specs.Known.{Sent}
+use Rattle.contact_known.specs.declared.SentAt.{SentAt}
 use Rattle.store.specs.declared.Omitted.{Omitted}
 use Rattle.store.specs.declared.Omitted.the-variants as left
 use Rattle.store.specs.Omitted.{omittedSeen}
-use Rattle.restore_across.specs.Owner.{contactSeen, noOwner, ownerAt, ownerRead, ownerIn, ownerOmitted, OwnerStands}
+use Rattle.restore_across.specs.Owner.{contactSeen, ownerAt, ownerRead, ownerIn, ownerOmitted, OwnerStands, OwnerIn}
 use Rattle.restore_across.specs.declared.Owner.{Owner}
 
 -- what an answer shows, of the row or of an equal part of the run
@@ -59,9 +60,8 @@ module _ {A : Type 0} (q : ℕ) where
   said-yes (ask p false k) v e = absurd (let z : _≡_ {A = ℕ} 0 1 = cc in omega arith)
 
 -- ---- a contact that was accepted, and its unacked numbers
-abbrev sentOwner : SentCheck → Owner
-sentOwner (sent.Fields at) = record { unacked = at .unacked .first; count = at .unacked .count; «sent_msgno» = at .«sent_msgno» }
-sentOwner (sent.Refused q) = noOwner
+abbrev pub sentOwner : SentAt → Owner
+sentOwner at = record { unacked = at .unacked .first; count = at .unacked .count; «sent_msgno» = at .«sent_msgno» }
 
 found : (version : ℕ) (row : List ℕ) (at : ContactAt) → Bytes row
     → readRow (rows.contact version) row ≡ accepted (contactFrom row at) → Offsets row at → OwnerStands (contactSeen version row) row (ownerAt at)
@@ -86,22 +86,17 @@ bare row sent = (
   },
 )
 
--- of a contact that was refused
-refused : (version : ℕ) (row : List ℕ) {q : ℕ} → readRow (rows.contact version) row ≡ refusedBy q → OwnerStands (contactSeen version row) row noOwner
-refused version row e = subst (λ (x : Seen). OwnerStands x row noOwner) (sym (ap (seenOf contact) e)) (bare row 0)
-
--- what is read of it is what is seen of it
-abbrev pub Reads : (version : ℕ) → (row : List ℕ) → SentCheck → Type 0
-Reads version row r = (sentOwner r ≡ ownerIn version row) × OwnerStands (contactSeen version row) row (sentOwner r)
-
-reads : (version : ℕ) (row : List ℕ) → Bytes row → (a : Answer Contact) → readRow (rows.contact version) row ≡ a → Reads version row (sentChecked (checked version a))
-reads version row by (accepted v) e =
-    let answer : Fields (contactAt version v) ≡ checked version (readRow (rows.contact version) row) = ap (checked version) (sym e) in
-    (ap (ownerRead version) (sym e), found version row (contactAt version v) by (sym (check-says row by version answer)) (check-placed row by version answer))
-reads version row by (refusedBy q) e = (ap (ownerRead version) (sym e), refused version row e)
-
-pub owner-read : (version : ℕ) (row : List ℕ) → Bytes row → {r known : SentCheck} → r ≡ sentChecked (checked version (readRow (rows.contact version) row)) → r ≡ known → Reads version row known
-owner-read version row by said known = subst (Reads version row) (sym said ∙ known) (reads version row by (readRow (rows.contact version) row) refl)
+-- what is found in a row that is known to be accepted is what is seen of it
+pub owner-read : (row : List ℕ) → Bytes row → {r : SentAt} → Sent row r → OwnerIn row (sentOwner r)
+owner-read row by {r} sent version known = go (readRow (rows.contact version) row) refl
+  where
+    go : (a : Answer Contact) → readRow (rows.contact version) row ≡ a → (sentOwner r ≡ ownerIn version row) × OwnerStands (contactSeen version row) row (sentOwner r)
+    go (accepted v) e =
+        let at = contactAt version v in
+        let answer : Fields at ≡ checked version (readRow (rows.contact version) row) = ap (checked version) (sym e) in
+        subst (λ (o : Owner). (o ≡ ownerIn version row) × OwnerStands (contactSeen version row) row o) (sym (ap sentOwner (sent version v e)))
+        (ap (ownerRead version) (sym e), found version row at by (sym (check-says row by version answer)) (check-placed row by version answer))
+    go (refusedBy q) e = absurd (some≢none (sym (ap (λ (a : Answer Contact). refusalIn a) e) ∙ known))
 
 -- ... and of the one left out
 pub omitted-for : (omitted : Omitted) (row : List ℕ) → OwnerStands (omittedSeen omitted) row (ownerOmitted omitted)

@@ -3,22 +3,25 @@
 use Prim.Native.Nat.{ℕ, zero, suc, _+_, _<_}
 use mathlib.Core.List.{List, [], _∷_}
 use mathlib.Core.Bool.{_&&_}
-use mathlib.Core.Path.{_≡_, refl, sym, ap}
+use mathlib.Core.Option.{none}
+use mathlib.Core.Path.{_≡_, refl, sym, ap, subst}
 use native.Mathlib.Omega.{arith}
 use lib.ListN.{length}
 use lib.Dec.{leb, eqb, leb→le, eqb→eq}
 use Rattle.layout.specs.Questions.{ORDER}
+use Rattle.layout.specs.Layout.{readRow}
 use Rattle.store.specs.declared.Entry.{Entry}
 use Rattle.store.specs.declared.Omitted.{Omitted}
 use Rattle.store.specs.declared.Asked.{Asked}
 use Rattle.store.specs.declared.Asked.the-variants as so
 use Rattle.store.specs.Rounds.{ask, Round, turn, turns, rounds, Quiet}
-use Rattle.store.specs.Kinds.{DEVICE, CONTACT, COURIER}
-use Rattle.store.specs.Store.{entryAt, storeOf, inOrder, order, bounds, begun}
+use Rattle.store.specs.Kinds.{DEVICE, CONTACT, COURIER, kindOf, layoutOf, refusalIn}
+use Rattle.store.specs.Store.{entryAt, partOf, storeOf, inOrder, order, bounds, begun}
 use Rattle.store.specs.Omitted.{isOmitted, readOmitted}
 use Rattle.store.proofs.Rounds.{rounds-going, rounds-quiet}
 use Rattle.store.proofs.Tests.{both, all-yes}
 use Rattle.store.proofs.Duplicates.{acrossBy}
+use Rattle.restore_across.specs.Owner.{Known}
 use Rattle.restore_across.specs.At.{readSo, sight}
 
 -- ---- one more turn, the m-th
@@ -41,6 +44,15 @@ module _ (run : List ℕ) (es : List Entry) (omitted : Omitted) (going : readSo 
       let t = all-yes (ask ORDER (inOrder es (suc i)) ∷ []) (in-order (suc i) (omega arith) b) .0 in
       let r = both (leb CONTACT k) (leb k COURIER) (both (leb CONTACT k && leb k COURIER) (leb (entryAt es i .kind) k) t .0) in
       absurd (omega (arith, leb→le CONTACT k (r .0), h))
+
+-- a contact's row was accepted
+pub contact-known : (run : List ℕ) (es : List Entry) (omitted : Omitted) → readSo run es omitted ≡ so.Going → (p : ℕ) → p < length es → entryAt es p .kind ≡ CONTACT → Known run omitted (entryAt es p)
+contact-known run es omitted going p b is there =
+    let s = storeOf run es in
+    let c = entryAt es p in
+    let rs = order s ∷ bounds s ∷ readOmitted run es (isOmitted omitted) ∷ [] in
+    let quiet = rounds-quiet rs (length es) (begun s) going .1 .1 .0 p (omega arith) b in
+    subst (λ (k : ℕ). refusalIn (readRow (layoutOf (kindOf k) (c .version)) (partOf run c)) ≡ none) is (rw there at quiet)
 
 pub first-device : (run : List ℕ) (es : List Entry) (omitted : Omitted) → readSo run es omitted ≡ so.Going → entryAt es 0 .kind ≡ DEVICE
 first-device run [] omitted g = refl

@@ -22,7 +22,7 @@ use Rattle.restore_across.specs.declared.Owner.{Owner}
 use Rattle.restore_across.specs.declared.Progress.{Progress}
 use Rattle.restore_across.specs.declared.Across.{Across}
 use Rattle.restore_across.specs.declared.Across.the-variants.{Going, Refused}
-use Rattle.restore_across.specs.Owner.{noOwner, ownerSeen, ownerFrom, unackedAt, OwnerStands}
+use Rattle.restore_across.specs.Owner.{noOwner, ownerSeen, ownerFrom, ownerFound, unackedAt, OwnerStands, Known}
 
 -- ---- before the first turn
 abbrev pub fresh : Progress
@@ -83,6 +83,12 @@ ownerFor run omitted c p upto s = cond (ltb p upto) (keptOr s p (ownerFrom run o
 abbrev pub Reusable : (run : List ℕ) → Omitted → (c : Entry) → (p upto : ℕ) → Across → Type 0
 Reusable run omitted c p upto (Going w) = p < upto → p ≡ w .latest → OwnerStands (ownerSeen run omitted c) (partOf run c) (w .owner)
 Reusable run omitted c p upto (Refused n j) = Unit {0}
+
+-- what is answered is what is asked of that contact, if its row is known to be accepted; and what is seen of it, if what is kept is
+abbrev pub OwnerFor : (run : List ℕ) → Omitted → (c : Entry) → (p upto : ℕ) → Across → Owner → Type 0
+OwnerFor run omitted c p upto s o =
+    (p < upto → Known run omitted c)
+    → (o ≡ ownerFor run omitted c p upto s) × (Reusable run omitted c p upto s → OwnerStands (ownerFound run omitted c p upto) (partOf run c) o)
 
 -- ---- one turn: the i-th entry is e; its contact's entry is c, found at p, and o what is asked of it; f is the first entry that has a duplicate
 abbrev pub after : Option ℕ → (i : ℕ) → Progress → Across

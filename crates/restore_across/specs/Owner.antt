@@ -2,7 +2,7 @@
 -- Assumes nothing.
 use Prim.Native.Nat.{ℕ}
 use mathlib.Core.List.{List}
-use mathlib.Core.Bool.{cond}
+use mathlib.Core.Bool.{false, cond}
 use mathlib.Core.Option.{none}
 use mathlib.Core.Path.{_≡_}
 use lib.ListN.{drop}
@@ -17,7 +17,7 @@ use Rattle.contact.specs.Check.{contactAt}
 use Rattle.contact.specs.declared.ContactAt.{ContactAt}
 use Rattle.store.specs.declared.Entry.{Entry}
 use Rattle.store.specs.declared.Omitted.{Omitted}
-use Rattle.store.specs.Kinds.{contact, Seen, nothing, seenOf}
+use Rattle.store.specs.Kinds.{contact, Seen, nothing, seenOf, refusalIn}
 use Rattle.store.specs.Store.{partOf}
 use Rattle.store.specs.Omitted.{isOmitted, omittedSeen}
 use Rattle.restore_across.specs.declared.Owner.{Owner}
@@ -62,6 +62,10 @@ ownerRead version (refusedBy q) = noOwner
 abbrev pub ownerIn : (version : ℕ) → (row : List ℕ) → Owner
 ownerIn version row = ownerRead version (readRow (rows.contact version) row)
 
+-- where some version's questions accept the row, this is what is seen of it
+abbrev pub OwnerIn : (row : List ℕ) → Owner → Type 0
+OwnerIn row o = (version : ℕ) → refusalIn (readRow (rows.contact version) row) ≡ none → (o ≡ ownerIn version row) × OwnerStands (contactSeen version row) row o
+
 -- of the contact left out
 abbrev pub ownerOmitted : Omitted → Owner
 ownerOmitted omitted = record { unacked = 0; count = 0; «sent_msgno» = omittedSeen omitted .«sent_msgno» }
@@ -69,6 +73,14 @@ ownerOmitted omitted = record { unacked = 0; count = 0; «sent_msgno» = omitted
 -- of a contact's entry
 abbrev pub ownerFrom : (run : List ℕ) → Omitted → Entry → Owner
 ownerFrom run omitted c = cond (isOmitted omitted c) (ownerOmitted omitted) (ownerIn (c .version) (partOf run c))
+
+-- its row, if it is not left out, is accepted
+abbrev pub Known : (run : List ℕ) → Omitted → Entry → Type 0
+Known run omitted c = isOmitted omitted c ≡ false → refusalIn (readRow (rows.contact (c .version)) (partOf run c)) ≡ none
+
+-- ... and then this is what is seen of it
+abbrev pub OwnerFrom : (run : List ℕ) → Omitted → Entry → Owner → Type 0
+OwnerFrom run omitted c o = Known run omitted c → (o ≡ ownerFrom run omitted c) × OwnerStands (ownerSeen run omitted c) (partOf run c) o
 
 -- what is seen of the contact that was found at p; nothing where none was found below upto
 abbrev pub ownerFound : (run : List ℕ) → Omitted → Entry → (p upto : ℕ) → Seen

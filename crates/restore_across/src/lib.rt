@@ -1,6 +1,5 @@
 // Questions 25 to 33, across the rows: of each entry in turn, against those before it. The first entry that has a duplicate before it is known in advance, so that
 // an entry is new by its index; a queued row's contact is looked for from where the last one was found on, and what is asked of that contact is kept.
-use contact::SentCheck;
 use courier::CourierCheck;
 use courier::HeldAt;
 use device::DeviceCheck;
@@ -17,8 +16,8 @@ ghost use lib.Dec.{eqb};
 ghost use Rattle.rows.specs.Checks.{any};
 ghost use Rattle.store.specs.Kinds.{CONTACT};
 ghost use Rattle.store.specs.Store.{isOf, partOf};
-ghost use Rattle.restore_across.specs.Owner.{noOwner, contactSeen, ownerIn, ownerSeen, ownerOmitted, ownerFrom, ownerFound, unackedAt, Searchable, OwnerStands};
-ghost use Rattle.restore_across.specs.Across.{begunFrom, contactOf, earlier, placeOr, tried, nearLimit, farLimit, chosen, ownerLimit, latestOf, ownerFor, Reusable};
+ghost use Rattle.restore_across.specs.Owner.{noOwner, ownerOmitted, unackedAt, Searchable, OwnerIn, OwnerFrom};
+ghost use Rattle.restore_across.specs.Across.{begunFrom, contactOf, earlier, placeOr, tried, nearLimit, farLimit, chosen, ownerLimit, latestOf, OwnerFor};
 ghost use Rattle.restore_across.specs.Across.{lowIn, nextContactIn, depositorIn, SurelyLow, deviceTurn, contactTurn, queuedTurn, courierTurn, entryTurn};
 
 // What is asked of a queued row's contact: sent_msgno, and where in its row the unacked numbers start and how many they are.
@@ -115,13 +114,11 @@ fn low_depositor(run: &[u8], e: Entry, next: u64) -> bool
     depositor.0 < next
 }
 
-fn owner_in(version: u32, row: &[u8]) -> Owner
-    ensures { λ r. ⌜ r ≡ ownerIn version (now (row .entry)) ⌝ }
-    ensures { λ r. ⌜ OwnerStands (contactSeen version (now (row .entry))) (now (row .entry)) r ⌝ }
+// Of a row that is known to be accepted: its questions are not asked again.
+fn owner_in(row: &[u8]) -> Owner
+    ensures { λ r. ⌜ OwnerIn (now (row .entry)) r ⌝ }
 {
-    let SentCheck::Fields(at) = contact::check_sent(version, row) else {
-        return no_owner();
-    };
+    let at = contact_known::sent_in(row);
     let unacked = at.unacked;
     Owner {
         unacked: unacked.first,
@@ -145,14 +142,13 @@ fn owner_omitted(omitted: Omitted) -> Owner
 }
 
 fn owner_from(run: &[u8], omitted: Omitted, c: Entry) -> Owner
-    ensures { λ r. ⌜ r ≡ ownerFrom (now (run .entry)) omitted c ⌝ }
-    ensures { λ r. ⌜ OwnerStands (ownerSeen (now (run .entry)) omitted c) (partOf (now (run .entry)) c) r ⌝ }
+    ensures { λ r. ⌜ OwnerFrom (now (run .entry)) omitted c r ⌝ }
 {
     if store::is_omitted(c, omitted) {
         return owner_omitted(omitted);
     }
     let row = store::part_of(run, c);
-    owner_in(c.version, row)
+    owner_in(row)
 }
 
 // 29, by halves: the numbers rise.
@@ -288,8 +284,7 @@ pub fn owner_of(
     upto: usize,
     state: Across,
 ) -> Owner
-    ensures { λ r. ⌜ (r ≡ ownerFor (now (run .entry)) omitted c p upto state)
-        × (Reusable (now (run .entry)) omitted c p upto state → OwnerStands (ownerFound (now (run .entry)) omitted c p upto) (partOf (now (run .entry)) c) r) ⌝ }
+    ensures { λ r. ⌜ OwnerFor (now (run .entry)) omitted c p upto state r ⌝ }
 {
     if upto <= p {
         return no_owner();

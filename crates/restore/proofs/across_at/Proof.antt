@@ -35,7 +35,7 @@ use Rattle.walks.proofs.Walk.{untok, retok, gone, drops, drops-go}
 use Rattle.walks.proofs.Held.{Held, number, of-struct, of-enum, vals, Lies, plus, lends, none, calls-held, into, local}
 use Rattle.store.specs.Duplicates.{firstDuplicate}
 use Rattle.restore_across.specs.At.{At}
-use Rattle.restore.proofs.Across.{may-reuse, entryTurn-at}
+use Rattle.restore.proofs.Across.{may-reuse, is-known, entryTurn-at}
 use Rattle.restore_across.specs.declared.Across.{Across}
 use Rattle.restore_across.proofs.Across as AcrossT
 use Rattle.restore_across.proofs.Across.Laws as AcrossL
@@ -260,7 +260,8 @@ module _ {M : Type 1} (𝓤 : URA M) (H : Heap 𝓤) (A : Atoms 𝓤) (W : Given
           nothing ! $ plus ! as-Across state in-state $ plus ! as-Owner owner in-owner $ plus ! as-w64 duplicate in-duplicate $ plus ! as-w64 p in-p $ plus ! as-w64 i in-i $
           plus ! as-Entry c in-c $ plus ! as-Entry e in-e $ lends ! 3 (named 0) κ₀ (UInt w8) run refl $ move ! (1 ∷ 0 ∷ []) $
           calls-held ! fm restore-across-entry-turn.ended (restore-across-entry-turn.clauses 𝓤 H A mem calling) (known .restore-across-entry-turn) (to-r e limit latest p c owner)
-          (factI 𝓤 _ (emp 𝓤) (is-owner .1 (may-reuse (now run) (now entries) omitted duplicate i state asks e c limit p is-e is-limit is-p is-c) .1)) as-Across (λ r ws. id⊢ 𝓤 _)
+          (factI 𝓤 _ (emp 𝓤) (is-owner (is-known (now run) (now entries) omitted duplicate i state asks e c limit p is-e is-limit is-p is-c) .1
+          (may-reuse (now run) (now entries) omitted duplicate i state asks e c limit p is-e is-limit is-p is-c) .1)) as-Across (λ r ws. id⊢ 𝓤 _)
           (and-then ! (local ! (look ! 30 refl)) (and-then ! (local ! (look ! 16 refl))
           (and-then ! (local ! (look ! 8 refl)) (and-then ! (local ! (look ! 20 refl))
           (and-then ! (local ! (look ! 10 refl)) (and-then ! (local ! (look ! 22 refl)) (and-then ! (local ! (look ! 6 refl)) (and-then ! (local ! (look ! 18 refl)) (no-more !)))))))))
@@ -271,7 +272,8 @@ module _ {M : Type 1} (𝓤 : URA M) (H : Heap 𝓤) (A : Atoms 𝓤) (W : Given
           gone ! 16 refl refl $ gone ! 14 refl refl $ gone ! 12 refl refl $ gone ! 10 refl refl $ gone ! 8 refl refl $ gone ! 6 refl refl $ free0 ! $
           suffices ! _ (ends-at 𝓤 H A this.ended stayed clauses W bound (as-Across .val r) r (tt, (tt, (tt, (tt, (tt, (tt, (tt, tt))))))) (tt, (tt, (tt, (tt, (tt, (tt, (tt, tt)))))))) $
           says ! (entryTurn-at (now run) (now entries) omitted duplicate i state asks e c limit p is-e is-limit is-p is-c owner r
-          (is-owner .1 (may-reuse (now run) (now entries) omitted duplicate i state asks e c limit p is-e is-limit is-p is-c)) is-r) $
+          (is-owner (is-known (now run) (now entries) omitted duplicate i state asks e c limit p is-e is-limit is-p is-c) .1
+          (may-reuse (now run) (now entries) omitted duplicate i state asks e c limit p is-e is-limit is-p is-c)) is-r) $
           keep ! (0 ∷ 1 ∷ 2 ∷ []) $ retok ! 3 (κ₀, (κ₁, (κ₂, tt))) (q₀, (q₁, (q₂, tt))) $ frame ! $ nothing ! $ none ! $ none ! $ none ! $ none ! $ none ! $ none ! $ none ! $ frame ! $
           owned ! AcrossT.the-row (Is AcrossT.the-row) (as-Across .makes) r _ in-r $ done !)))))))))))))))))))))
 

@@ -1,0 +1,109 @@
+// What a queued row is asked about, taken from the row of its contact once that row is known to be accepted: no question is asked again, and of the fields before
+// sent_msgno and the unacked numbers nothing is read but how long they are.
+use contact_lists::ListAt;
+use contact_lists::ListField;
+use contact_parts::KeysField;
+use contact_parts::NumbersField;
+use fields::FlagField;
+use fields::RunField;
+use fields::U16Field;
+ghost use mathlib.Core.Path.{_≡_};
+ghost use Rattle.layout.specs.Layout.{group};
+ghost use Rattle.contact_parts.specs.Parts.{paired, chained};
+ghost use Rattle.contact_known.specs.Known.{EndsAt, EndsBehindFlag, Sent, noSent};
+
+// Where the card's length stands: behind role, mode, verification, pair_id, th and nonce_b.
+const CARD_AT: usize = 83;
+
+// How many bytes the keys of a pending Resume, a send chain and a skipped key have.
+const PENDING_BYTES: usize = 64;
+
+const SEND_BYTES: usize = 38;
+
+const SKIPPED_BYTES: usize = 46;
+
+// The last number sent, and where the numbers that are not acknowledged stand in the row.
+pub struct SentAt {
+    pub unacked: ListAt,
+    pub sent_msgno: u32,
+}
+
+// What is answered of a row that was refused.
+fn no_sent() -> SentAt
+    ensures { λ r. ⌜ r ≡ noSent ⌝ }
+{
+    SentAt {
+        unacked: ListAt {
+            first: 0,
+            next: 0,
+            count: 0,
+        },
+        sent_msgno: 0,
+    }
+}
+
+// Where the fields up to the card end.
+fn paired_end(row: &[u8]) -> usize
+    ensures { λ r. ⌜ EndsAt (group paired) (now (row .entry)) 0 r ⌝ }
+{
+    let U16Field::Value(len, start) = fields::u16_at(row, CARD_AT) else {
+        return 0;
+    };
+    let RunField::Value(_start, end) = fields::run_at(row, start, len as usize) else {
+        return 0;
+    };
+    end
+}
+
+// Where n bytes end that stand behind a flag of 1; behind the flag where it is 0.
+fn behind_flag(row: &[u8], at: usize, n: usize) -> usize
+    ensures { λ r. ⌜ EndsBehindFlag n (now (row .entry)) at r ⌝ }
+{
+    let FlagField::Value(present, start) = fields::flag_at(row, at) else {
+        return 0;
+    };
+    if present {
+        let RunField::Value(_start, end) = fields::run_at(row, start, n) else {
+            return 0;
+        };
+        return end;
+    }
+    start
+}
+
+// Where the fields from pending to skipped end.
+fn chained_end(row: &[u8], at: usize) -> usize
+    ensures { λ r. ⌜ EndsAt (group chained) (now (row .entry)) at r ⌝ }
+{
+    let send = behind_flag(row, at, PENDING_BYTES);
+    let chains_at = behind_flag(row, send, SEND_BYTES);
+    let ListField::Value(chains) = contact_lists::chains_at(row, chains_at) else {
+        return 0;
+    };
+    let U16Field::Value(count, first) = fields::u16_at(row, chains.next) else {
+        return 0;
+    };
+    let RunField::Value(_first, end) = fields::run_at(row, first, SKIPPED_BYTES * (count as usize)) else {
+        return 0;
+    };
+    end
+}
+
+// What a queued row is asked about, of a row that some version's questions accept.
+pub fn sent_in(row: &[u8]) -> SentAt
+    ensures { λ r. ⌜ Sent (now (row .entry)) r ⌝ }
+{
+    let keys_at = paired_end(row);
+    let KeysField::Value(keys, behind_keys) = contact_parts::keys_at(row, keys_at) else {
+        return no_sent();
+    };
+    let numbers_at = chained_end(row, behind_keys);
+    let NumbersField::Value(numbers, _end) = contact_parts::numbers_at(row, numbers_at) else {
+        return no_sent();
+    };
+    let unacked = numbers.unacked;
+    SentAt {
+        unacked,
+        sent_msgno: keys.sent_msgno,
+    }
+}
