@@ -17,9 +17,6 @@ use Rattle.contact_parts.specs.declared.SendAt.the-variants as sendAt
 use Rattle.contact.specs.declared.ContactAt.{ContactAt}
 use Rattle.contact.specs.declared.ContactCheck.{ContactCheck}
 use Rattle.contact.specs.declared.ContactCheck.the-variants as check
-use Rattle.contact.specs.declared.SentAt.{SentAt}
-use Rattle.contact.specs.declared.SentCheck.{SentCheck}
-use Rattle.contact.specs.declared.SentCheck.the-variants as sent
 
 -- ---- a contact row: where its parts begin, and where their fields stand
 abbrev pub contactAt : ℕ → value.Contact → ContactAt
@@ -42,14 +39,6 @@ checked version (refusedBy q) = check.Refused q
 abbrev pub checkRefusal : ContactCheck → ℕ
 checkRefusal (check.Fields at) = 0
 checkRefusal (check.Refused q) = q
-
--- the few places that a queued row is asked about
-abbrev pub sentAt : ContactAt → SentAt
-sentAt at = record { unacked = at .numbers .unacked; «sent_msgno» = at .keys .«sent_msgno» }
-
-abbrev pub sentChecked : ContactCheck → SentCheck
-sentChecked (check.Fields at) = sent.Fields (sentAt at)
-sentChecked (check.Refused q) = sent.Refused q
 
 -- ---- the contact that stands at places of a row, and that these lie in it
 abbrev pub contactFrom : List ℕ → ContactAt → value.Contact

@@ -1,6 +1,5 @@
 // Contact rows, as state.rs has them: checked, and read into a struct and five lent lists.
 use card::Card;
-use contact_lists::ListAt;
 use contact_parts::ChainedAt;
 use contact_parts::ChainedField;
 use contact_parts::KeysAt;
@@ -26,7 +25,7 @@ ghost use Rattle.numbers.specs.Lists.{counts, roomFor};
 ghost use Rattle.card.specs.Card.{cardOf};
 ghost use Rattle.contact_parts.specs.Offsets.{ChainedLists, NumbersLists, chainedFrom, numbersFrom, CardOffsets, cardIn, pendingFrom, sendFrom};
 ghost use Rattle.contact.specs.Consistent.{chainsRefusal, numbersRefusal, refusalIn};
-ghost use Rattle.contact.specs.Check.{contactFrom, countsAt, checked, checkRefusal, sentChecked, PendingRuns, SendRuns, Filling};
+ghost use Rattle.contact.specs.Check.{contactFrom, countsAt, checked, checkRefusal, PendingRuns, SendRuns, Filling};
 ghost use Rattle.contact.specs.Contact.{pendingKeysOf, sendPartOf, contactOf, zeroContact, lists, listsBefore, listsAfter, filled, Fillable, refusedBy, leaves, reads};
 
 // The send chain's numbers; its key stands beside it. Absent until the first Resume.
@@ -82,17 +81,6 @@ pub struct ContactAt {
 
 pub enum ContactCheck {
     Fields(ContactAt),
-    Refused(u8),
-}
-
-// The last number sent, and where the numbers that are not acknowledged stand in the row.
-pub struct SentAt {
-    pub unacked: ListAt,
-    pub sent_msgno: u32,
-}
-
-pub enum SentCheck {
-    Fields(SentAt),
     Refused(u8),
 }
 
@@ -215,50 +203,33 @@ pub fn check_contact(version: u32, row: &[u8]) -> ContactCheck
     ContactCheck::Refused(q)
 }
 
-// The same questions; of the places only what a queued row is asked about.
-pub fn check_sent(version: u32, row: &[u8]) -> SentCheck
-    ensures { λ r. ⌜ r ≡ sentChecked (checked version (readRow (layouts.contact version) (now (row .entry)))) ⌝ }
-{
-    if version != rows::BLOB_VERSION {
-        return SentCheck::Refused(question::VERSION);
-    }
-    let paired_field = contact_parts::paired_at(row, 0);
-    let PairedField::Value(_paired, behind_paired) = paired_field else {
-        return SentCheck::Refused(paired_field.refusal());
-    };
-    let keys_field = contact_parts::keys_at(row, behind_paired);
-    let KeysField::Value(keys, behind_keys) = keys_field else {
-        return SentCheck::Refused(keys_field.refusal());
-    };
-    let chained_field = contact_parts::chained_at(row, behind_keys);
-    let ChainedField::Value(chained, behind_chained) = chained_field else {
-        return SentCheck::Refused(chained_field.refusal());
-    };
-    let numbers_field = contact_parts::numbers_at(row, behind_chained);
-    let NumbersField::Value(numbers, end) = numbers_field else {
-        return SentCheck::Refused(numbers_field.refusal());
-    };
-    if end < row.len() {
-        return SentCheck::Refused(question::ROW_END);
-    }
-    let Verdict::Refused(q) = consistent_in_row(row, keys.sent_msgno, chained, numbers) else {
-        let unacked = numbers.unacked;
-        return SentCheck::Fields(SentAt {
-            unacked,
-            sent_msgno: keys.sent_msgno,
-        });
-    };
-    SentCheck::Refused(q)
-}
-
-// The same questions, where no place is asked for.
+// The same questions, where no place is asked for: places that nobody reads are not copied.
 pub fn ask_contact(version: u32, row: &[u8]) -> Verdict
     ensures { λ r. ⌜ r ≡ verdictOf (readRow (layouts.contact version) (now (row .entry))) ⌝ }
 {
-    let SentCheck::Refused(q) = check_sent(version, row) else {
-        return Verdict::Accepted;
+    if version != rows::BLOB_VERSION {
+        return Verdict::Refused(question::VERSION);
+    }
+    let paired_field = contact_parts::paired_at(row, 0);
+    let PairedField::Value(_paired, behind_paired) = paired_field else {
+        return Verdict::Refused(paired_field.refusal());
     };
-    Verdict::Refused(q)
+    let keys_field = contact_parts::keys_at(row, behind_paired);
+    let KeysField::Value(keys, behind_keys) = keys_field else {
+        return Verdict::Refused(keys_field.refusal());
+    };
+    let chained_field = contact_parts::chained_at(row, behind_keys);
+    let ChainedField::Value(chained, behind_chained) = chained_field else {
+        return Verdict::Refused(chained_field.refusal());
+    };
+    let numbers_field = contact_parts::numbers_at(row, behind_chained);
+    let NumbersField::Value(numbers, end) = numbers_field else {
+        return Verdict::Refused(numbers_field.refusal());
+    };
+    if end < row.len() {
+        return Verdict::Refused(question::ROW_END);
+    }
+    consistent_in_row(row, keys.sent_msgno, chained, numbers)
 }
 
 impl Contact {

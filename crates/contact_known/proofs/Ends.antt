@@ -1,43 +1,36 @@
 -- Where the parts of a contact row end that were read: by the lengths that stand in them, whatever else does.
 -- Assumes nothing.
-use Prim.Native.Nat.{ℕ, _+_, _-_, _*_, _≤_, _<_}
-use mathlib.Core.List.{List, [], _++_}
+use Prim.Native.Nat.{ℕ, _+_, _*_, _≤_}
+use mathlib.Core.List.{List, []}
 use mathlib.Core.Bool.{Bool, true, false, cond}
 use mathlib.Core.Option.{Option, none, some}
 use mathlib.Core.Path.{_≡_, refl, sym, ap, subst, _∙_}
 use native.Mathlib.Omega.{arith}
-use lib.ListN.{length, take, drop, length-append, length-drop}
+use lib.ListN.{length, take, drop, length-append}
 use Rattle.layout.specs.Questions.{FIELD, «CARD_END»}
-use Rattle.layout.specs.Read.{Read}
-use Rattle.layout.specs.Read as answer
-use Rattle.layout.specs.Veil.{plain, veiled}
-use Rattle.layout.specs.Form.{Form, bytes, flag, u16, times, printMany}
-use Rattle.layout.specs.Field.{Field, takes, refuses, placed, readAt}
-use Rattle.layout.specs.Field as field
+use Rattle.layout.specs.Veil.{plain}
+use Rattle.layout.specs.Form.{Form, bytes, flag, u16, u32}
+use Rattle.layout.specs.Field.{Field, takes, refuses, readAt}
 use Rattle.layout.specs.Layout.{group, print, present, optional, optionalLayout, list, listLayout, sized, sizedLayout}
 use Rattle.layout.specs.Layout as layout
 use Rattle.layout.specs.RowLaws.{Bytes}
-use Rattle.layout.proofs.Lawful.{Lawful}
 use Rattle.layout.proofs.Front.{number-lawful, flag-lawful, length-bytesOf}
 use Rattle.layout.proofs.Derived.{list-lawful}
 use Rattle.layout.proofs.At.{took, took-next, bytes-in}
-use Rattle.rows.specs.Values.{Chain}
-use Rattle.rows.specs.Rows.{card, pending, send, chain, skipped}
-use Rattle.rows.proofs.Lawful.{chain-lawful, skipped-lawful}
+use Rattle.rows.specs.Values.{Chain, Range}
+use Rattle.rows.specs.Rows.{card, pending, send, chain, skipped, range}
+use Rattle.rows.proofs.Lawful.{chain-lawful, skipped-lawful, range-lawful}
 use Rattle.offsets.specs.Offset.{offset}
-use Rattle.offsets.proofs.Offset.{Stands, stands, field-stands, offset-inside, whole, not-past, optional-stands}
-use Rattle.contact_parts.specs.Parts.{Paired, paired, Chained, chained}
-use Rattle.contact_parts.proofs.Lawful.{paired-lawful, chained-lawful}
+use Rattle.offsets.proofs.Offset.{Stands, stands, stands-read, field-stands, offset-inside, whole, not-past, optional-stands}
+use Rattle.contact_lists.specs.Lists.{listSays, ListedAt}
+use Rattle.contact_lists.specs.declared.ListField.{ListField}
+use Rattle.contact_lists.specs.declared.ListField.the-variants.{Value, Refused}
+use Rattle.contact_parts.specs.Parts.{Paired, paired, Chained, chained, Numbers, numbers}
+use Rattle.contact_parts.specs.Offsets.{listAt, listIn, numbersAt}
+use Rattle.contact_parts.proofs.Lawful.{paired-lawful, chained-lawful, numbers-lawful}
+use Rattle.contact_parts.proofs.Lists.{list-starts}
 use Rattle.contact_lent.proofs.Offsets.{length-exact}
 use Rattle.contact_known.specs.Known.{EndsBehindFlag}
-
--- what stands somewhere is read there
-pub stands-read : {B : Type 0} (f : Form B) → Lawful f → {b : B} {row : List ℕ} {at : ℕ} → Stands f b row at → at ≤ length row → readAt f row at ≡ takes b (at + length (f .print b))
-unfolding field.readAt
-stands-read f law {b} {row} {at} s inside =
-    let long : length (f .print b) + length (s .post) ≡ length row - at = sym (length-append (f .print b) (s .post)) ∙ ap (λ (l : List ℕ). length l) (s .joins) ∙ length-drop at row in
-    let next : length row - length (s .post) ≡ at + length (f .print b) = omega (arith, long, inside) in
-    ap (λ (x : Read _). placed row x) (ap (f .read) (sym (s .joins)) ∙ law .printed b (s .post) (s .fits) ∙ ap (λ (o : Option ℕ). answer.said o b (s .post)) (s .granted)) ∙ ap (λ (n : ℕ). takes b n) next
 
 -- a field is read one way only
 module _ {B : Type 0} {x : Field B} {b : B} {next : ℕ} (read : x ≡ takes b next) where
@@ -181,3 +174,41 @@ module _ (row : List ℕ) (by : Bytes row) where
             let is = once skipped-counted e in
             let ends : first + 46 * count ≡ next = omega (arith, skipped-ends, is .0, is .1) in
             bytes-in row first (46 * count) plain (omega (arith, ends, took row at (group chained) chained-lawful by read .inside)) ∙ ap (λ (n : ℕ). takes (take (46 * count) (drop first row)) n) ends
+
+  -- ---- the fields from peer_acked to unacked
+  module _ (at : ℕ) {n : Numbers} {next : ℕ} (read : readAt (group numbers) row at ≡ takes n next) where
+    those : Stands (group numbers) n row at
+    those = stands (group numbers) numbers-lawful by read
+
+    numbers-inside : (i : ℕ) → at + offset numbers i n ≤ length row
+    unfolding layout.parse
+    numbers-inside i = offset-inside row numbers i n those (not-past row at (group numbers) {q = FIELD} refl read)
+
+    four-long : offset numbers 4 n ≡ 16
+    four-long = omega (arith, length-bytesOf 4 (n .«peer_acked»), length-bytesOf 4 (n .«peer_read»), length-bytesOf 4 (n .«read_marked»), length-bytesOf 4 (n .contiguous))
+
+    pub four-run : readAt (bytes plain 16) row at ≡ takes (take 16 (drop at row)) (at + 16)
+    four-run = bytes-in row at 16 plain (omega (arith, four-long, numbers-inside 4))
+
+    module _ (above-at : ℕ) (behind-four : above-at ≡ at + 16) where
+      pub above-read : readAt (list (group range)) row above-at ≡ takes (n .above) (at + offset numbers 5 n)
+      above-read =
+          let there : above-at ≡ at + offset numbers 4 n = omega (arith, behind-four, four-long) in
+          ap (readAt (list (group range)) row) there
+          ∙ stands-read (list (group range)) (list-lawful (group range) range-lawful) (field-stands row numbers 4 n those) (numbers-inside 4)
+          ∙ ap (λ (i : ℕ). takes (n .above) i) (omega arith)
+
+      module _ {above : List Range} {unacked-at : ℕ} (found : readAt (list (group range)) row above-at ≡ takes above unacked-at) where
+        unacked-there : unacked-at ≡ at + offset numbers 5 n
+        unacked-there = sym (once above-read found .1)
+
+        unacked-read : readAt (list u32) row unacked-at ≡ takes (n .unacked) (unacked-at + length ((list u32) .print (n .unacked)))
+        unacked-read =
+            let there : Stands (list u32) (n .unacked) row unacked-at = subst (Stands (list u32) (n .unacked) row) (sym unacked-there) (field-stands row numbers 5 n those) in
+            stands-read (list u32) (list-lawful u32 (number-lawful 4)) there (omega (arith, unacked-there, numbers-inside 5))
+
+        pub unacked-is : (r : ListField) → (listSays u32 row r ≡ readAt (list u32) row unacked-at) × ListedAt u32 row r → r ≡ Value (numbersAt at n .unacked)
+        unacked-is (Value l) said =
+            let items : listIn u32 row l ≡ n .unacked = once (sym (said .0)) unacked-read .0 in
+            ap Value (list-starts u32 (number-lawful 4) row by unacked-at said refl (omega (arith, unacked-there, numbers-inside 5)) ∙ (λ i. listAt u32 (unacked-there i) (items i)))
+        unacked-is (Refused q) said = absurd (never unacked-read (sym (said .0)))

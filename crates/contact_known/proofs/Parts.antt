@@ -11,14 +11,16 @@ use lib.Dec.{ltb}
 use Rattle.layout.specs.Questions.{«ROW_END»}
 use Rattle.layout.specs.Read.{Read, said}
 use Rattle.layout.specs.Field.{readAt}
-use Rattle.layout.specs.Layout.{group, Answer, accepted, refusedBy, answer, readRow}
+use Rattle.layout.specs.Layout.{group, accepted, refusedBy, answer, readRow}
 use Rattle.layout.specs.RowLaws.{Bytes}
 use Rattle.layout.proofs.Steps.{start, ask-no}
 use Rattle.rows.specs.Values.{Contact}
 use Rattle.rows.specs.Checks.{versionKnown}
 use Rattle.rows.specs.Rows.{contact}
 use Rattle.contact_parts.specs.Parts.{paired, keys, chained, numbers}
-use Rattle.contact_parts.specs.Offsets.{pairedFound, keysFound, chainedFound, numbersFound}
+use Rattle.contact_lists.specs.declared.ListField.{ListField}
+use Rattle.contact_lists.specs.declared.ListField.the-variants.{Value}
+use Rattle.contact_parts.specs.Offsets.{pairedFound, keysFound, chainedFound, numbersAt, numbersFrom, numbersFound}
 use Rattle.contact_parts.specs.declared.PairedAt.{PairedAt}
 use Rattle.contact_parts.specs.declared.PairedField.{PairedField}
 use Rattle.contact_parts.specs.declared.PairedField.the-variants as pairedField
@@ -31,14 +33,14 @@ use Rattle.contact_parts.specs.declared.ChainedField.the-variants as chainedFie
 use Rattle.contact_parts.specs.declared.NumbersAt.{NumbersAt}
 use Rattle.contact_parts.specs.declared.NumbersField.{NumbersField}
 use Rattle.contact_parts.specs.declared.NumbersField.the-variants as numbersField
-use Rattle.contact_parts.proofs.Placed.{paired-part, chained-part}
+use Rattle.contact_parts.proofs.Placed.{paired-part, chained-part, numbers-part}
 use Rattle.contact.specs.Consistent.{inconsistency}
 use Rattle.contact.specs.Check.{contactAt, contactFrom}
 use Rattle.contact.specs.declared.ContactAt.{ContactAt}
 use Rattle.contact.specs.declared.ContactCheck.{ContactCheck}
 use Rattle.contact.specs.declared.ContactCheck.the-variants.{Fields, Refused}
 use Rattle.contact.proofs.Parted.{onPaired, onKeys, onChained, onNumbers, parted, Whole, Told, told}
-use Rattle.contact_known.specs.Known.{EndsAt}
+use Rattle.contact_known.specs.Known.{EndsAt, UnackedAt}
 
 -- the parts' answers, where the row's fields stand at these places
 pub record PartsRead (row : List ℕ) (at : ContactAt) : Type 0 where
@@ -136,15 +138,11 @@ module _ (version : ℕ) (row : List ℕ) (by : Bytes row) {v : Contact} (grante
       pub keys-are : k ≡ contactAt version v .keys
       keys-are = let is = sym found ∙ keys-there in cc
 
-      module _ (numbers-at : ℕ) (chained-ends : EndsAt (group chained) row behind numbers-at) where
-        numbers-there : numbers-from numbers-at ≡ numbersField.Value (contactAt version v .numbers) (parts .end)
-        numbers-there =
-            let same : behind ≡ parts .chained-at = let is = sym found ∙ keys-there in cc in
-            let ends : EndsAt (group chained) row (parts .chained-at) numbers-at = subst (λ (n : ℕ). EndsAt (group chained) row n numbers-at) same chained-ends in
-            ap numbers-from (ends _ (parts .numbers-at) (chained-part row by (parts .chained-at) refl (parts .chained-read) .read)) ∙ parts .numbers-read
-
-        pub numbers-granted : {q : ℕ} → numbers-from numbers-at ≡ numbersField.Refused q → ⊥
-        numbers-granted e = let is = sym numbers-there ∙ e in let z : _≡_ {A = ℕ} 0 1 = cc in omega arith
-
-        pub numbers-are : {n : NumbersAt} {end : ℕ} → numbers-from numbers-at ≡ numbersField.Value n end → n ≡ contactAt version v .numbers
-        numbers-are e = let is = sym e ∙ numbers-there in cc
+      pub numbers-there : (numbers-at : ℕ) → EndsAt (group chained) row behind numbers-at → {r : ListField} → UnackedAt row numbers-at r → r ≡ Value (contactAt version v .numbers .unacked)
+      numbers-there numbers-at chained-ends unacked =
+          let same : behind ≡ parts .chained-at = let is = sym found ∙ keys-there in cc in
+          let ends : EndsAt (group chained) row (parts .chained-at) numbers-at = subst (λ (n : ℕ). EndsAt (group chained) row n numbers-at) same chained-ends in
+          let at : numbers-at ≡ parts .numbers-at = ends _ (parts .numbers-at) (chained-part row by (parts .chained-at) refl (parts .chained-read) .read) in
+          let its = numbers-part row by (parts .numbers-at) refl (parts .numbers-read) in
+          unacked _ (parts .end) (ap (readAt (group numbers) row) at ∙ its .read)
+          ∙ ap (λ (n : NumbersAt). Value (n .unacked)) (ap (λ (i : ℕ). numbersAt i (numbersFrom row (contactAt version v .numbers))) at ∙ sym (its .place))

@@ -3,14 +3,14 @@
 use contact_lists::ListAt;
 use contact_lists::ListField;
 use contact_parts::KeysField;
-use contact_parts::NumbersField;
 use fields::FlagField;
 use fields::RunField;
 use fields::U16Field;
+use layout::question;
 ghost use mathlib.Core.Path.{_≡_};
 ghost use Rattle.layout.specs.Layout.{group};
 ghost use Rattle.contact_parts.specs.Parts.{paired, chained};
-ghost use Rattle.contact_known.specs.Known.{EndsAt, EndsBehindFlag, Sent, noSent};
+ghost use Rattle.contact_known.specs.Known.{EndsAt, EndsBehindFlag, UnackedAt, Sent, noSent};
 
 // Where the card's length stands: behind role, mode, verification, pair_id, th and nonce_b.
 const CARD_AT: usize = 83;
@@ -21,6 +21,9 @@ const PENDING_BYTES: usize = 64;
 const SEND_BYTES: usize = 38;
 
 const SKIPPED_BYTES: usize = 46;
+
+// How many bytes peer_acked, peer_read, read_marked and contiguous have.
+const NUMBERS_BYTES: usize = 16;
 
 // The last number sent, and where the numbers that are not acknowledged stand in the row.
 pub struct SentAt {
@@ -83,10 +86,25 @@ fn chained_end(row: &[u8], at: usize) -> usize
     let U16Field::Value(count, first) = fields::u16_at(row, chains.next) else {
         return 0;
     };
-    let RunField::Value(_first, end) = fields::run_at(row, first, SKIPPED_BYTES * (count as usize)) else {
+    let RunField::Value(_first, end) = fields::run_at(row, first, SKIPPED_BYTES * (count as usize))
+    else {
         return 0;
     };
     end
+}
+
+// Where the unacked numbers stand, in a row whose fields from peer_acked on start at a position.
+fn unacked_at(row: &[u8], at: usize) -> ListField
+    ensures { λ r. ⌜ UnackedAt (now (row .entry)) at r ⌝ }
+{
+    let RunField::Value(_start, above_at) = fields::run_at(row, at, NUMBERS_BYTES) else {
+        return ListField::Refused(question::FIELD);
+    };
+    let above_field = contact_lists::ranges_at(row, above_at);
+    let ListField::Value(above) = above_field else {
+        return above_field;
+    };
+    contact_lists::numbers_at(row, above.next)
 }
 
 // What a queued row is asked about, of a row that some version's questions accept.
@@ -98,10 +116,9 @@ pub fn sent_in(row: &[u8]) -> SentAt
         return no_sent();
     };
     let numbers_at = chained_end(row, behind_keys);
-    let NumbersField::Value(numbers, _end) = contact_parts::numbers_at(row, numbers_at) else {
+    let ListField::Value(unacked) = unacked_at(row, numbers_at) else {
         return no_sent();
     };
-    let unacked = numbers.unacked;
     SentAt {
         unacked,
         sent_msgno: keys.sent_msgno,

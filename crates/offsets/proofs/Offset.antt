@@ -1,6 +1,6 @@
 -- What stands at an offset: the field's own print.
 -- Assumes nothing.
-use Prim.Native.Nat.{ℕ, zero, suc, _+_, _≤_, _<_}
+use Prim.Native.Nat.{ℕ, zero, suc, _+_, _-_, _≤_, _<_}
 use mathlib.Core.List.{List, [], _++_, append-assoc, append-nil}
 use mathlib.Core.Bool.{Bool, true, false, cond}
 use mathlib.Core.Option.{Option, none, some}
@@ -12,10 +12,11 @@ use lib.Dec.{leb}
 use lib.ListN.{length, take, drop, length-append, length-drop, drop-of-length-le}
 use lib.Seq.{drop-drop, drop-append-seam, take-at}
 use borrow.Author.Tests.{leb-true, leb-false}
-use Rattle.layout.specs.Read.{value, refused, first}
+use Rattle.layout.specs.Read.{Read, value, refused, first, said}
 use Rattle.layout.specs.Veil.{Sensitivity}
 use Rattle.layout.specs.Form.{Form, bytes, flag, toEnd, either}
-use Rattle.layout.specs.Field.{Field, readAt, takes, refuses}
+use Rattle.layout.specs.Field.{Field, readAt, takes, refuses, placed}
+use Rattle.layout.specs.Field as place
 use Rattle.layout.specs.Layout.{Layout, done, field, ask, parse, print, refusalOf, group, optional, optionalLayout}
 use Rattle.layout.specs.RowLaws.{Bytes}
 use Rattle.layout.proofs.Lawful.{Lawful}
@@ -46,6 +47,14 @@ module _ {B : Type 0} (f : Form B) (law : Lawful f) {row : List ℕ} (by : Bytes
 
   pub stands-first : {b : B} {rest : List ℕ} → f .read row ≡ value b rest → Stands f b row 0
   stands-first {b} {rest} e = record { post = rest; joins = law .joins row b rest by e; fits = law .fitted row b rest by e; granted = law .granted row b rest by e }
+
+-- ... and where it stands it is read
+pub stands-read : {B : Type 0} (f : Form B) → Lawful f → {b : B} {row : List ℕ} {at : ℕ} → Stands f b row at → at ≤ length row → readAt f row at ≡ takes b (at + length (f .print b))
+unfolding place.readAt
+stands-read f law {b} {row} {at} s inside =
+    let long : length (f .print b) + length (s .post) ≡ length row - at = sym (length-append (f .print b) (s .post)) ∙ ap (λ (l : List ℕ). length l) (s .joins) ∙ length-drop at row in
+    let next : length row - length (s .post) ≡ at + length (f .print b) = omega (arith, long, inside) in
+    ap (λ (x : Read _). placed row x) (ap (f .read) (sym (s .joins)) ∙ law .printed b (s .post) (s .fits) ∙ ap (λ (o : Option ℕ). said o b (s .post)) (s .granted)) ∙ ap (λ (n : ℕ). takes b n) next
 
 -- ---- ... and so do its fields
 first-none : (o o′ : Option ℕ) → first o o′ ≡ none → (o ≡ none) × (o′ ≡ none)

@@ -1,36 +1,28 @@
 -- Where the depositor of a carried row stands, so that 31 can be asked of the bytes there before the row is read.
 -- Assumes nothing.
-use Prim.Native.Nat.{ℕ, _-_, _<_}
+use Prim.Native.Nat.{ℕ, _+_, _<_}
 use mathlib.Core.List.{List}
 use mathlib.Core.Bool.{Bool, true}
 use mathlib.Core.Logic.{inl, inr}
-use mathlib.Core.Option.{Option}
 use mathlib.Core.Path.{_≡_, refl, sym, ap, _∙_}
 use native.Mathlib.Omega.{arith}
 use lib.ListN.{length, getD}
 use borrow.Author.Tests.{lt-ltb}
 use Rattle.layout.specs.Questions.{CODE}
-use Rattle.layout.specs.Read.{Read, value, refused, said}
-use Rattle.layout.specs.Form.{Form, u8, u64, either}
-use Rattle.layout.specs.Field.{takes, refuses, placed, readAt}
+use Rattle.layout.specs.Read.{Read, value, refused}
+use Rattle.layout.specs.Form.{u8, u64, either}
+use Rattle.layout.specs.Field.{takes, refuses, readAt}
 use Rattle.layout.specs.Field as field
 use Rattle.layout.specs.Layout.{group, parse, answer}
 use Rattle.layout.specs.RowLaws.{Bytes}
-use Rattle.layout.proofs.Lawful.{Lawful}
 use Rattle.layout.proofs.Front.{number-lawful}
 use Rattle.layout.proofs.At.{byte-in}
 use Rattle.rows.specs.Values.{Carried, Courier}
 use Rattle.rows.specs.Rows.{carried, tombstone, courier}
 use Rattle.rows.proofs.Lawful.{courier-lawful}
-use Rattle.offsets.proofs.Offset.{Stands, stands-first, field-stands, row-stands, either-left}
+use Rattle.offsets.proofs.Offset.{Stands, stands-first, stands-read, field-stands, row-stands, either-left}
 use Rattle.store.specs.Kinds as kinds
 use Rattle.restore_across.specs.Across.{lowIn, depositorRead}
-
--- what stands at a place is read there
-stands-read : {B : Type 0} (f : Form B) → Lawful f → {b : B} {row : List ℕ} {at : ℕ} (s : Stands f b row at) → readAt f row at ≡ takes b (length row - length (s .post))
-unfolding field.readAt
-stands-read f law {b} {row} s =
-    ap (λ (x : Read _). placed row x) (ap (f .read) (sym (s .joins)) ∙ law .printed b (s .post) (s .fits) ∙ ap (λ (o : Option ℕ). said o b (s .post)) (s .granted))
 
 module _ (row : List ℕ) (by : Bytes row) (version : ℕ) where
   -- a row that is read as carried: its kind, and then its depositor
@@ -38,14 +30,14 @@ module _ (row : List ℕ) (by : Bytes row) (version : ℕ) where
     held : Stands (either CODE (group carried) (group tombstone)) (inl c) row 0
     held = row-stands row (courier version) 0 (inl c) (stands-first (group (courier version)) (courier-lawful version) by read)
 
-    kind-stands : readAt u8 row 0 ≡ takes 0 1
-    kind-stands =
-        let first : getD row 0 0 ≡ 0 = sym (ap (λ (l : List ℕ). getD l 0 0) (held .joins)) in
-        let long : 0 < length row = omega (arith, ap (λ (l : List ℕ). length l) (held .joins)) in
-        byte-in row 0 long ∙ ap (λ (n : ℕ). takes n 1) first
+    long : 0 < length row
+    long = omega (arith, ap (λ (l : List ℕ). length l) (held .joins))
 
-    depositor-stands : readAt u64 row 1 ≡ takes (c .depositor) (length row - length (field-stands row carried 0 c (either-left CODE (group carried) (group tombstone) held) .post))
-    depositor-stands = stands-read u64 (number-lawful 8) (field-stands row carried 0 c (either-left CODE (group carried) (group tombstone) held))
+    kind-stands : readAt u8 row 0 ≡ takes 0 1
+    kind-stands = byte-in row 0 long ∙ ap (λ (n : ℕ). takes n 1) (sym (ap (λ (l : List ℕ). getD l 0 0) (held .joins)))
+
+    depositor-stands : readAt u64 row 1 ≡ takes (c .depositor) (1 + length (u64 .print (c .depositor)))
+    depositor-stands = stands-read u64 (number-lawful 8) (field-stands row carried 0 c (either-left CODE (group carried) (group tombstone) held)) (omega (arith, long))
 
   -- 31 is a yes, unless a carried row has a depositor that is not below next
   low-if : (next : ℕ) → ((c : Carried) (rest : List ℕ) → parse (courier version) row ≡ value (inl c) rest → c .depositor < next) → lowIn next (depositorRead version row) ≡ true

@@ -1,7 +1,6 @@
 -- `contact_known::behind_flag` meets its contract.
 use Prim.Native.Nat.{ℕ}
 use mathlib.Core.List.{List}
-use mathlib.Core.Bool.{Bool}
 use mathlib.Core.Path.{_≡_}
 use borrow.Author.Needs.{needs}
 use Rattle.layout.specs.Form.{flag}
