@@ -112,7 +112,7 @@ fn verdict(run: &[u8], omitted: Omitted, before: Entry, e: Entry, round: u8, i: 
     row_verdict(e.kind, e.version, row)
 }
 
-// One turn; a refusal ends all.
+// One turn; a refusal ends all. It is made anew: handed on as it is, each turn copied it, with the bytes between its fields.
 pub fn turn(
     run: &[u8],
     omitted: Omitted,
@@ -124,11 +124,11 @@ pub fn turn(
 ) -> Asked
     ensures { λ r. ⌜ r ≡ turn (roundAsks (now (run .entry)) omitted before e round i) i asked ⌝ }
 {
-    let Asked::Going = asked else {
-        return asked;
+    let Asked::Refused(number, place) = asked else {
+        let Verdict::Refused(q) = verdict(run, omitted, before, e, round, i) else {
+            return Asked::Going;
+        };
+        return Asked::Refused(q, i);
     };
-    let Verdict::Refused(q) = verdict(run, omitted, before, e, round, i) else {
-        return Asked::Going;
-    };
-    Asked::Refused(q, i)
+    Asked::Refused(number, place)
 }

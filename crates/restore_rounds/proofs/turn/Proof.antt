@@ -19,14 +19,11 @@ turned o i going e told = rw (going, learn verdictIn e told)
 abbrev asks : tie.After-verdict → Option ℕ
 asks c = let a = c .before .before .before .before .args in roundAsks (a .run .now) (a .omitted) (a .before) (a .e) (a .round) (a .i)
 
+enum-known-asked : tie.Need-enum-known-asked
+enum-known-asked c = search needs
+
 enum-told : tie.Need-enum-told
 enum-told c = search needs
-
-enum-told-2 : tie.Need-enum-told-2
-enum-told-2 c = search needs
-
-returns : tie.Need-returns
-returns c = rw (c .enum-told2 .given .1)
 
 verdict-requires : tie.Need-verdict-requires
 verdict-requires c κs = search needs
@@ -34,18 +31,21 @@ verdict-requires c κs = search needs
 enum-known-q : tie.Need-enum-known-q
 enum-known-q c = search needs
 
-enum-told-3 : tie.Need-enum-told-3
-enum-told-3 c = search needs
+enum-told-2 : tie.Need-enum-told-2
+enum-told-2 c = search needs
+
+returns : tie.Need-returns
+returns c =
+    let v = c .before .before in
+    turned (asks v) _ (v .before .enum-told .given .1) (v .verdict .ensures) (c .enum-told2 .given .1)
 
 returns-2 : tie.Need-returns-2
 returns-2 c =
-    let v = c .before .before in
-    turned (asks v) _ (v .before .enum-told .given .1) (v .verdict .ensures) (c .enum-told3 .given .1)
-
-returns-3 : tie.Need-returns-3
-returns-3 c =
     let v = c .before .before .before in
     turned (asks v) _ (v .before .enum-told .given .1) (v .verdict .ensures) (c .before .q .given .1)
 
+returns-3 : tie.Need-returns-3
+returns-3 c = rw (c .before .asked .given .1)
+
 pub turn-spec : {M : Type 1} → statement M
-turn-spec = tie.close (tie.spec enum-told enum-told-2 returns verdict-requires enum-known-q enum-told-3 returns-2 returns-3)
+turn-spec = tie.close (tie.spec enum-known-asked enum-told verdict-requires enum-known-q enum-told-2 returns returns-2 returns-3)
