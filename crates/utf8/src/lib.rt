@@ -1,103 +1,74 @@
-// Whether a name is UTF-8 by RFC 3629, character by character.
+// Whether a name is UTF-8 by RFC 3629, character by character, by a table of first bytes.
+use leads::LEADS;
 ghost use mathlib.Core.Path.{_≡_};
-ghost use mathlib.Core.Option.{some};
-ghost use Prim.Native.Nat.{_-_, _≤_, _<_};
-ghost use lib.ListN.{length, drop, replicate};
-ghost use Rattle.rows.specs.Utf8.{limits, tail, following, utf8};
-ghost use Rattle.utf8.specs.Rest.{due, restSays, nextSays, within, Character};
+ghost use Prim.Native.Nat.{_<_};
+ghost use lib.ListN.{length, getD};
+ghost use Rattle.rows.specs.Utf8.{limits, isIn, following, utf8};
+ghost use Rattle.utf8.specs.Lead.{leads, leadOf, Character};
 
-// What must follow a character's first byte: how many bytes, and the limits of the next one; those behind it are tails.
-pub struct Rest {
-    pub more: u8,
+mod leads;
+
+// What a first byte calls for: how many bytes the character has, 0 where none starts so, and the limits of the second one, 0 where there is none.
+// The bytes behind that are tails, 80..BF.
+pub struct Lead {
+    pub len: u8,
     pub lo: u8,
     pub hi: u8,
 }
 
-// Stops: no character goes on so.
-pub enum Next {
-    Expects(Rest),
-    Stops,
-}
-
-fn expects(more: u8, lo: u8, hi: u8) -> Next
-    ensures { λ r. ⌜ nextSays r ≡ some (due more (limits lo hi)) ⌝ }
+// The table is lent: code that names a constant writes it out anew each time.
+fn lead_in(table: &[u16; 256], b: u8) -> Lead
+    requires { ⌜ now table ≡ leads ⌝ }
+    ensures { λ r. ⌜ r ≡ leadOf (following b) ⌝ }
 {
-    Next::Expects(Rest { more, lo, hi })
-}
-
-// The bytes that a first byte calls for, by the RFC's table.
-fn first_byte(b: u8) -> Next
-    ensures { λ r. ⌜ nextSays r ≡ following b ⌝ }
-{
-    match b {
-        0x00..=0x7F => expects(0, 0x80, 0xBF),
-        0xC2..=0xDF => expects(1, 0x80, 0xBF),
-        0xE0 => expects(2, 0xA0, 0xBF),
-        0xE1..=0xEC => expects(2, 0x80, 0xBF),
-        0xED => expects(2, 0x80, 0x9F),
-        0xEE..=0xEF => expects(2, 0x80, 0xBF),
-        0xF0 => expects(3, 0x90, 0xBF),
-        0xF1..=0xF3 => expects(3, 0x80, 0xBF),
-        0xF4 => expects(3, 0x80, 0x8F),
-        _ => Next::Stops,
+    let entry = table[b as usize];
+    Lead {
+        len: (entry / 0x1000) as u8,
+        lo: (entry / 0x100 % 0x10 * 0x10) as u8,
+        hi: (entry % 0x100) as u8,
     }
 }
 
-// Whether tails stand from one position up to another.
-fn tails(name: &[u8], from: usize, to: usize) -> bool
-    requires { ⌜ (from ≤ to) × (to ≤ length (now name)) ⌝ }
-    ensures { λ r. ⌜ r ≡ within (replicate (to - from) tail) (drop from (now (name .entry))) ⌝ }
+// The table's entry, of any byte.
+pub fn lead_of(b: u8) -> Lead
+    ensures { λ r. ⌜ r ≡ leadOf (following b) ⌝ }
 {
-    let mut i = from;
-    while i < to {
-        let b = name[i];
-        if b < 0x80 {
-            return false;
-        }
-        if 0xBF < b {
-            return false;
-        }
-        i += 1;
-    }
-    true
+    lead_in(&LEADS, b)
 }
 
-// Whether the bytes that must follow do, from a position on.
-fn follows(name: &[u8], at: usize, rest: Rest) -> bool
-    requires { ⌜ at ≤ length (now name) ⌝ }
-    ensures { λ r. ⌜ r ≡ within (restSays rest) (drop at (now (name .entry))) ⌝ }
+fn is_in(b: u8, lo: u8, hi: u8) -> bool
+    ensures { λ r. ⌜ r ≡ isIn (limits lo hi) b ⌝ }
 {
-    let more = rest.more as usize;
-    if more == 0 {
-        return true;
-    }
-    if name.len() - at < more {
+    if b < lo {
         return false;
     }
-    let b = name[at];
-    if b < rest.lo {
-        return false;
-    }
-    if rest.hi < b {
-        return false;
-    }
-    tails(name, at + 1, at + more)
+    b <= hi
 }
 
-// How many bytes the character at a position has; 0 where none stands there.
-fn character(name: &[u8], at: usize) -> usize
-    requires { ⌜ at < length (now name) ⌝ }
+// How many bytes the character at a position has, by the entry of its first byte; 0 where none stands there.
+fn character(name: &[u8], at: usize, lead: Lead) -> usize
+    requires { ⌜ (at < length (now name)) × (lead ≡ leadOf (following (getD (now name) at 0))) ⌝ }
     ensures { λ r. ⌜ Character (now (name .entry)) at r ⌝ }
 {
-    let b = name[at];
-    if b <= 0x7F {
-        return 1;
+    let len = lead.len as usize;
+    if len < 2 {
+        return len;
     }
-    let Next::Expects(rest) = first_byte(b) else {
+    if name.len() - at < len {
         return 0;
-    };
-    if follows(name, at + 1, rest) {
-        return 1 + rest.more as usize;
+    }
+    if is_in(name[at + 1], lead.lo, lead.hi) {
+        if len == 2 {
+            return 2;
+        }
+        if is_in(name[at + 2], 0x80, 0xBF) {
+            if len == 3 {
+                return 3;
+            }
+            if is_in(name[at + 3], 0x80, 0xBF) {
+                return 4;
+            }
+        }
     }
     0
 }
@@ -108,11 +79,17 @@ pub fn is_utf8(name: &[u8]) -> bool
 {
     let mut i: usize = 0;
     while i < name.len() {
-        let n = character(name, i);
-        if n == 0 {
-            return false;
+        let lead = lead_in(&LEADS, name[i]);
+        if lead.len == 1 {
+            // a step by one, and not by the length, for which the next byte would have to wait
+            i += 1;
+        } else {
+            let n = character(name, i, lead);
+            if n == 0 {
+                return false;
+            }
+            i += n;
         }
-        i += n;
     }
     true
 }
