@@ -16,6 +16,7 @@ mod inputs;
 mod lent;
 mod model;
 mod names;
+mod names_speed;
 mod number_set;
 mod original;
 mod original_store;
@@ -130,7 +131,7 @@ const USAGE: &str =
        oracle samples DIR
        oracle store-cases|sheet-cases DIR
        oracle program-samples DIR
-       oracle speed|restore-speed [large]
+       oracle speed|names-speed|restore-speed [large]
        oracle scripts|transcript|scripts-rust|sheets|sheets-rust SEED TIMES
        oracle scripts-check|sheets-check SEED TIMES PROGRAM [WORD..]
        oracle sheets-speed|calls-speed PROGRAM [WORD..]
@@ -159,6 +160,10 @@ fn run(words: &[&str]) -> Result<bool, Box<dyn std::error::Error>> {
         ["store-cases", folder] => store_samples::write(folder.as_ref()).map(|()| true),
         ["speed"] => {
             speed::run();
+            Ok(true)
+        }
+        ["names-speed"] => {
+            names_speed::run();
             Ok(true)
         }
         ["restore-speed"] => {

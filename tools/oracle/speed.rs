@@ -12,8 +12,8 @@ use crate::timed::Timed;
 use crate::{rattle, rows};
 use std::hint::black_box;
 
-/// Different rows of a kind, tried in turn.
-const ROWS: usize = 16;
+/// Different rows of a kind, or names, tried in turn.
+pub const ROWS: usize = 16;
 /// The median of so many runs is taken, each of at least so many nanoseconds.
 const RUNS: usize = 21;
 const RUN: f64 = 1e7;
@@ -106,12 +106,12 @@ fn line(name: &str, rows: &[Vec<u8>], rust: Timed, check: Check, again: Again) {
     );
 }
 
-fn ratio(rattle: f64, rust: f64) -> String {
+pub fn ratio(rattle: f64, rust: f64) -> String {
     format!("{:.1}", rust / rattle)
 }
 
 /// The median of how much longer the second takes than the first, for each row. Both are timed in each run.
-fn more(mut first: impl FnMut(), mut second: impl FnMut()) -> f64 {
+pub fn more(mut first: impl FnMut(), mut second: impl FnMut()) -> f64 {
     let mut calls = 1;
     while timed(&mut second, calls) < RUN {
         calls *= 2;
