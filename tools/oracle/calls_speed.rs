@@ -21,11 +21,12 @@ const RUNS: usize = 3;
 const RUN: f64 = 1.0;
 const LONGEST: usize = 1 << 26;
 
-/// Stores of 2, 10, 100 and 400 entries, with the device's.
-const COUNTS: [Counts; 4] = [
+/// Stores of 2, 10, 100, 271 and 400 entries, with the device's.
+const COUNTS: [Counts; 5] = [
     counts(1, 0, 0),
     counts(1, 4, 4),
     counts(5, 47, 47),
+    counts(20, 125, 125),
     counts(20, 190, 189),
 ];
 /// Ranges above contiguous, of a contact that is alone.

@@ -2,7 +2,8 @@
 //!
 //! Rattle: one call of the C function with the run and the entries. Rust: one call of `Device::restore` with a copy of each
 //! row, made before time is taken; what it returns is dropped after time was taken. So of the Rust's memory only that which
-//! restore itself asks for counts.
+//! restore itself asks for counts. One pass: the time in which run and entries are read once and summed, below which no
+//! restore can be.
 
 use crate::build::{self, FULL, Size};
 use crate::inputs::Random;
@@ -11,7 +12,7 @@ use crate::original_store::Rows;
 use crate::rattle::{self, RestoreAnswer};
 use crate::speed::{median, processor_time};
 use crate::store_build::{self, Counts, Plan, shuffle};
-use crate::store_model::Store;
+use crate::store_model::{Entry, Store};
 use std::hint::black_box;
 
 /// The median of so many runs is taken, each of at least so many nanoseconds; of a slow call fewer, of a very slow one one.
@@ -86,8 +87,10 @@ fn head() {
     if cfg!(no_rattle) {
         println!("no Rattle library: its side is the model");
     }
-    println!("| Contacts | Queued | Courier | Order | Bytes | Rattle, µs | Rust, µs | Ratio |");
-    println!("|---|---|---|---|---|---|---|---|");
+    println!(
+        "| Contacts | Queued | Courier | Order | Bytes | One pass, µs | Rattle, µs | Rust, µs | Ratio |"
+    );
+    println!("|---|---|---|---|---|---|---|---|---|");
 }
 
 /// A line for the rows in ascending order, and one for the same, shuffled within each kind.
@@ -106,15 +109,29 @@ fn line(random: &mut Random, plan: &Plan, order: &str) -> (f64, f64) {
     let store = store_build::packed(plan.items(random));
     let rows = Rows::of(&store);
     assert_granted(&store, &rows);
+    let pass = each(|| black_box(sum(black_box(&store)))) / 1e3;
     let rattle = each(|| black_box(rattle::restore(black_box(&store)))) / 1e3;
     let rust = each(|| black_box(black_box(&rows).restore())) / 1e3;
     let (contacts, queued, courier) = (plan.contacts.len(), plan.queued.len(), plan.courier.len());
     println!(
-        "| {contacts} | {queued} | {courier} | {order} | {} | {rattle:.1} | {rust:.1} | {:.2} |",
+        "| {contacts} | {queued} | {courier} | {order} | {} | {pass:.2} | {rattle:.2} | {rust:.1} | {:.2} |",
         store.run.len(),
         rust / rattle
     );
     (rattle, rust)
+}
+
+/// All that restore is handed, read once.
+fn sum(store: &Store) -> u64 {
+    let words = store.run.chunks_exact(8);
+    let word = |bytes: &[u8]| u64::from_le_bytes(bytes.try_into().expect("eight bytes"));
+    let run = words.map(word).fold(0, u64::wrapping_add);
+    let entry = |e: &Entry| {
+        let numbers = [e.id, e.start as u64, e.len as u64];
+        let fields = [e.msgno, e.version, e.kind].map(u64::from);
+        numbers.into_iter().chain(fields).fold(0, u64::wrapping_add)
+    };
+    store.entries.iter().map(entry).fold(run, u64::wrapping_add)
 }
 
 /// Both sides restore the store, to the same numbers.
