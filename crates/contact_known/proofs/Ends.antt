@@ -40,6 +40,10 @@ module _ {B : Type 0} {x : Field B} {b : B} {next : ℕ} (read : x ≡ takes b n
   pub once : {b′ : B} {next′ : ℕ} → x ≡ takes b′ next′ → (b ≡ b′) × (next ≡ next′)
   once e = let is = sym read ∙ e in (cc, cc)
 
+-- n bytes, up to a place in the row
+run-to : (row : List ℕ) (start n next : ℕ) → start + n ≡ next → next ≤ length row → readAt (bytes plain n) row start ≡ takes (take n (drop start row)) next
+run-to row start n next ends inside = bytes-in row start n plain (omega (arith, ends, inside)) ∙ ap (λ (m : ℕ). takes (take n (drop start row)) m) ends
+
 -- a flag, and n bytes behind it if it is 1
 module _ (row : List ℕ) where
   module _ (at n : ℕ) {present : Bool} {start : ℕ} (said : readAt flag row at ≡ takes present start) {t : Bool} {next : ℕ} (read : readAt flag row at ≡ takes t next) where
@@ -47,10 +51,9 @@ module _ (row : List ℕ) where
     flagged-end = cond t (next + n) next
 
     pub flagged-run : present ≡ true → flagged-end ≤ length row → readAt (bytes plain n) row start ≡ takes (take n (drop start row)) flagged-end
-    flagged-run set ends-inside =
+    flagged-run set inside =
         let is = once said read in
-        let ends : start + n ≡ flagged-end = ap (λ (m : ℕ). m + n) (is .1) ∙ ap (λ (b : Bool). cond b (next + n) next) (sym set ∙ is .0) in
-        bytes-in row start n plain (omega (arith, ends, ends-inside)) ∙ ap (λ (m : ℕ). takes (take n (drop start row)) m) ends
+        run-to row start n flagged-end (ap (λ (m : ℕ). m + n) (is .1) ∙ ap (λ (b : Bool). cond b (next + n) next) (sym set ∙ is .0)) inside
 
     pub flagged-none : present ≡ false → start ≡ flagged-end
     flagged-none clear = let is = once said read in is .1 ∙ ap (λ (b : Bool). cond b (next + n) next) (sym clear ∙ is .0)
@@ -85,10 +88,7 @@ module _ (row : List ℕ) (by : Bytes row) where
 
     -- so it is a run from behind its length on
     pub card-run : {len start : ℕ} → readAt u16 row 83 ≡ takes len start → readAt (bytes plain len) row start ≡ takes (take len (drop start row)) next
-    card-run {len} {start} e =
-        let is = once card-counted e in
-        let ends : start + len ≡ next = omega (arith, card-ends, is .0, is .1) in
-        bytes-in row start len plain (omega (arith, ends, card-inside)) ∙ ap (λ (n : ℕ). takes (take len (drop start row)) n) ends
+    card-run {len} {start} e = let is = once card-counted e in run-to row start len next (omega (arith, card-ends, is .0, is .1)) card-inside
 
   -- ---- a part behind a flag, of n bytes if it is there
   abbrev Long : {B : Type 0} → Form B → ℕ → Type 0
@@ -100,13 +100,13 @@ module _ (row : List ℕ) (by : Bytes row) where
     optional-long none s = refl
     optional-long (some b) s = omega (arith, long b _ (optional-stands f s .fits), length-append (f .print b) [])
 
-    pub flag-read : (o : Option B) → Stands (optional f) o row at → at ≤ length row → readAt flag row at ≡ takes (present o) (at + 1)
+    flag-read : (o : Option B) → Stands (optional f) o row at → at ≤ length row → readAt flag row at ≡ takes (present o) (at + 1)
     flag-read o s past =
         let its = field-stands row (optionalLayout f) 0 o s in
         let there : Stands flag (present o) row at = subst (Stands flag (present o) row) (omega arith) its in
         stands-read flag flag-lawful there past
 
-    pub flag-ends : (o : Option B) → Stands (optional f) o row at → at + length ((optional f) .print o) ≤ length row → {r : ℕ} → EndsBehindFlag n row at r → r ≡ at + length ((optional f) .print o)
+    flag-ends : (o : Option B) → Stands (optional f) o row at → at + length ((optional f) .print o) ≤ length row → {r : ℕ} → EndsBehindFlag n row at r → r ≡ at + length ((optional f) .print o)
     flag-ends o s inside ends =
         let same = optional-long o s in
         ends (present o) (at + 1) (flag-read o s (omega (arith, inside))) (subst (λ (m : ℕ). m ≤ length row) same inside) ∙ sym same
@@ -172,8 +172,7 @@ module _ (row : List ℕ) (by : Bytes row) where
         pub skipped-run : {count first : ℕ} → readAt u16 row skipped-at ≡ takes count first → readAt (bytes plain (46 * count)) row first ≡ takes (take (46 * count) (drop first row)) next
         skipped-run {count} {first} e =
             let is = once skipped-counted e in
-            let ends : first + 46 * count ≡ next = omega (arith, skipped-ends, is .0, is .1) in
-            bytes-in row first (46 * count) plain (omega (arith, ends, took row at (group chained) chained-lawful by read .inside)) ∙ ap (λ (n : ℕ). takes (take (46 * count) (drop first row)) n) ends
+            run-to row first (46 * count) next (omega (arith, skipped-ends, is .0, is .1)) (took row at (group chained) chained-lawful by read .inside)
 
   -- ---- the fields from peer_acked to unacked
   module _ (at : ℕ) {n : Numbers} {next : ℕ} (read : readAt (group numbers) row at ≡ takes n next) where
