@@ -1,28 +1,28 @@
 -- A contact row, part by part: what the answers of the parts' readers say of the whole row, up to the questions 17 to 24. Every function that reads a row so cites this.
 -- Assumes nothing.
-use Prim.Native.Nat.{ℕ, _+_, _≤_}
+use Prim.Native.Nat.{ℕ, _+_, _<_, _≤_}
 use mathlib.Core.List.{List}
-use mathlib.Core.Bool.{true, cond}
+use mathlib.Core.Bool.{true, false}
 use mathlib.Core.Option.{Option}
 use mathlib.Core.Path.{_≡_, refl, sym, ap, subst, _∙_}
 use native.Mathlib.Omega.{arith}
 use lib.ListN.{length, drop}
-use lib.Dec.{ltb}
-use Rattle.layout.specs.Questions.{«ROW_END»}
+use Rattle.layout.specs.Questions.{VERSION, «ROW_END»}
 use Rattle.layout.specs.Read.{Read, refused, said}
 use Rattle.layout.specs.Field.{readAt}
 use Rattle.layout.specs.Layout.{parse, print, group, answer, readRow, refusedBy}
 use Rattle.layout.specs.RowLaws.{Bytes}
-use Rattle.layout.proofs.At.{took, took-next, refused-at}
-use Rattle.layout.proofs.Steps.{Came, end-no}
+use Rattle.layout.proofs.At.{Took, took, took-next, refused-at}
+use Rattle.layout.proofs.Steps.{Came, start, ask-no, end-no}
 use Rattle.rows.specs.Values as value
 use Rattle.rows.specs.Checks.{versionKnown}
 use Rattle.rows.specs.Rows.{contact}
-use Rattle.rows.proofs.Tests.{if-lt}
+use Rattle.rows.specs.declared.Verdict.{Verdict}
 use Rattle.offsets.specs.Offset.{offset}
 use Rattle.offsets.proofs.Offset.{Part}
 use Rattle.contact_parts.specs.Parts.{paired, keys, chained, numbers, pairedOf, keysOf, chainedOf, numbersOf}
-use Rattle.contact_parts.specs.Offsets.{pairedAt, pairedFrom, pairedFound, keysAt, keysFrom, keysFound, chainedAt, chainedFrom, chainedFound, numbersAt, numbersFrom, numbersFound, CardOffsets, ChainedLists, NumbersLists}
+use Rattle.contact_parts.specs.Offsets.{pairedAt, pairedFrom, pairedFound, pairedRefusal, keysAt, keysFrom, keysFound, keysRefusal, CardOffsets}
+use Rattle.contact_parts.specs.Offsets.{chainedAt, chainedFrom, chainedFound, chainedRefusal, ChainedLists, numbersAt, numbersFrom, numbersFound, numbersRefusal, NumbersLists}
 use Rattle.contact_parts.specs.declared.PairedAt.{PairedAt}
 use Rattle.contact_parts.specs.declared.PairedField.{PairedField}
 use Rattle.contact_parts.specs.declared.PairedField.the-variants as pairedField
@@ -35,146 +35,168 @@ use Rattle.contact_parts.specs.declared.ChainedField.the-variants as chainedFie
 use Rattle.contact_parts.specs.declared.NumbersAt.{NumbersAt}
 use Rattle.contact_parts.specs.declared.NumbersField.{NumbersField}
 use Rattle.contact_parts.specs.declared.NumbersField.the-variants as numbersField
-use Rattle.contact_parts.proofs.Parts.{embed, afterPaired, afterKeys, afterChained, consistent, begun, part-yes, part-no}
+use Rattle.contact_parts.proofs.Parts.{afterPaired, afterKeys, afterChained, consistent, begun, part-yes, part-no}
 use Rattle.contact_parts.proofs.Placed.{paired-part, paired-refused, keys-part, keys-refused, chained-part, chained-refused, numbers-part, numbers-refused}
 use Rattle.contact_parts.proofs.Lawful.{paired-lawful, keys-lawful, chained-lawful, numbers-lawful}
-use Rattle.rows.specs.declared.Verdict.{Verdict}
 use Rattle.contact.specs.Consistent.{inconsistency, refusalIn}
-use Rattle.contact.specs.Check.{contactAt, contactFrom, Offsets}
+use Rattle.contact.specs.Check.{contactAt, contactFrom}
 use Rattle.contact.specs.declared.ContactAt.{ContactAt}
-use Rattle.contact.specs.declared.ContactCheck.{ContactCheck}
-use Rattle.contact.specs.declared.ContactCheck.the-variants.{Fields, Refused}
 use Rattle.contact.proofs.Consistent.{all-asked}
 use Rattle.contact.proofs.Placed.{keys-begin, chained-begin, numbers-begin}
 
--- ---- the parts' answers, one after the other: all places, or the first refusal
-module _ (row : List ℕ) where
-  abbrev pub onNumbers : PairedAt → KeysAt → ChainedAt → NumbersField → ContactCheck
-  onNumbers p k c (numbersField.Value n at4) = cond (ltb at4 (length row)) (Refused «ROW_END») (Fields (record { paired = p; keys = k; chained = c; numbers = n }))
-  onNumbers p k c (numbersField.Refused q) = Refused q
-
-  abbrev pub onChained : PairedAt → KeysAt → ChainedField → ContactCheck
-  onChained p k (chainedField.Value c at3) = onNumbers p k c (numbersFound at3 (readAt (group numbers) row at3))
-  onChained p k (chainedField.Refused q) = Refused q
-
-  abbrev pub onKeys : PairedAt → KeysField → ContactCheck
-  onKeys p (keysField.Value k at2) = onChained p k (chainedFound at2 (readAt (group chained) row at2))
-  onKeys p (keysField.Refused q) = Refused q
-
-  abbrev pub onPaired : PairedField → ContactCheck
-  onPaired (pairedField.Value p at1) = onKeys p (keysFound at1 (readAt (group keys) row at1))
-  onPaired (pairedField.Refused q) = Refused q
-
-  abbrev pub parted : ContactCheck
-  parted = onPaired (pairedFound 0 (readAt (group paired) row 0))
-
--- ---- what these say of the row
+-- ---- a part was asked where the one before it ends, and answered x
 module _ (version : ℕ) (row : List ℕ) where
+  pub record PairedAsked (x : PairedField) : Type 0 where
+    pub by : Bytes row
+    pub known : versionKnown version ≡ true
+    pub found : x ≡ pairedFound 0 (readAt (group paired) row 0)
+
+  pub record KeysAsked (p : PairedAt) (x : KeysField) : Type 0 where
+    pub at : ℕ
+    pub before : PairedAsked (pairedField.Value p at)
+    pub found : x ≡ keysFound at (readAt (group keys) row at)
+
+  pub record ChainedAsked (p : PairedAt) (k : KeysAt) (x : ChainedField) : Type 0 where
+    pub at : ℕ
+    pub before : KeysAsked p (keysField.Value k at)
+    pub found : x ≡ chainedFound at (readAt (group chained) row at)
+
+  pub record NumbersAsked (p : PairedAt) (k : KeysAt) (c : ChainedAt) (x : NumbersField) : Type 0 where
+    pub at : ℕ
+    pub before : ChainedAsked p k (chainedField.Value c at)
+    pub found : x ≡ numbersFound at (readAt (group numbers) row at)
+
+  -- all four were read, up to the row's end
   pub record Whole (at : ContactAt) : Type 0 where
-    pub places : Offsets row at
+    pub end : ℕ
+    pub parts : NumbersAsked (at .paired) (at .keys) (at .chained) (numbersField.Value (at .numbers) end)
     pub placed : at ≡ contactAt version (contactFrom row at)
-    pub behind : List ℕ
-    pub says : readRow (contact version) row ≡ answer (said (inconsistency (contactFrom row at)) (contactFrom row at) behind)
+    pub says : readRow (contact version) row ≡ answer (said (inconsistency (contactFrom row at)) (contactFrom row at) (drop end row))
 
-  abbrev pub Told : ContactCheck → Type 0
-  Told (Fields at) = Whole at
-  Told (Refused q) = readRow (contact version) row ≡ refusedBy q
+  stopped : {q r : ℕ} → parse (contact version) row ≡ refused q → r ≡ q → readRow (contact version) row ≡ refusedBy r
+  stopped e is = ap (λ (x : Read value.Contact). answer x) e ∙ ap (λ (q : ℕ). refusedBy q) (sym is)
 
-  module _ (by : Bytes row) where
-    abbrev PairedPart : PairedAt → ℕ → Type 0
-    PairedPart = Part paired row 0 (pairedFrom row) (pairedAt 0) (λ p. CardOffsets row (p .card))
+  pub version-stop : versionKnown version ≡ false → readRow (contact version) row ≡ refusedBy VERSION
+  version-stop e = stopped (ask-no (start {l = contact version} {row = row} {from = 0} .so) e) refl
 
-    abbrev KeysPart : ℕ → KeysAt → ℕ → Type 0
-    KeysPart at1 = Part keys row at1 (keysFrom row) (keysAt at1) (λ k. Unit {0})
+-- ---- a part that was read: what stands at its places, and where the reader came
+module _ {version : ℕ} {row : List ℕ} where
+  module _ {p : PairedAt} {end : ℕ} (a : PairedAsked version row (pairedField.Value p end)) where
+    pub paired-read : Part paired row 0 (pairedFrom row) (pairedAt 0) (λ p. CardOffsets row (p .card)) p end
+    paired-read = paired-part row (a .by) 0 (a .found) refl
 
-    abbrev ChainedPart : ℕ → ChainedAt → ℕ → Type 0
-    ChainedPart at2 = Part chained row at2 (chainedFrom row) (chainedAt at2) (ChainedLists row)
+    paired-took : Took (group paired) row 0 (pairedFrom row p) end
+    paired-took = took row 0 (group paired) paired-lawful (a .by) (paired-read .read)
 
-    abbrev NumbersPart : ℕ → NumbersAt → ℕ → Type 0
-    NumbersPart at3 = Part numbers row at3 (numbersFrom row) (numbersAt at3) (NumbersLists row)
+    after-paired : Came (contact version) row 0 (afterPaired (pairedFrom row p)) end
+    after-paired = part-yes paired pairedOf afterPaired (begun version row (a .known)) paired-took
 
-    -- all four were read: the places are those of the value that stands there
-    module _ {p : PairedAt} {at1 : ℕ} (pp : PairedPart p at1) {k : KeysAt} {at2 : ℕ} (kp : KeysPart at1 k at2) {c : ChainedAt} {at3 : ℕ} (cp : ChainedPart at2 c at3) {n : NumbersAt} {at4 : ℕ} (np : NumbersPart at3 n at4) where
-      abbrev here : ContactAt
-      here = record { paired = p; keys = k; chained = c; numbers = n }
+  module _ {p : PairedAt} {k : KeysAt} {end : ℕ} (a : KeysAsked version row p (keysField.Value k end)) where
+    pub keys-read : Part keys row (a .at) (keysFrom row) (keysAt (a .at)) (λ k. Unit {0}) k end
+    keys-read = keys-part row (a .before .by) (a .at) (a .found) refl
 
-      abbrev v : value.Contact
-      v = contactFrom row here
+    keys-took : Took (group keys) row (a .at) (keysFrom row k) end
+    keys-took = took row (a .at) (group keys) keys-lawful (a .before .by) (keys-read .read)
 
-      end1 : at1 ≡ length (print paired (pairedOf v))
-      end1 = omega (arith, took-next row 0 (group paired) paired-lawful by (pp .read) (omega arith))
+    after-keys : Came (contact version) row 0 (afterKeys (pairedFrom row p) (keysFrom row k)) end
+    after-keys = part-yes keys keysOf (afterKeys (pairedFrom row p)) (after-paired (a .before)) keys-took
 
-      end2 : at2 ≡ at1 + length (print keys (keysOf v))
-      end2 = took-next row at1 (group keys) keys-lawful by (kp .read) (took row 0 (group paired) paired-lawful by (pp .read) .inside)
+  module _ {p : PairedAt} {k : KeysAt} {c : ChainedAt} {end : ℕ} (a : ChainedAsked version row p k (chainedField.Value c end)) where
+    pub chained-read : Part chained row (a .at) (chainedFrom row) (chainedAt (a .at)) (ChainedLists row) c end
+    chained-read = chained-part row (a .before .before .by) (a .at) (a .found) refl
 
-      end3 : at3 ≡ at2 + length (print chained (chainedOf v))
-      end3 = took-next row at2 (group chained) chained-lawful by (cp .read) (took row at1 (group keys) keys-lawful by (kp .read) .inside)
+    after-chained : Came (contact version) row 0 (afterChained (pairedFrom row p) (keysFrom row k) (chainedFrom row c)) end
+    after-chained = part-yes chained chainedOf (afterChained (pairedFrom row p) (keysFrom row k)) (after-keys (a .before)) (took row (a .at) (group chained) chained-lawful (a .before .before .by) (chained-read .read))
 
-      here-placed : here ≡ contactAt version v
-      here-placed =
-          let at-keys : at1 ≡ offset (contact version) 7 v = omega (arith, end1, keys-begin version v) in
-          let at-chained : at2 ≡ offset (contact version) 13 v = omega (arith, end1, end2, chained-begin version v) in
-          let at-numbers : at3 ≡ offset (contact version) 17 v = omega (arith, end1, end2, end3, numbers-begin version v) in
-          let its-keys = kp .place ∙ ap (λ (i : ℕ). keysAt i (keysOf v)) at-keys in
-          let its-chained = cp .place ∙ ap (λ (i : ℕ). chainedAt i (chainedOf v)) at-chained in
-          let its-numbers = np .place ∙ ap (λ (i : ℕ). numbersAt i (numbersOf v)) at-numbers in
-          λ i. record { paired = pp .place i; keys = its-keys i; chained = its-chained i; numbers = its-numbers i }
+  -- all four: the places are those of the value that stands there
+  module _ {p : PairedAt} {k : KeysAt} {c : ChainedAt} {n : NumbersAt} {end : ℕ} (a : NumbersAsked version row p k c (numbersField.Value n end)) where
+    abbrev by : Bytes row
+    by = a .before .before .before .by
 
-      whole : Came (contact version) row 0 (consistent (pairedFrom row p) (keysFrom row k) (chainedFrom row c) (numbersFrom row n)) at4 → length row ≤ at4 → Whole here
-      whole came end = record {
-        places = record { card = pp .inside; chained = cp .inside; numbers = np .inside };
-        placed = here-placed;
-        behind = drop at4 row;
-        says = ap (λ (x : Read value.Contact). answer x) (all-asked (pairedFrom row p) (keysFrom row k) (chainedFrom row c) (numbersFrom row n) came end);
+    pub numbers-read : Part numbers row (a .at) (numbersFrom row) (numbersAt (a .at)) (NumbersLists row) n end
+    numbers-read = numbers-part row by (a .at) (a .found) refl
+
+    after-numbers : Came (contact version) row 0 (consistent (pairedFrom row p) (keysFrom row k) (chainedFrom row c) (numbersFrom row n)) end
+    after-numbers = part-yes numbers numbersOf (consistent (pairedFrom row p) (keysFrom row k) (chainedFrom row c)) (after-chained (a .before)) (took row (a .at) (group numbers) numbers-lawful by (numbers-read .read))
+
+    abbrev here : ContactAt
+    here = record { paired = p; keys = k; chained = c; numbers = n }
+
+    abbrev v : value.Contact
+    v = contactFrom row here
+
+    here-placed : here ≡ contactAt version v
+    here-placed =
+        let chained-at = a .before in
+        let keys-at = chained-at .before in
+        let end1 : keys-at .at ≡ length (print paired (pairedOf v)) = omega (arith, took-next row 0 (group paired) paired-lawful by (paired-read (keys-at .before) .read) (omega arith)) in
+        let end2 : chained-at .at ≡ keys-at .at + length (print keys (keysOf v)) = took-next row (keys-at .at) (group keys) keys-lawful by (keys-read keys-at .read) (paired-took (keys-at .before) .inside) in
+        let end3 : a .at ≡ chained-at .at + length (print chained (chainedOf v)) = took-next row (chained-at .at) (group chained) chained-lawful by (chained-read chained-at .read) (keys-took keys-at .inside) in
+        let at-keys : keys-at .at ≡ offset (contact version) 7 v = omega (arith, end1, keys-begin version v) in
+        let at-chained : chained-at .at ≡ offset (contact version) 13 v = omega (arith, end1, end2, chained-begin version v) in
+        let at-numbers : a .at ≡ offset (contact version) 17 v = omega (arith, end1, end2, end3, numbers-begin version v) in
+        let its-keys = keys-read keys-at .place ∙ ap (λ (i : ℕ). keysAt i (keysOf v)) at-keys in
+        let its-chained = chained-read chained-at .place ∙ ap (λ (i : ℕ). chainedAt i (chainedOf v)) at-chained in
+        let its-numbers = numbers-read .place ∙ ap (λ (i : ℕ). numbersAt i (numbersOf v)) at-numbers in
+        λ i. record { paired = paired-read (keys-at .before) .place i; keys = its-keys i; chained = its-chained i; numbers = its-numbers i }
+
+-- ---- what a part's answer tells: the next one is asked behind it, or its refusal r is the row's
+module _ {version : ℕ} {row : List ℕ} where
+  module _ {x : PairedField} (a : PairedAsked version row x) where
+    pub keys-asked : {p : PairedAt} {at : ℕ} → x ≡ pairedField.Value p at → {y : KeysField} → y ≡ keysFound at (readAt (group keys) row at) → KeysAsked version row p y
+    keys-asked {p} {at} told is = record { at = at; before = subst (PairedAsked version row) told a; found = is }
+
+    pub paired-stop : {q r : ℕ} → x ≡ pairedField.Refused q → r ≡ pairedRefusal x → readRow (contact version) row ≡ refusedBy r
+    paired-stop told is =
+        stopped version row (part-no paired pairedOf afterPaired (begun version row (a .known)) (refused-at row 0 (group paired) (paired-refused row (a .by) 0 (a .found) told)))
+        (is ∙ ap pairedRefusal told)
+
+  module _ {p : PairedAt} {x : KeysField} (a : KeysAsked version row p x) where
+    pub chained-asked : {k : KeysAt} {at : ℕ} → x ≡ keysField.Value k at → {y : ChainedField} → y ≡ chainedFound at (readAt (group chained) row at) → ChainedAsked version row p k y
+    chained-asked {k} {at} told is = record { at = at; before = subst (KeysAsked version row p) told a; found = is }
+
+    pub keys-stop : {q r : ℕ} → x ≡ keysField.Refused q → r ≡ keysRefusal x → readRow (contact version) row ≡ refusedBy r
+    keys-stop told is =
+        stopped version row (part-no keys keysOf (afterKeys (pairedFrom row p)) (after-paired (a .before)) (refused-at row (a .at) (group keys) (keys-refused row (a .before .by) (a .at) (a .found) told)))
+        (is ∙ ap keysRefusal told)
+
+  module _ {p : PairedAt} {k : KeysAt} {x : ChainedField} (a : ChainedAsked version row p k x) where
+    pub numbers-asked : {c : ChainedAt} {at : ℕ} → x ≡ chainedField.Value c at → {y : NumbersField} → y ≡ numbersFound at (readAt (group numbers) row at) → NumbersAsked version row p k c y
+    numbers-asked {c} {at} told is = record { at = at; before = subst (ChainedAsked version row p k) told a; found = is }
+
+    pub chained-stop : {q r : ℕ} → x ≡ chainedField.Refused q → r ≡ chainedRefusal x → readRow (contact version) row ≡ refusedBy r
+    chained-stop told is =
+        let no = refused-at row (a .at) (group chained) (chained-refused row (a .before .before .by) (a .at) (a .found) told) in
+        stopped version row (part-no chained chainedOf (afterChained (pairedFrom row p) (keysFrom row k)) (after-keys (a .before)) no) (is ∙ ap chainedRefusal told)
+
+  module _ {p : PairedAt} {k : KeysAt} {c : ChainedAt} {x : NumbersField} (a : NumbersAsked version row p k c x) where
+    pub numbers-stop : {q r : ℕ} → x ≡ numbersField.Refused q → r ≡ numbersRefusal x → readRow (contact version) row ≡ refusedBy r
+    numbers-stop told is =
+        let no = refused-at row (a .at) (group numbers) (numbers-refused row (a .before .before .before .by) (a .at) (a .found) told) in
+        stopped version row (part-no numbers numbersOf (consistent (pairedFrom row p) (keysFrom row k) (chainedFrom row c)) (after-chained (a .before)) no) (is ∙ ap numbersRefusal told)
+
+    module _ {n : NumbersAt} {end : ℕ} (told : x ≡ numbersField.Value n end) where
+      abbrev all : NumbersAsked version row p k c (numbersField.Value n end)
+      all = subst (NumbersAsked version row p k c) told a
+
+      pub end-stop : end < length row → readRow (contact version) row ≡ refusedBy «ROW_END»
+      end-stop more = stopped version row (end-no (after-numbers all) more) refl
+
+      pub lists-inside : ChainedLists row c × NumbersLists row n
+      lists-inside = (chained-read (a .before) .inside, numbers-read all .inside)
+
+      pub all-read : length row ≤ end → Whole version row (record { paired = p; keys = k; chained = c; numbers = n })
+      all-read past = record {
+        end = end;
+        parts = all;
+        placed = here-placed all;
+        says = ap (λ (x : Read value.Contact). answer x) (all-asked (pairedFrom row p) (keysFrom row k) (chainedFrom row c) (numbersFrom row n) (after-numbers all) past);
       }
-
-    -- ---- from the last part to the first: what follows an answer
-    stopped : {q : ℕ} → parse (contact version) row ≡ refused q → readRow (contact version) row ≡ refusedBy q
-    stopped e = ap (λ (x : Read value.Contact). answer x) e
-
-    numbers-told : {p : PairedAt} {at1 : ℕ} → PairedPart p at1 → {k : KeysAt} {at2 : ℕ} → KeysPart at1 k at2 → {c : ChainedAt} {at3 : ℕ} → ChainedPart at2 c at3
-        → Came (contact version) row 0 (afterChained (pairedFrom row p) (keysFrom row k) (chainedFrom row c)) at3 → (x : NumbersField) → numbersFound at3 (readAt (group numbers) row at3) ≡ x → Told (onNumbers row p k c x)
-    numbers-told {p} pp {k} kp {c} {at3} cp came (numbersField.Value n at4) e =
-        let np = numbers-part row by at3 refl e in
-        let on = part-yes numbers numbersOf (consistent (pairedFrom row p) (keysFrom row k) (chainedFrom row c)) came (took row at3 (group numbers) numbers-lawful by (np .read)) in
-        if-lt at4 (length row) (λ t. Told (cond t (Refused «ROW_END») (Fields (record { paired = p; keys = k; chained = c; numbers = n }))))
-        (λ more. stopped (end-no on more))
-        (λ end. whole pp kp cp np on end)
-    numbers-told {p} pp {k} kp {c} {at3} cp came (numbersField.Refused q) e =
-        stopped (part-no numbers numbersOf (consistent (pairedFrom row p) (keysFrom row k) (chainedFrom row c)) came (refused-at row at3 (group numbers) (numbers-refused row by at3 refl e)))
-
-    chained-told : {p : PairedAt} {at1 : ℕ} → PairedPart p at1 → {k : KeysAt} {at2 : ℕ} → KeysPart at1 k at2
-        → Came (contact version) row 0 (afterKeys (pairedFrom row p) (keysFrom row k)) at2 → (x : ChainedField) → chainedFound at2 (readAt (group chained) row at2) ≡ x → Told (onChained row p k x)
-    chained-told {p} pp {k} {at2} kp came (chainedField.Value c at3) e =
-        let cp = chained-part row by at2 refl e in
-        let on = part-yes chained chainedOf (afterChained (pairedFrom row p) (keysFrom row k)) came (took row at2 (group chained) chained-lawful by (cp .read)) in
-        numbers-told pp kp cp on (numbersFound at3 (readAt (group numbers) row at3)) refl
-    chained-told {p} pp {k} {at2} kp came (chainedField.Refused q) e =
-        stopped (part-no chained chainedOf (afterChained (pairedFrom row p) (keysFrom row k)) came (refused-at row at2 (group chained) (chained-refused row by at2 refl e)))
-
-    keys-told : {p : PairedAt} {at1 : ℕ} → PairedPart p at1 → Came (contact version) row 0 (afterPaired (pairedFrom row p)) at1 → (x : KeysField) → keysFound at1 (readAt (group keys) row at1) ≡ x → Told (onKeys row p x)
-    keys-told {p} {at1} pp came (keysField.Value k at2) e =
-        let kp = keys-part row by at1 refl e in
-        let on = part-yes keys keysOf (afterKeys (pairedFrom row p)) came (took row at1 (group keys) keys-lawful by (kp .read)) in
-        chained-told pp kp on (chainedFound at2 (readAt (group chained) row at2)) refl
-    keys-told {p} {at1} pp came (keysField.Refused q) e =
-        stopped (part-no keys keysOf (afterKeys (pairedFrom row p)) came (refused-at row at1 (group keys) (keys-refused row by at1 refl e)))
-
-    paired-told : Came (contact version) row 0 (embed paired pairedOf afterPaired) 0 → (x : PairedField) → pairedFound 0 (readAt (group paired) row 0) ≡ x → Told (onPaired row x)
-    paired-told came (pairedField.Value p at1) e =
-        let pp = paired-part row by 0 refl e in
-        let on = part-yes paired pairedOf afterPaired came (took row 0 (group paired) paired-lawful by (pp .read)) in
-        keys-told pp on (keysFound at1 (readAt (group keys) row at1)) refl
-    paired-told came (pairedField.Refused q) e =
-        stopped (part-no paired pairedOf afterPaired came (refused-at row 0 (group paired) (paired-refused row by 0 refl e)))
-
-    pub told : versionKnown version ≡ true → {x : ContactCheck} → parted row ≡ x → Told x
-    told known e = subst Told e (paired-told (begun version row known) (pairedFound 0 (readAt (group paired) row 0)) refl)
 
 -- ---- the answer to 17 to 24 is the row's
 module _ {version : ℕ} {row : List ℕ} {at : ContactAt} (w : Whole version row at) (r : Verdict) (asked : refusalIn r ≡ inconsistency (contactFrom row at)) where
-  pub asked-last : {known : Verdict} → r ≡ known → readRow (contact version) row ≡ answer (said (refusalIn known) (contactFrom row at) (w .behind))
+  pub asked-last : {known : Verdict} → r ≡ known → readRow (contact version) row ≡ answer (said (refusalIn known) (contactFrom row at) (drop (w .end) row))
   asked-last {known} e =
       w .says
-      ∙ ap (λ (o : Option ℕ). answer (said o (contactFrom row at) (w .behind))) (sym asked)
-      ∙ ap (λ (x : Verdict). answer (said (refusalIn x) (contactFrom row at) (w .behind))) e
+      ∙ ap (λ (o : Option ℕ). answer (said o (contactFrom row at) (drop (w .end) row))) (sym asked)
+      ∙ ap (λ (x : Verdict). answer (said (refusalIn x) (contactFrom row at) (drop (w .end) row))) e
