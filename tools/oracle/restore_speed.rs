@@ -2,8 +2,7 @@
 //!
 //! Rattle: one call of the C function with the run and the entries. Rust: one call of `Device::restore` with a copy of each
 //! row, made before time is taken; what it returns is dropped after time was taken. So of the Rust's memory only that which
-//! restore itself asks for counts. One pass: the time in which run and entries are read once and summed, below which no
-//! restore can be.
+//! restore itself asks for counts. One pass: the time in which run and entries are read once and summed.
 
 use crate::build::{self, FULL, Size};
 use crate::inputs::Random;

@@ -37,6 +37,3 @@ sentAt at = record { unacked = at .numbers .unacked; «sent_msgno» = at .keys .
 -- these are the row's, if it is accepted
 abbrev pub Sent : (row : List ℕ) → SentAt → Type 0
 Sent row r = (version : ℕ) (v : Contact) → readRow (contact version) row ≡ accepted v → r ≡ sentAt (contactAt version v)
-
-abbrev pub noSent : SentAt
-noSent = record { unacked = record { first = 0; next = 0; count = 0 }; «sent_msgno» = 0 }

@@ -1,26 +1,24 @@
-// What a queued row is asked about, taken from the row of its contact once that row is known to be accepted: no question is asked again, and of the fields before
-// sent_msgno and the unacked numbers nothing is read but how long they are.
+// What a queued row is asked about, taken from the row of its contact once that row is known to be accepted. Card, skipped keys and ranges are stepped over by
+// their lengths; chains are read one by one, since each has a flag. Neither the card's questions nor 17 to 24 are asked again.
 use contact_lists::ListAt;
 use contact_lists::ListField;
+use contact_lists::SKIPPED_BYTES;
 use contact_parts::KeysField;
 use fields::FlagField;
 use fields::RunField;
 use fields::U16Field;
 use layout::question;
-ghost use mathlib.Core.Path.{_≡_};
 ghost use Rattle.layout.specs.Layout.{group};
 ghost use Rattle.contact_parts.specs.Parts.{paired, chained};
-ghost use Rattle.contact_known.specs.Known.{EndsAt, EndsBehindFlag, UnackedAt, Sent, noSent};
+ghost use Rattle.contact_known.specs.Known.{EndsAt, EndsBehindFlag, UnackedAt, Sent};
 
 // Where the card's length stands: behind role, mode, verification, pair_id, th and nonce_b.
 const CARD_AT: usize = 83;
 
-// How many bytes the keys of a pending Resume, a send chain and a skipped key have.
+// How many bytes the keys of a pending Resume and a send chain have.
 const PENDING_BYTES: usize = 64;
 
 const SEND_BYTES: usize = 38;
-
-const SKIPPED_BYTES: usize = 46;
 
 // How many bytes peer_acked, peer_read, read_marked and contiguous have.
 const NUMBERS_BYTES: usize = 16;
@@ -31,10 +29,8 @@ pub struct SentAt {
     pub sent_msgno: u32,
 }
 
-// What is answered of a row that was refused.
-fn no_sent() -> SentAt
-    ensures { λ r. ⌜ r ≡ noSent ⌝ }
-{
+// Of an accepted row this is never answered; any value does.
+fn no_sent() -> SentAt {
     SentAt {
         unacked: ListAt {
             first: 0,

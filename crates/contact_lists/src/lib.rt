@@ -19,7 +19,7 @@ ghost use Rattle.reader.specs.Reader.{ended, endSays};
 ghost use Rattle.contact_lists.specs.Lists.{foundAt, listSays, listRefusal, ListedAt};
 
 // How many bytes an item has, where all of a list have as many.
-const SKIPPED_BYTES: usize = 46;
+pub const SKIPPED_BYTES: usize = 46;
 
 const RANGE_BYTES: usize = 8;
 

@@ -82,10 +82,6 @@ low-as : (look : Entry → Seen) (es : List Entry) (next : ℕ) (o : Option ℕ)
 low-as look es next none h = refl
 low-as look es next (some d) h = ap (λ (n : ℕ). ltb d n) h
 
--- what is kept of the contact that was found last is what is seen of it
-abbrev OwnerKept : (run : List ℕ) → List Entry → Omitted → Progress → Type 0
-OwnerKept run es omitted w = entryAt es (w .latest) .kind ≡ CONTACT → OwnerStands (ownerSeen run omitted (entryAt es (w .latest))) (partOf run (entryAt es (w .latest))) (w .owner)
-
 -- ---- the i-th turn
 module _ (run : List ℕ) (es : List Entry) (omitted : Omitted) (i : ℕ) (w : Progress) (b : i < length es) (asked : so.Going ≡ turns (acrossBy es (sight run es omitted)) 0 i (readSo run es omitted))
     (kept : Kept run es omitted i w) where

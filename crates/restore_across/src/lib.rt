@@ -41,7 +41,7 @@ pub enum Across {
     Refused(u8, usize),
 }
 
-// Where no contact was found, or its row was refused.
+// Where no contact was found.
 fn no_owner() -> Owner
     ensures { λ r. ⌜ r ≡ noOwner ⌝ }
 {
@@ -114,7 +114,7 @@ fn low_depositor(run: &[u8], e: Entry, next: u64) -> bool
     depositor.0 < next
 }
 
-// Of a row that is known to be accepted: its questions are not asked again.
+// Of a row that is known to be accepted.
 fn owner_in(row: &[u8]) -> Owner
     ensures { λ r. ⌜ OwnerIn (now (row .entry)) r ⌝ }
 {

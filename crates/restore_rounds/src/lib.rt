@@ -112,7 +112,7 @@ fn verdict(run: &[u8], omitted: Omitted, before: Entry, e: Entry, round: u8, i: 
     row_verdict(e.kind, e.version, row)
 }
 
-// One turn; a refusal ends all. It is made anew: handed on as it is, each turn copied it, with the bytes between its fields.
+// One turn; a refusal ends all. A refusal so far is made anew: handed on as it is, it was copied in each turn, with the bytes between its fields.
 pub fn turn(
     run: &[u8],
     omitted: Omitted,

@@ -1,4 +1,4 @@
--- The table of first bytes that the reader of a name goes by, in the terms of the UTF-8 definition, and the character at a position.
+-- The table of first bytes that the reader of a name goes by, in the terms of the UTF-8 definition, and a step from a position.
 -- Assumes nothing.
 use Prim.Native.Nat.{ℕ, zero, suc, _+_, _*_, _/_, _%_, _≤_, _<_}
 use mathlib.Core.List.{List, [], _∷_}
@@ -9,10 +9,10 @@ use lib.ListN.{length, getD, drop, replicate}
 use Rattle.rows.specs.Utf8.{Limits, limits, tail, following, utf8}
 use Rattle.utf8.specs.declared.Lead.{Lead}
 
--- what RFC 3629 calls for by a first byte: the length, and the limits of the second byte; what is not there is 0
 abbrev pub lead : (len lo hi : ℕ) → Lead
 lead len lo hi = record { len = len; lo = lo; hi = hi }
 
+-- what RFC 3629 calls for by a first byte: the length, and the limits of the second byte; what is not there is 0
 abbrev pub leadOf : Option (List Limits) → Lead
 leadOf none = lead 0 0 0
 leadOf (some []) = lead 1 0 0
@@ -27,7 +27,7 @@ due (suc (suc n)) r = some (r ∷ replicate n tail)
 abbrev pub limitsOf : Lead → Option (List Limits)
 limitsOf l = due (l .len) (limits (l .lo) (l .hi))
 
--- an entry is 0xLlHI: L bytes, the second from l0 to HI
+-- an entry is 0xNLHH: N bytes, the second from L0 to HH
 abbrev pub unpacked : ℕ → Lead
 unpacked n = lead (n / 0x1000) (n / 0x100 % 0x10 * 0x10) (n % 0x100)
 
@@ -58,7 +58,7 @@ pub record TableLaws : Type 0 where
   -- and says all that the grammar does
   pub enough : (b : ℕ) → limitsOf (leadOf (following b)) ≡ following b
 
--- a character of n bytes stands at a position; 0: none does
+-- from a position on the name is UTF-8 exactly if it is so n bytes further on; 0: it is not
 pub record Character (name : List ℕ) (at n : ℕ) : Type 0 where
   pub inside : at + n ≤ length name
   pub whole : 0 < n → utf8 (drop at name) ≡ utf8 (drop (at + n) name)

@@ -1,4 +1,4 @@
-// The table of first bytes. An entry is 0xLlHI: the character has L bytes, the second of them from l0 to HI; 0x1000 is a single byte, 0x0000 no character.
+// The table of first bytes. An entry is 0xNLHH: the character has N bytes, the second of them from L0 to HH; 0x1000 is a single byte, 0x0000 no character.
 pub const LEADS: [u16; 256] = [
     0x1000, // 00
     0x1000, // 01

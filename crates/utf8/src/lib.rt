@@ -16,7 +16,7 @@ pub struct Lead {
     pub hi: u8,
 }
 
-// The table is lent: code that names a constant writes it out anew each time.
+// The table is lent: code that names a constant writes it out anew in each call.
 fn lead_in(table: &[u16; 256], b: u8) -> Lead
     requires { ⌜ now table ≡ leads ⌝ }
     ensures { λ r. ⌜ r ≡ leadOf (following b) ⌝ }
@@ -45,7 +45,7 @@ fn is_in(b: u8, lo: u8, hi: u8) -> bool
     b <= hi
 }
 
-// How many bytes the character at a position has, by the entry of its first byte; 0 where none stands there.
+// How far to step from a position, by the entry of the byte there: behind its character; 0 where the name is no UTF-8 from there on.
 fn character(name: &[u8], at: usize, lead: Lead) -> usize
     requires { ⌜ (at < length (now name)) × (lead ≡ leadOf (following (getD (now name) at 0))) ⌝ }
     ensures { λ r. ⌜ Character (now (name .entry)) at r ⌝ }
@@ -81,7 +81,7 @@ pub fn is_utf8(name: &[u8]) -> bool
     while i < name.len() {
         let lead = lead_in(&LEADS, name[i]);
         if lead.len == 1 {
-            // a step by one, and not by the length, for which the next byte would have to wait
+            // by 1, and not by lead.len: the next byte would have to wait for the table
             i += 1;
         } else {
             let n = character(name, i, lead);

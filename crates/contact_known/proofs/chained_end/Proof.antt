@@ -38,15 +38,15 @@ found : (k : tie.After-known-told) → let l = chains k in let is = k .before .c
     readAt (list (group chain)) (row l) (l .before .behind-flag2 .result) ≡ takes (items (group chain) (is .count) (drop (is .first) (row l))) (is .next)
 found k = let l = chains k in learn (listSays (group chain) (row l)) (l .chains-at .ensures .0) (k .before .chains .given .1)
 
-abbrev k1 : tie.After-run-at → tie.After-known-told
-k1 r = r .before .before .before .before .before
+abbrev to-chains : tie.After-run-at → tie.After-known-told
+to-chains r = r .before .before .before .before .before
 
-run : (r : tie.After-run-at) → let l = chains (k1 r) in let is = r .before .before .count .given .0 in (v : Chained) (next : ℕ) → readAt (group chained) (row l) (at l) ≡ takes v next
+run : (r : tie.After-run-at) → let l = chains (to-chains r) in let is = r .before .before .count .given .0 in (v : Chained) (next : ℕ) → readAt (group chained) (row l) (at l) ≡ takes v next
     → readAt (bytes plain (46 * is .0)) (row l) (is .1 .0) ≡ takes (take (46 * is .0) (drop (is .1 .0) (row l))) next
 run r v next read =
-    let l = chains (k1 r) in
+    let l = chains (to-chains r) in
     let u = r .before .before .before .before in
-    skipped-run (row l) (by l) (at l) read _ _ (l .before .before .behind-flag .ensures) (l .before .behind-flag2 .ensures) (found (k1 r)) (learn u16Says (u .u16-at .ensures) (r .before .before .count .given .1))
+    skipped-run (row l) (by l) (at l) read _ _ (l .before .before .behind-flag .ensures) (l .before .behind-flag2 .ensures) (found (to-chains r)) (learn u16Says (u .u16-at .ensures) (r .before .before .count .given .1))
 
 behind-flag-requires : tie.Need-behind-flag-requires
 behind-flag-requires c κs = search needs
@@ -101,12 +101,12 @@ enum-told-3 c = search needs
 returns-3 : tie.Need-returns-3
 returns-3 c = λ v next read.
     let r = c .before .before in
-    absurd (never (run r v next read) (learn (runSays _ (row (chains (k1 r)))) (r .run-at .ensures .0) (c .enum-told3 .given .1)))
+    absurd (never (run r v next read) (learn (runSays _ (row (chains (to-chains r)))) (r .run-at .ensures .0) (c .enum-told3 .given .1)))
 
 returns-4 : tie.Need-returns-4
 returns-4 c = λ v next read.
     let r = c .before .before .before in
-    once (learn (runSays _ (row (chains (k1 r)))) (r .run-at .ensures .0) (c .before .-first .given .1)) (run r v next read) .1
+    once (learn (runSays _ (row (chains (to-chains r)))) (r .run-at .ensures .0) (c .before .-first .given .1)) (run r v next read) .1
 
 pub chained-end-spec : {M : Type 1} → statement M
 chained-end-spec =
