@@ -19,6 +19,8 @@ fn store(name: &str) -> Vec<Line> {
         "port" => sheet_samples::port(),
         "last-numbers" => sheet_samples::last_numbers(),
         "two-contacts" => sheet_samples::two(),
+        "expired" => sheet_samples::expired_ranges(),
+        "expired-acked" => sheet_samples::expired_acked(),
         "port-veiled" => {
             let port = [Step::Restore(sheet_samples::port())];
             let twin = script_pairs::twin(&mut Random::new(SEED), &port, 0);

@@ -1,11 +1,12 @@
 //! A model of the eight calls: document 01's ledger, with the questions 34 to 40 in order, what a granted call answers and
-//! writes, and what it leaves in the lent lists.
+//! writes, and what it leaves in the lent lists. The last figure of an `S` line is document 02's (A5).
 //!
 //! How it was made: from document 01 ("The ledger", questions 34 to 40, and the paragraph between them) and from the list of
 //! how its open points are read (docs/DECISIONS.md), with no Rattle of the calls or of covered numbers read. Its author had
 //! read the Rust's `Received`, which merges ranges and refuses nothing; here S is a set of numbers (number_set.rs). It sees
 //! the arguments and the lengths of what is lent, never what lent places hold. 34 is asked in full: the store with the
-//! opened fields' row in place of the contact's is restored by store_model.rs each time.
+//! opened fields' row in place of the contact's is restored by store_model.rs each time. That last figure came later, from
+//! document 02, by an author who knew the Rattle's definition of it.
 
 use crate::lent::Lists;
 use crate::model::{self, Contact};
@@ -121,7 +122,7 @@ impl Opened {
         let queued = store.entries.iter().filter(of_this).count();
         let (acked, contiguous) = (row.peer_acked, covered.contiguous());
         let beyond = numbers_in(&covered.above());
-        let expired = numbers_in(&row.expired);
+        let expired = NumberSet::of(&row.expired).count_above(acked);
         format!("S,{id},{n},{acked},{contiguous},{beyond},{queued},{expired}\n")
     }
 }

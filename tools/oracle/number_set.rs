@@ -1,4 +1,4 @@
-//! S of document 01's ledger: a set of numbers from 1 to 2^32 - 1.
+//! S of document 01's ledger, and the expired numbers of document 02's A5: sets of numbers from 1 to 2^32 - 1.
 //!
 //! What was put into it is kept as it came and never joined. A number is in S if one of these ranges holds it; the least
 //! number missing is found by going from range to range; and the maximal runs are found by counting, at each number where
@@ -117,6 +117,21 @@ impl NumberSet {
         let mut runs = self.runs();
         runs.retain(|(from, _)| *from != 1);
         runs
+    }
+
+    /// How many numbers of the set are above this one: all but those up to it. Where they are all kept one by one, they
+    /// are also counted so.
+    pub fn count_above(&self, number: u32) -> u64 {
+        let number = u64::from(number);
+        let up_to = |(from, to): &(u64, u64)| (narrow(*from), narrow((*to).min(number)));
+        let passed: Vec<Range> = self.parts.iter().map(up_to).collect();
+        let count = numbers_in(&self.runs()) - numbers_in(&Self::of(&passed).runs());
+        let low = self.parts.iter().all(|(_, to)| *to <= WINDOW);
+        if low || number >= HIGHEST - WINDOW {
+            let singly = self.windows.iter().filter(|single| **single > number);
+            assert_eq!(count, singly.count() as u64, "above {number} in {self:?}");
+        }
+        count
     }
 
     /// The ways of finding out agree, at the ends number by number.

@@ -145,8 +145,14 @@ pub fn line(contact: &state::Contact) -> String {
         contact.peer_acked,
         numbers_in(above),
         contact.queued.len(),
-        numbers_in(&contact.expired)
+        numbers_above(contact.peer_acked, &contact.expired)
     )
+}
+
+/// How many numbers of these ranges, which do not overlap, are above `acked`.
+fn numbers_above(acked: u32, ranges: &[Range]) -> u64 {
+    let above = |(from, to): &Range| to.saturating_sub(acked.max(from - 1));
+    ranges.iter().map(|range| u64::from(above(range))).sum()
 }
 
 /// Every set of numbers up to this one.

@@ -149,16 +149,28 @@ fn renumber(random: &mut Random, contact: &mut Contact) {
         _ => random.below(16) as u32,
     };
     contact.sent_msgno = sent;
-    let any = random.next() % (u64::from(sent) + 1);
-    contact.peer_acked = random.pick(&[0, sent, any as u32]);
     let covered = NumberSet::of(&ranges(random, u32::MAX));
     contact.contiguous = covered.contiguous();
     contact.above = covered.above();
     contact.expired = NumberSet::of(&ranges(random, sent)).runs();
+    contact.peer_acked = acked(random, sent, &contact.expired);
     let unacked: BTreeSet<u32> = (0..random.below(5))
         .filter_map(|_| near_end(random, sent))
         .collect();
     contact.unacked = unacked.into_iter().collect();
+}
+
+/// None, all, or any of the numbers sent; or one next to an end of an expired range.
+fn acked(random: &mut Random, sent: u32, expired: &[Range]) -> u32 {
+    let any = (random.next() % (u64::from(sent) + 1)) as u32;
+    let near = match expired {
+        [] => any,
+        _ => {
+            let (from, to) = expired[random.below(expired.len())];
+            random.pick(&[from - 1, from, to - 1, to, to.saturating_add(1).min(sent)])
+        }
+    };
+    random.pick(&[0, sent, any, near, near])
 }
 
 /// A few ranges from 1 to `highest`: short ones near either end, and seldom a wide one.

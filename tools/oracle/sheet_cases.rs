@@ -14,7 +14,7 @@ const TIMES: u64 = 2;
 const EACH: usize = 6;
 /// The most bytes of a random sheet, and of one of samples/.
 const LONGEST: usize = 900;
-const LONGEST_SAMPLE: usize = 6_000;
+const LONGEST_SAMPLE: usize = 8_000;
 
 #[derive(Default)]
 struct Cases {

@@ -1,4 +1,4 @@
-//! Sheets for samples/, from descriptions: document 01's, a larger one, and refused ones.
+//! Sheets for samples/, from descriptions: document 01's, a larger one, one about expired ranges, and refused ones.
 
 use crate::build::{self, EMPTY, FULL, Size};
 use crate::inputs::Random;
@@ -48,11 +48,11 @@ const AGENCY: [Peer; 8] = [
         id: 1,
         name: "Ada Lovelace",
         sent: 218,
-        acked: 214,
+        acked: 210,
         contiguous: 305,
         above: &[(308, 308), (311, 340)],
         unacked: &[217],
-        expired: &[(12, 19), (101, 101)],
+        expired: &[(12, 19), (101, 101), (208, 214)],
         size: KCI,
     },
     Peer {
@@ -68,14 +68,14 @@ const AGENCY: [Peer; 8] = [
         id: 3,
         name: "Софья Ковалевская",
         sent: 4_000_000_000,
-        acked: 3_999_999_990,
+        acked: 3_999_999_987,
         contiguous: 4_294_967_290,
         above: &[
             (4_294_967_292, 4_294_967_292),
             (4_294_967_295, 4_294_967_295),
         ],
         unacked: &[3_999_999_992, 3_999_999_995],
-        expired: &[(1, 1_000_000)],
+        expired: &[(1, 1_000_000), (3_999_999_986, 3_999_999_990)],
         size: FULL,
     },
     Peer {
@@ -230,6 +230,65 @@ pub fn two() -> Vec<Line> {
     )
 }
 
+/// Expired ranges below, above and on both sides of what is acked, and what is due for each.
+const EXPIRED: [(Peer, u64); 12] = [
+    (expired(1, 3, &[(1, 5)]), 2),
+    (expired(2, 5, &[(1, 5)]), 0),
+    (expired(3, 0, &[(1, 5)]), 5),
+    (expired(4, 7, &[(1, 2), (6, 9)]), 2),
+    // Between two ranges; before one, at its end but for one, and behind it.
+    (expired(5, 4, &[(1, 2), (6, 9)]), 4),
+    (expired(6, 2, &[(3, 8)]), 6),
+    (expired(7, 7, &[(3, 8)]), 1),
+    (expired(8, 9, &[(1, 2)]), 0),
+    // At the last number of 32 bits.
+    (last(9, u32::MAX, &[(1, u32::MAX)]), 0),
+    (last(10, u32::MAX - 1, &[(1, 1), (u32::MAX, u32::MAX)]), 1),
+    (last(11, 0, &[(1, u32::MAX)]), u32::MAX as u64),
+    // Numbers beyond contiguous count whatever is acked.
+    (
+        Peer {
+            above: &[(2, 4), (6, 6)],
+            ..expired(12, 6, &[(4, 7)])
+        },
+        1,
+    ),
+];
+
+const fn expired(id: u64, acked: u32, expired: &'static [Range]) -> Peer {
+    Peer {
+        id,
+        sent: 9,
+        acked,
+        expired,
+        ..NOBODY
+    }
+}
+
+const fn last(id: u64, acked: u32, ranges: &'static [Range]) -> Peer {
+    Peer {
+        sent: u32::MAX,
+        ..expired(id, acked, ranges)
+    }
+}
+
+/// The contacts of `EXPIRED`. Each is due its figure, by the model.
+pub fn expired_ranges() -> Vec<Line> {
+    let peers = EXPIRED.map(|(peer, _)| peer);
+    let lines = lines(13, &peers, &[], &[]);
+    let text = sheet_model::statement(sheet_model::text_of(&lines).as_bytes());
+    for (line, (peer, due)) in text.lines().zip(&EXPIRED) {
+        assert!(line.starts_with(&format!("S,{},", peer.id)), "{line}");
+        assert!(line.ends_with(&format!(",0,{due}")), "{line}: {due}");
+    }
+    lines
+}
+
+/// The first of them alone, once all of 1..5 is acked.
+pub fn expired_acked() -> Vec<Line> {
+    lines(2, &[expired(1, 5, &[(1, 5)])], &[], &[])
+}
+
 fn agency() -> Vec<Line> {
     lines(13, &AGENCY, &AGENCY_QUEUED, &AGENCY_COURIER)
 }
@@ -245,6 +304,7 @@ pub fn sheets() -> Vec<Named> {
         ("agency", text(agency())),
         ("last-numbers", text(last_numbers())),
         ("two-contacts", text(two())),
+        ("expired", text(expired_ranges())),
         ("empty", String::new()),
     ];
     sheets.extend(refused().map(|(name, lines)| (name, text(lines))));

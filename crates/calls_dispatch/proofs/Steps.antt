@@ -1,6 +1,6 @@
 -- What a call's part leaves, with what is known of the store, is `step` of the call: answer, and all that stands afterwards.
 -- Assumes nothing.
-use Prim.Native.Nat.{ℕ}
+use Prim.Native.Nat.{ℕ, _+_}
 use mathlib.Core.List.{List, _++_}
 use mathlib.Core.Bool.{Bool, true, false, cond, false≢true, true≢false}
 use mathlib.Core.Option.{Option, none, some}
@@ -105,8 +105,8 @@ module _ (m : Mark) (run : List ℕ) (es : List Entry) (c : Contact) (l : Lists)
   line-is : ListsTyped l → (k : ContactId) → passes (k .0) h ≡ true → lineFrom k c (queuedOf (k .0) es) (l .above) (l .expired) ≡ lineIn (k .0) h
   line-is typed k e =
       let all = all-counted c l (and-both (counted c l) (replacedPasses run es (k .0) (image c l)) e .0) in
-      let a = few-numbers (c .above) (l .above) (typed .above) (all .above .few) in
-      let x = few-numbers (c .expired) (l .expired) (typed .expired) (all .expired .few) in
+      let a = few-numbers 0 (c .above) (l .above) (typed .above) (all .above .few) in
+      let x = few-numbers (c .«peer_acked» + 1) (c .expired) (l .expired) (typed .expired) (all .expired .few) in
       λ i. lineOf (k .0) (c .«sent_msgno») (c .«peer_acked») (c .contiguous) (a i) (queuedOf (k .0) es) (x i)
 
   line-said : (line : List ℕ) → let w = writer.stored line out in leaves (says (lineSays (w .answer)) (w .out)) (output (w .out) h) ≡ writing (saidLine line) h w

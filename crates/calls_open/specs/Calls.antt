@@ -1,4 +1,4 @@
--- What the part of each call leaves once the questions before it are a yes, in the words of ledger/specs/Step.antt and in document 01's order.
+-- What the part of each call leaves once the questions before it are a yes, in the words of calls_step/specs/Step.antt and in document 01's order.
 -- Assumes nothing.
 use Prim.Native.Nat.{ℕ, _+_, _-_, _^_, min}
 use mathlib.Core.List.{List}
@@ -13,7 +13,7 @@ use Rattle.rows.specs.declared.Verdict.{Verdict}
 use Rattle.rows.specs.declared.Verdict.the-variants as verdict
 use Rattle.numbers.specs.Ranges as received
 use Rattle.numbers.specs.Ranges.{Received, isRange}
-use Rattle.numbers.specs.Sets.{size}
+use Rattle.numbers.specs.Sets.{sizeFrom}
 use Rattle.received.specs.Lent.{pairs, receivedIn, planOf, listAfter}
 use Rattle.received.specs.declared.Planned.{Planned}
 use Rattle.received.specs.declared.Planned.the-variants as planned
@@ -78,13 +78,13 @@ pub record WrittenBy (c : Contact) (m : Mark) (say : writer.Written → Answer) 
   pub answer : r ≡ left c m (say (w .answer))
   pub output : out ≡ w .out
 
--- how many numbers the ranges hold, or 2^64 - 1 if more: 65,535 ranges never hold more
-abbrev pub numbersIn : (count : ℕ) → List ℕ → ℕ
-numbersIn count l = min (size (pairs count l)) (2 ^ 64 - 1)
+-- how many numbers from `lowest` on the ranges hold, or 2^64 - 1 if more: 65,535 ranges never hold more
+abbrev pub numbersIn : (lowest count : ℕ) → List ℕ → ℕ
+numbersIn lowest count l = min (sizeFrom lowest (pairs count l)) (2 ^ 64 - 1)
 
 abbrev pub lineFrom : ContactId → Contact → (queued : ℕ) → (above expired : List ℕ) → List ℕ
 lineFrom id c queued above expired =
-    lineOf (id .0) (c .«sent_msgno») (c .«peer_acked») (c .contiguous) (numbersIn (c .above) above) queued (numbersIn (c .expired) expired)
+    lineOf (id .0) (c .«sent_msgno») (c .«peer_acked») (c .contiguous) (numbersIn 0 (c .above) above) queued (numbersIn (c .«peer_acked» + 1) (c .expired) expired)
 
 abbrev pub lineLeft : ContactId → Contact → (queued : ℕ) → (above expired out : List ℕ) → writer.Left
 lineLeft id c queued above expired out = writer.stored (lineFrom id c queued above expired) out

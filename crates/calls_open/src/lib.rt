@@ -167,8 +167,9 @@ pub fn statement(
 ) -> Left
     ensures { λ r. ⌜ (let line = lineLeft id contact queued (now (above .entry)) (now (expired .entry)) (now (out .entry)) in WrittenBy contact mark lineSays line r (now (out .exit))) ⌝ }
 {
-    let beyond = statement_line::numbers_in(above, contact.above);
-    let lost = statement_line::numbers_in(expired, contact.expired);
+    let beyond = statement_line::numbers_in(above, contact.above, 0);
+    let acked = width::wide(contact.peer_acked);
+    let lost = statement_line::numbers_in(expired, contact.expired, acked + 1);
     let written = statement_line::statement_line(
         id,
         contact.sent_msgno,

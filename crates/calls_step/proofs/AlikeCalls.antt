@@ -68,8 +68,10 @@ module _ (N : ℕ) (run run′ : List ℕ) (es : List Entry) (v : VeilEqual run 
     line-same : lineNow N es o ≡ lineNow N es its
     line-same =
         let c : ℕ = covered N o .contiguous in
-        λ i. lineOf (o .id) (o .n) (acked-alike (current N o) (current N its) alike i) c (howMany (o .S) (c + 1) (N - c)) (queuedOf (o .id) es)
-        (howMany (λ m. any (inside m m) (expired-alike (current N o) (current N its) alike i)) 1 N)
+        let acked = acked-alike (current N o) (current N its) alike in
+        let expired = expired-alike (current N o) (current N its) alike in
+        λ i. lineOf (o .id) (o .n) (acked i) c (howMany (o .S) (c + 1) (N - c)) (queuedOf (o .id) es)
+        (howMany (λ m. any (inside m m) (expired i)) (acked i + 1) (N - acked i))
 
     pub statement-alike :
         AccountsAlike N (writeNow (said (length (lineNow N es o)) (lineNow N es o)) (lineNow N es o) lent (opened run es o))

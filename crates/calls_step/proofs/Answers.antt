@@ -47,8 +47,8 @@ entry kind id msgno start len = record { id = id; start = start; len = len; msgn
 abbrev pub deviceOf : (d next : ℕ) → List ℕ
 deviceOf d next = replicate 4 0 ++ replicate 32 d ++ (replicate 7 0 ++ (next ∷ 0 ∷ 1 ∷ 1 ∷ 0 ∷ 60 ∷ []))
 
-abbrev pub veiledBy : (d sent contiguous : ℕ) → (above : List value.Range) → value.Contact
-veiledBy d sent contiguous above = record {
+abbrev pub numbered : (d sent acked contiguous : ℕ) → (above expired : List value.Range) → value.Contact
+numbered d sent acked contiguous above expired = record {
   role = A;
   verification = Verified;
   «pair_id» = replicate 16 1;
@@ -65,14 +65,18 @@ veiledBy d sent contiguous above = record {
   send = none;
   chains = [];
   skipped = [];
-  «peer_acked» = 1;
+  «peer_acked» = acked;
   «peer_read» = 0;
   «read_marked» = 0;
   contiguous = contiguous;
   above = above;
   unacked = 3 ∷ [];
-  expired = record { from = 1; to = 1 } ∷ [];
+  expired = expired;
 }
+
+-- acked 1, expired 1..1
+abbrev pub veiledBy : (d sent contiguous : ℕ) → (above : List value.Range) → value.Contact
+veiledBy d sent contiguous above = numbered d sent 1 contiguous above (record { from = 1; to = 1 } ∷ [])
 
 abbrev pub fieldsOf : (sent contiguous : ℕ) → (above : List value.Range) → value.Contact
 fieldsOf = veiledBy 0
@@ -87,7 +91,7 @@ abbrev pub runOf : (d : ℕ) → value.Contact → List ℕ
 runOf d v = deviceOf d 2 ++ tombstone d ++ queued d ++ print (contact 3) v
 
 -- the contact's row has so many bytes
-abbrev entriesOf : ℕ → List Entry
+abbrev pub entriesOf : ℕ → List Entry
 entriesOf long = entry DEVICE 0 0 0 49 ∷ entry CONTACT 1 0 145 long ∷ entry QUEUED 1 2 86 59 ∷ entry COURIER 7 0 49 37 ∷ []
 
 -- contiguous 2, above 4..4; and a contact without ranges above
@@ -103,9 +107,13 @@ entries = entriesOf 311
 abbrev bare : (contiguous : ℕ) → List Call → List Call
 bare contiguous cs = restore (runOf 0 (fieldsOf 3 contiguous [])) (entriesOf 303) ∷ opens 1 ∷ cs
 
--- nothing restored; so many numbers for `above`, and so many bytes of output
+-- nothing restored; these numbers for `above` and for expired ranges, and so many bytes of output
+abbrev pub freshWith : (above expired : List ℕ) → (out : ℕ) → Input
+freshWith above expired out = record { mark = Fresh; run = []; entries = []; contact = zeroContact; lists = lists [] [] above (0 ∷ []) expired; out = replicate out 0 }
+
+-- ... and one pair for expired ranges
 abbrev pub fresh : (above : List ℕ) → (out : ℕ) → Input
-fresh above out = record { mark = Fresh; run = []; entries = []; contact = zeroContact; lists = lists [] [] above (0 ∷ []) (0 ∷ 0 ∷ []); out = replicate out 0 }
+fresh above out = freshWith above (0 ∷ 0 ∷ []) out
 
 -- `above` lent without a place
 abbrev shorter : Input → Input
@@ -122,9 +130,9 @@ six = cover 3 3 ∷ contains 4 ∷ covers 1 4 ∷ take ∷ statement ∷ write �
 abbrev allEight : List Call
 allEight = then 3 six
 
--- `S,1,sent,1,contiguous,beyond,1,1` and LF, of three digits
+-- `S,1,sent,1,contiguous,beyond,1,0` and LF, of three digits
 abbrev pub line : (sent contiguous beyond : ℕ) → List ℕ
-line sent contiguous beyond = 0x53 ∷ 0x2C ∷ 0x31 ∷ 0x2C ∷ sent ∷ 0x2C ∷ 0x31 ∷ 0x2C ∷ contiguous ∷ 0x2C ∷ beyond ∷ 0x2C ∷ 0x31 ∷ 0x2C ∷ 0x31 ∷ 0x0A ∷ []
+line sent contiguous beyond = 0x53 ∷ 0x2C ∷ 0x31 ∷ 0x2C ∷ sent ∷ 0x2C ∷ 0x31 ∷ 0x2C ∷ contiguous ∷ 0x2C ∷ beyond ∷ 0x2C ∷ 0x31 ∷ 0x2C ∷ 0x30 ∷ 0x0A ∷ []
 
 -- the row that they leave, d added to each veiled byte: sent 4, contiguous 4, nothing above
 abbrev pub rowBytes : (d : ℕ) → List ℕ
@@ -147,15 +155,15 @@ abbrev pub pairs2 : List ℕ
 pairs2 = 0 ∷ 0 ∷ 0 ∷ 0 ∷ []
 
 samples :
-    -- all eight calls are granted. The line is `S,1,4,1,4,0,1,1`
+    -- all eight calls are granted. The line is `S,1,4,1,4,0,1,0`
     (answers N allEight (fresh pairs2 320) ≡ granted ∷ granted ∷ advanced true ∷ truth true ∷ truth true ∷ number 4 ∷ said 16 (line 0x34 0x34 0x30) ∷ wrote 303 ∷ [])
     -- the row's bytes, and what stands behind them stays
     × (left N allEight (fresh pairs2 320) .out ≡ rowBytes 0 ++ replicate 17 0)
-    -- document 01's line, of the contact as it was opened, in an output just long enough for it: `S,1,3,1,2,1,1,1`
+    -- document 02's line (A5), of the contact as it was opened, in an output just long enough for it: `S,1,3,1,2,1,1,0`
     × (answers N (then 3 (statement ∷ [])) (fresh pairs2 16) ≡ granted ∷ granted ∷ said 16 (line 0x33 0x32 0x31) ∷ [])
-    -- 4..5 are two numbers beyond: `S,1,3,1,2,2,1,1`
+    -- 4..5 are two numbers beyond: `S,1,3,1,2,2,1,0`
     × (answers N (then 3 (cover 5 5 ∷ statement ∷ [])) (fresh pairs2 16) ≡ granted ∷ granted ∷ advanced false ∷ said 16 (line 0x33 0x32 0x32) ∷ [])
-    -- its (p) cases of cover, contains and covers, each from the contact as it was opened: open drops what was not written
+    -- 01's (p) cases of cover, contains and covers, each from the contact as it was opened: open drops what was not written
     × (answers N (then 3 (cover 3 3 ∷ opens 1 ∷ cover 5 5 ∷ opens 1 ∷ cover 6 9 ∷ opens 1 ∷ contains 0 ∷ covers 3 4 ∷ [])) (fresh pairs2 0)
     ≡ granted ∷ granted ∷ advanced true ∷ granted ∷ advanced false ∷ granted ∷ advanced false ∷ granted ∷ truth false ∷ truth false ∷ [])
     -- a cover frees a pair: 4..4 and 6..6 with 5..5 are 4..6, the freed pair is 0, and what stands behind stays

@@ -14,7 +14,7 @@ use Rattle.rows.specs.Values.{Range}
 use Rattle.rows.specs.Rows.{contact}
 use Rattle.numbers.specs.Ranges as ranges
 use Rattle.numbers.specs.Ranges.{Received, isRange}
-use Rattle.numbers.specs.Sets.{allOf, howMany, size}
+use Rattle.numbers.specs.Sets.{allOf, howMany, size, sizeFrom}
 use Rattle.rows.proofs.Tests.{either, and-both}
 use Rattle.received.proofs.Proved.{proved}
 use Rattle.contact.specs.Contact.{Lists, contactOf}
@@ -92,8 +92,11 @@ module _ (N : ℕ) (wide : N + 1 ≡ 256 ^ 4) (run : List ℕ) (es : List Entry)
           let d = known N (current N o) (omega arith) (sound .now) in
           let b : size (coveredIn given .above) ≡ howMany (o .S) (c + 1) (N - c) =
           ap (λ (r : Received). size (r .above)) (covered-now N run es o ls out sound same fit) ∙ proved .records (sound .records) .beyond in
-          let x = ap (λ (rs : List Range). size rs) (expired-now N run es o ls out sound same fit) ∙ proved .ranges .counted N (o .fields .expired) (d .expired-canon) (d .expired) in
-          λ i. lineOf (o .id) (o .n) (o .fields .«peer_acked») c (b i) (queuedOf (o .id) es) (x i)
+          let acked : ℕ = o .fields .«peer_acked» in
+          let x =
+          ap (λ (rs : List Range). sizeFrom (acked + 1) rs) (expired-now N run es o ls out sound same fit)
+          ∙ proved .ranges .counted N (acked + 1) (N - acked) (o .fields .expired) (d .expired-canon) (d .expired) (omega arith) in
+          λ i. lineOf (o .id) (o .n) acked c (b i) (queuedOf (o .id) es) (x i)
 
       -- ---- take: 39
       taken : Open

@@ -67,7 +67,7 @@ longer =
     ∷ with 9 4 8 400 write
     ∷ []
 
--- the line is `S,1,3,1,2,5,1,1`
+-- the line is `S,1,3,1,2,5,1,0`
 abbrev longerSays : List Answer
 longerSays =
     granted ∷ granted ∷ refused «RANGES_FIT» ∷ advanced false ∷ truth true ∷ refused OUTPUT ∷ said 16 (line 0x33 0x32 0x35) ∷ wrote 319 ∷ []

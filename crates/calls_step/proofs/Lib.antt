@@ -26,6 +26,7 @@ pub mod Output
 pub mod Contracts
 pub mod Replay
 pub mod Answers
+pub mod Expired
 pub mod TwoContacts
 pub mod TwoStores
 pub mod Lending

@@ -85,7 +85,7 @@ eight d = restore (stored d) entries ∷ opens 1 ∷ six
 abbrev before : Input
 before = fresh pairs2 320
 
--- the line is `S,1,4,1,4,0,1,1`
+-- the line is `S,1,4,1,4,0,1,0`
 abbrev says : List Answer
 says = granted ∷ granted ∷ advanced true ∷ truth true ∷ truth true ∷ number 4 ∷ said 16 (line 0x34 0x34 0x30) ∷ wrote 303 ∷ []
 

@@ -14,7 +14,7 @@ use Rattle.rows.specs.Values as value
 use Rattle.rows.specs.Rows as rows
 use Rattle.numbers.specs.Ranges as received
 use Rattle.numbers.specs.Ranges.{Received, isRange}
-use Rattle.numbers.specs.Sets.{size}
+use Rattle.numbers.specs.Sets.{size, sizeFrom}
 use Rattle.received.specs.Lent.{pairs, receivedIn, planOf, listAfter}
 use Rattle.received.specs.declared.Planned.{Planned}
 use Rattle.received.specs.declared.Planned.the-variants as planned
@@ -132,7 +132,7 @@ saidLine line (writer.refuses q) = refused q
 abbrev pub lineIn : (contact : ℕ) → Input → List ℕ
 lineIn k h =
     lineOf k (h .contact .«sent_msgno») (h .contact .«peer_acked») (h .contact .contiguous) (size (pairs (h .contact .above) (h .lists .above)))
-    (queuedOf k (h .entries)) (size (pairs (h .contact .expired) (h .lists .expired)))
+    (queuedOf k (h .entries)) (sizeFrom (h .contact .«peer_acked» + 1) (pairs (h .contact .expired) (h .lists .expired)))
 
 module _ (N : ℕ) where
   -- ---- take: 39

@@ -1,4 +1,4 @@
--- THE LEDGER of document 01. It is fed the calls with their own arguments and lent lengths, and nothing that earlier calls left.
+-- THE LEDGER of document 01, with 02's A5 in the line of a statement. It is fed the calls with their own arguments and lent lengths, and nothing that earlier calls left.
 -- N is the highest message number; a set of message numbers is its test. Assumes nothing.
 use Prim.Native.Nat.{ℕ, _+_, _-_}
 use mathlib.Core.List.{List, []}
@@ -153,12 +153,13 @@ module _ (N : ℕ) where
       (plain (number (o .n + 1)) (opened run es (record { id = o .id; fields = o .fields; n = o .n + 1; S = o .S })))
       (refuse «MSGNO_LEFT» (opened run es o))
 
-  -- the numbers of S above contiguous, and those in the expired ranges, are counted
+  -- the numbers above contiguous that are in S, and the numbers above peer_acked that are in an expired range (02, A5), are counted
   abbrev pub lineNow : List Entry → Open → List ℕ
   lineNow es o =
       let c = covered o .contiguous in
-      lineOf (o .id) (o .n) (o .fields .«peer_acked») c (howMany (o .S) (c + 1) (N - c)) (queuedOf (o .id) es)
-      (howMany (λ m. any (inside m m) (o .fields .expired)) 1 N)
+      let acked = o .fields .«peer_acked» in
+      lineOf (o .id) (o .n) acked c (howMany (o .S) (c + 1) (N - c)) (queuedOf (o .id) es)
+      (howMany (λ m. any (inside m m) (o .fields .expired)) (acked + 1) (N - acked))
 
   abbrev pub rowNow : Open → List ℕ
   rowNow o = print (rows.contact 3) (current o)

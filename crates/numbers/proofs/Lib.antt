@@ -2,4 +2,5 @@ pub mod Canon
 pub mod Runs
 pub mod Insert
 pub mod Sets
+pub mod Sizes
 pub mod Decimal

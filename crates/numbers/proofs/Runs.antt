@@ -1,6 +1,6 @@
 -- The maximal runs of a set are canonical, hold its numbers and no others, and count them.
 -- Assumes nothing.
-use Prim.Native.Nat.{ℕ, zero, suc, _+_, _-_, _≤_, _<_}
+use Prim.Native.Nat.{ℕ, zero, suc, _+_, _≤_, _<_}
 use mathlib.Core.List.{List, [], _∷_}
 use mathlib.Core.Bool.{Bool, true, false, cond, false≢true}
 use mathlib.Core.Logic.{_⊎_, inl, inr, ⊎-elim}
@@ -38,7 +38,7 @@ grow-to n m (r ∷ rs) c =
 grow-size : (n : ℕ) (rs : List Range) → Canon (suc n) rs → size (grow n rs) ≡ suc (size rs)
 grow-size n [] c = omega arith
 grow-size n (r ∷ rs) c =
-    if-eq (r .from) (suc n) (λ b. size (cond b (range n (r .to) ∷ rs) (range n n ∷ r ∷ rs)) ≡ suc (r .to + 1 - r .from + size rs))
+    if-eq (r .from) (suc n) (λ b. size (cond b (range n (r .to) ∷ rs) (range n n ∷ r ∷ rs)) ≡ suc (size (r ∷ rs)))
     (λ e. omega arith) (λ e. omega arith)
 
 -- ---- the runs among the k numbers from n on

@@ -263,14 +263,3 @@ canonical-unique g rs ss c d e =
     unique g rs ss (to-canon g rs c) (to-canon g ss d)
     (λ n i. to-in n ss (sym (e n) ∙ from-in n rs i))
     (λ n i. to-in n rs (e n ∙ from-in n ss i))
-
--- as many numbers as the ranges' sizes say
-pub size-counts : (N : ℕ) (rs : List Range) → canonical 1 rs ≡ true → noneAbove N rs ≡ true → size rs ≡ howMany (λ n. any (inside n n) rs) 1 N
-size-counts N rs c e =
-    let S : ℕ → Bool = λ n. any (inside n n) rs in
-    let d : Canon 1 rs = to-canon 1 rs c in
-    let r : runs S 1 N ≡ rs =
-    unique 1 (runs S 1 N) rs (runs-canon S 1 N) d
-    (λ n i. to-in n rs (runs-from S 1 N n i .0))
-    (λ n i. runs-to S 1 N n (from-in n rs i) (above-start 1 rs d n i) (omega (arith, none-above N rs e n i))) in
-    ap size (sym r) ∙ runs-size S 1 N

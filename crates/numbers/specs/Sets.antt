@@ -1,6 +1,6 @@
 -- The set S of covered numbers, in document 01's words, and the record of it that a contact row holds. A set is its test; N is the highest number.
 -- Assumes nothing.
-use Prim.Native.Nat.{ℕ, zero, suc, _+_, _-_, _≤_}
+use Prim.Native.Nat.{ℕ, zero, suc, _+_, _-_, _≤_, max}
 use mathlib.Core.List.{List, [], _∷_}
 use mathlib.Core.Bool.{Bool, true, cond, _&&_, _||_}
 use mathlib.Core.Path.{_≡_}
@@ -48,10 +48,14 @@ notFrom1 (r ∷ rs) = cond (eqb (r .from) 1) rs (r ∷ rs)
 unfoldable pub recordOf : ℕ → (ℕ → Bool) → Received
 recordOf N S = received (reach S 1 N) (notFrom1 (runs S 1 N))
 
--- how many numbers are in ranges of which no two share one
+-- how many numbers from `lowest` on are in ranges of which no two share one
+abbrev pub sizeFrom : (lowest : ℕ) → List Range → ℕ
+sizeFrom lowest [] = 0
+sizeFrom lowest (r ∷ rs) = r .to + 1 - max (r .from) lowest + sizeFrom lowest rs
+
+-- all of them
 abbrev pub size : List Range → ℕ
-size [] = 0
-size (r ∷ rs) = r .to + 1 - r .from + size rs
+size rs = sizeFrom 0 rs
 
 -- v is a canonical record (question 23) of the set S of numbers up to N
 pub record Records (N : ℕ) (S : ℕ → Bool) (v : Received) : Type 0 where

@@ -23,7 +23,8 @@ use Rattle.rows.proofs.Tests.{either}
 use Rattle.numbers.proofs.Canon.{to-in, from-in, from-canon}
 use Rattle.numbers.proofs.Runs.{runs-canon, runs-from, runs-to, runs-size, all-each, each-all}
 use Rattle.received.proofs.Stored.{stored-is, pairs-stored}
-use Rattle.numbers.proofs.Sets.{records, contiguous-width, above-width, contiguous-in, contiguous-greatest, runs-above, beyond, covers-all, record-is, size-is, inserts, only-record, insert-is, has-record, canonical-unique, size-counts}
+use Rattle.numbers.proofs.Sets.{records, contiguous-width, above-width, contiguous-in, contiguous-greatest, runs-above, beyond, covers-all, record-is, size-is, inserts, only-record, insert-is, has-record, canonical-unique}
+use Rattle.numbers.proofs.Sizes.{size-counts}
 use Rattle.received.proofs.Cases.{thirteen, proved-cases}
 
 scan-laws : (S : ℕ → Bool) (n k : ℕ) → ScanLaws S n k

@@ -14,7 +14,7 @@ use Rattle.rows.specs.Checks.{any, canonical, noneAbove}
 use Rattle.numbers.specs.Ranges.{Received, inside, contains, covers, inserted}
 use Rattle.received.specs.Lent.{pairs, flat, planOf, listAfter}
 use Rattle.numbers.specs.Lists.{limitOf}
-use Rattle.numbers.specs.Sets.{add, allOf, howMany, runs, recordOf, size, Records, Coverable, insertAll}
+use Rattle.numbers.specs.Sets.{add, allOf, howMany, runs, recordOf, size, sizeFrom, Records, Coverable, insertAll}
 use Rattle.received.specs.Cases.{Outcome, gives, refuses, outcome, cases, AllHold}
 
 -- ---- what scanning the k numbers from n on finds
@@ -60,10 +60,13 @@ pub record RecordLaws (N : ℕ) (S : ℕ → Bool) (v : Received) : Type 0 where
   pub beyond : size (v .above) ≡ howMany S (v .contiguous + 1) (N - v .contiguous)
   pub in-all : v .contiguous + size (v .above) ≡ howMany S 1 N
 
--- ---- canonical ranges by themselves, as `expired` is: the only ones of their numbers, and as many as their sizes say
+-- ---- ranges by themselves, as `expired` is
 pub record RangesLaws : Type 0 where
+  -- canonical ones are the only ones of their numbers
   pub only : (from : ℕ) (rs ss : List Range) → canonical from rs ≡ true → canonical from ss ≡ true → ((n : ℕ) → any (inside n n) rs ≡ any (inside n n) ss) → rs ≡ ss
-  pub counted : (N : ℕ) (rs : List Range) → canonical 1 rs ≡ true → noneAbove N rs ≡ true → size rs ≡ howMany (λ n. any (inside n n) rs) 1 N
+  -- ... and from `lowest` on they hold as many as counting up to their last number, or further, finds (the last figure of a statement, document 02's A5)
+  pub counted : (N lowest k : ℕ) (rs : List Range) → canonical 1 rs ≡ true → noneAbove N rs ≡ true → N < lowest + k
+      → sizeFrom lowest rs ≡ howMany (λ n. any (inside n n) rs) lowest k
 
 -- ---- 01's (p) cases: all of the table hold, and none of 01's is left out
 pub record CaseLaws : Type 0 where

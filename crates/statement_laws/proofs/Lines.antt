@@ -1,6 +1,6 @@
 -- The calls on a store that restore grants say the line of each contact.
 -- Assumes nothing.
-use Prim.Native.Nat.{ℕ, _+_, _/_, _^_, _≤_, _<_}
+use Prim.Native.Nat.{ℕ, _+_, _-_, _/_, _^_, _≤_, _<_}
 use mathlib.Core.List.{List, [], _∷_}
 use mathlib.Core.Bool.{Bool, true, cond, _&&_}
 use mathlib.Core.Path.{_≡_, refl, sym, ap, _∙_, subst}
@@ -13,7 +13,7 @@ use Rattle.layout.specs.RowLaws.{Bytes, Valid}
 use Rattle.rows.specs.Values.{Contact}
 use Rattle.rows.specs.Rows as rows
 use Rattle.numbers.specs.Ranges.{Received}
-use Rattle.numbers.specs.Sets.{size}
+use Rattle.numbers.specs.Sets.{size, sizeFrom}
 use Rattle.rows.proofs.Tests.{either}
 use Rattle.received.proofs.Proved as numbers
 use Rattle.numbers.specs.Lists.{within}
@@ -100,9 +100,10 @@ module _ (run : List ℕ) (es : List Entry) (by : Bytes run) (going : asked (sto
         let r : Received = covered HIGHEST (openOf k v) in
         let d = known HIGHEST v wide is-valid in
         let b = sym (numbers.proved .records (records-open HIGHEST k v wide is-valid) .beyond) in
-        let x = sym (numbers.proved .ranges .counted HIGHEST (v .expired) (d .expired-canon) (d .expired)) in
-        (λ i. lineOf k (v .«sent_msgno») (v .«peer_acked») (r .contiguous) (b i) (queuedOf k es) (x i))
-        ∙ ap (λ (r : Received). lineOf k (v .«sent_msgno») (v .«peer_acked») (r .contiguous) (size (r .above)) (queuedOf k es) (size (v .expired)))
+        let acked : ℕ = v .«peer_acked» in
+        let x = sym (numbers.proved .ranges .counted HIGHEST (acked + 1) (HIGHEST - acked) (v .expired) (d .expired-canon) (d .expired) (omega arith)) in
+        (λ i. lineOf k (v .«sent_msgno») acked (r .contiguous) (b i) (queuedOf k es) (x i))
+        ∙ ap (λ (r : Received). lineOf k (v .«sent_msgno») acked (r .contiguous) (size (r .above)) (queuedOf k es) (sizeFrom (acked + 1) (v .expired)))
         (open-covered HIGHEST k v wide is-valid)
 
     saying : length (contactLine es c) ≤ length (h .out)

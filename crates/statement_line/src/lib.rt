@@ -1,4 +1,5 @@
-// The S line of a statement, `S,contact,sent,acked,contiguous,beyond,queued,expired` with its LF, and the count of the numbers in ranges.
+// The S line of a statement, `S,contact,sent,acked,contiguous,beyond,queued,expired` with its LF, and how many numbers from `lowest` on
+// ranges hold: of the ranges beyond contiguous all count, from 0 on; of expired ones those from peer_acked + 1 on, which needs 64 bits.
 // A line is written whole to the front of the output, or not at all (question 40).
 // The count is 2^64 - 1 where the ranges hold more than that, which 65,535 ranges, the most that a contact row has, never do.
 // A range whose first number is above its last holds none, and a count of ranges above the lent pairs counts as the lent pairs.
@@ -6,11 +7,11 @@ use layout::question;
 use rows::ContactId;
 use rows::Written;
 ghost use mathlib.Core.Path.{_≡_};
-ghost use Prim.Native.Nat.{_+_, _-_, _*_, _^_, _≤_, _<_, min};
+ghost use Prim.Native.Nat.{_+_, _-_, _*_, _^_, _≤_, _<_, min, max};
 ghost use lib.ListN.{length};
 ghost use Rattle.layout.specs.Write.{stored};
 ghost use Rattle.rows.specs.Answers.{leaves};
-ghost use Rattle.numbers.specs.Sets.{size};
+ghost use Rattle.numbers.specs.Sets.{sizeFrom};
 ghost use Rattle.received.specs.Lent.{pairs};
 ghost use Rattle.store.specs.Line.{lineOf};
 
@@ -44,25 +45,35 @@ pub fn statement_line(
     Written::Length(len)
 }
 
-// How many numbers a range holds.
-pub fn width(from: u32, to: u32) -> u64
-    ensures { λ r. ⌜ (r ≡ to + 1 - from) × (r ≤ 2 ^ 32) ⌝ }
+// The higher of two numbers.
+fn higher(x: u64, y: u64) -> u64
+    ensures { λ r. ⌜ r ≡ max x y ⌝ }
 {
-    if to < from {
-        return 0;
-    }
-    width::wide(to - from) + 1
+    if x < y { y } else { x }
 }
 
-// How many numbers the first `held` ranges of the list hold.
-fn numbers_of(list: &[u32], held: usize) -> u64
+// How many numbers from `lowest` on a range holds.
+pub fn size_from(from: u32, to: u32, lowest: u64) -> u64
+    ensures { λ r. ⌜ (r ≡ to + 1 - max from lowest) × (r ≤ 2 ^ 32) ⌝ }
+{
+    let start = width::wide(from);
+    let end = width::wide(to) + 1;
+    let low = higher(start, lowest);
+    if end < low {
+        return 0;
+    }
+    end - low
+}
+
+// How many numbers from `lowest` on the first `held` ranges of the list hold.
+fn numbers_of(list: &[u32], held: usize, lowest: u64) -> u64
     requires { ⌜ 2 * held ≤ length (now list) ⌝ }
-    ensures { λ r. ⌜ (r ≡ min (size (pairs held (now (list .entry)))) (2 ^ 64 - 1)) × (held ≤ 65535 → r ≡ size (pairs held (now (list .entry)))) ⌝ }
+    ensures { λ r. ⌜ (r ≡ min (sizeFrom lowest (pairs held (now (list .entry)))) (2 ^ 64 - 1)) × (held ≤ 65535 → r ≡ sizeFrom lowest (pairs held (now (list .entry)))) ⌝ }
 {
     let mut i = 0;
     let mut sum: u64 = 0;
     while i < held {
-        let n = width(list[2 * i], list[2 * i + 1]);
+        let n = size_from(list[2 * i], list[2 * i + 1], lowest);
         if u64::MAX - sum < n {
             return u64::MAX;
         }
@@ -72,13 +83,13 @@ fn numbers_of(list: &[u32], held: usize) -> u64
     sum
 }
 
-// How many numbers the first `count` ranges of a lent flat list, from, to, from, to, hold.
-pub fn numbers_in(list: &[u32], count: usize) -> u64
-    ensures { λ r. ⌜ (r ≡ min (size (pairs count (now (list .entry)))) (2 ^ 64 - 1)) × (count ≤ 65535 → r ≡ size (pairs count (now (list .entry)))) ⌝ }
+// How many numbers from `lowest` on the first `count` ranges of a lent flat list, from, to, from, to, hold.
+pub fn numbers_in(list: &[u32], count: usize, lowest: u64) -> u64
+    ensures { λ r. ⌜ (r ≡ min (sizeFrom lowest (pairs count (now (list .entry)))) (2 ^ 64 - 1)) × (count ≤ 65535 → r ≡ sizeFrom lowest (pairs count (now (list .entry)))) ⌝ }
 {
     let lent = list.len() / 2;
     if lent < count {
-        return numbers_of(list, lent);
+        return numbers_of(list, lent, lowest);
     }
-    numbers_of(list, count)
+    numbers_of(list, count, lowest)
 }

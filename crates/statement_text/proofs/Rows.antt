@@ -1,16 +1,18 @@
 -- The line of an entry: of a contact's row that is read or refused, and of an entry of another kind.
 -- Assumes nothing.
-use Prim.Native.Nat.{ℕ, _≤_}
+use Prim.Native.Nat.{ℕ, _+_, _≤_}
 use mathlib.Core.List.{List, [], _∷_}
 use mathlib.Core.Bool.{Bool, true, false, cond}
-use mathlib.Core.Path.{_≡_, refl, subst}
+use mathlib.Core.Path.{_≡_, refl, subst, ap, _∙_}
 use native.Mathlib.Omega.{arith}
 use lib.ListN.{length, take, drop, length-take, length-drop}
 use borrow.Author.Tests.{eq-eqb, ne-eqb}
 use Rattle.layout.specs.Layout.{readRow, group}
 use Rattle.rows.specs.Rows.{contact, range}
+use Rattle.rows.specs.Values.{Range}
+use Rattle.contact_lists.specs.declared.ListAt.{ListAt}
 use Rattle.contact_lists.specs.Lists.{items}
-use Rattle.numbers.specs.Sets.{size}
+use Rattle.numbers.specs.Sets.{sizeFrom}
 use Rattle.contact.specs.declared.ContactAt.{ContactAt}
 use Rattle.contact.specs.declared.ContactCheck.{ContactCheck}
 use Rattle.contact.specs.declared.ContactCheck.the-variants as check
@@ -27,15 +29,20 @@ use Rattle.statement_text.specs.Lines as lines
 use Rattle.statement_text.specs.Lines.{rowText, rowCount, entryText, entryCount, Lined}
 
 -- ---- a contact's row
+-- the ranges that stand in a list of it
+abbrev pub rangesIn : (row : List ℕ) → ListAt → List Range
+rangesIn row l = items (group range) (l .count) (drop (l .first) row)
+
 module _ (row : List ℕ) (version id queued : ℕ) {r : ContactCheck} (says : checkSays row r ≡ readRow (contact version) row) where
   pub refused-line : {q : ℕ} {l : Line} → r ≡ check.Refused q → Lined [] 0 l → Lined (rowText id queued (readRow (contact version) row)) (rowCount (readRow (contact version) row)) l
   refused-line e w = rw (← says) (rw e w)
 
   pub read-line : {at : ContactAt} {s a c b x : ℕ} → r ≡ check.Fields at → s ≡ at .keys .«sent_msgno» → a ≡ at .numbers .«peer_acked» → c ≡ at .numbers .contiguous
-      → b ≡ size (items (group range) (at .numbers .above .count) (drop (at .numbers .above .first) row))
-      → x ≡ size (items (group range) (at .numbers .expired .count) (drop (at .numbers .expired .first) row))
+      → b ≡ sizeFrom 0 (rangesIn row (at .numbers .above)) → x ≡ sizeFrom (a + 1) (rangesIn row (at .numbers .expired))
       → Lined (rowText id queued (readRow (contact version) row)) (rowCount (readRow (contact version) row)) (record { fields = id ∷ s ∷ a ∷ c ∷ b ∷ queued ∷ x ∷ []; held = true })
-  read-line e p q t u v = rw (← says) (rw e (record { text-is = same-line id queued p q t u v; count-is = refl }))
+  read-line {at} e p q t u v =
+      let expired = v ∙ ap (λ (acked : ℕ). sizeFrom (acked + 1) (rangesIn row (at .numbers .expired))) q in
+      rw (← says) (rw e (record { text-is = same-line id queued p q t u expired; count-is = refl }))
 
 pub placed : {row : List ℕ} {r : ContactCheck} {at : ContactAt} → r ≡ check.Fields at → Placed row r → Offsets row at
 placed {row} e p = subst (λ (r : ContactCheck). Placed row r) e p

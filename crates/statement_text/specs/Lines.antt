@@ -10,7 +10,7 @@ use lib.Dec.{eqb}
 use Rattle.layout.specs.Layout.{Answer, accepted, refusedBy, readRow}
 use Rattle.rows.specs.Values.{Contact}
 use Rattle.rows.specs.Rows as rows
-use Rattle.numbers.specs.Sets.{size}
+use Rattle.numbers.specs.Sets.{size, sizeFrom}
 use Rattle.store.specs.declared.Entry.{Entry}
 use Rattle.store.specs.Kinds.{CONTACT}
 use Rattle.store.specs.Store.{partOf}
@@ -21,7 +21,8 @@ use Rattle.statement_text.specs.declared.Measured.{Measured}
 
 -- ---- the line of an entry, or nothing
 abbrev pub rowText : (id queued : ℕ) → Answer Contact → List ℕ
-rowText id queued (accepted v) = lineOf id (v .«sent_msgno») (v .«peer_acked») (v .contiguous) (size (v .above)) queued (size (v .expired))
+rowText id queued (accepted v) =
+    lineOf id (v .«sent_msgno») (v .«peer_acked») (v .contiguous) (size (v .above)) queued (sizeFrom (v .«peer_acked» + 1) (v .expired))
 rowText id queued (refusedBy q) = []
 
 abbrev pub rowCount : Answer Contact → ℕ

@@ -1,11 +1,11 @@
 -- The text that the program `statement` prints: of a store, and of a sheet.
 -- Assumes nothing.
-use Prim.Native.Nat.{ℕ, suc}
+use Prim.Native.Nat.{ℕ, suc, _+_}
 use mathlib.Core.List.{List, [], _∷_, _++_}
 use mathlib.Core.Bool.{cond}
 use lib.ListN.{length}
 use lib.Dec.{eqb}
-use Rattle.numbers.specs.Sets.{size}
+use Rattle.numbers.specs.Sets.{size, sizeFrom}
 use Rattle.store.specs.declared.Entry.{Entry}
 use Rattle.store.specs.Kinds.{QUEUED, COURIER}
 use Rattle.store.specs.Store.{storeOf, ContactRow, Outcome, granted, refused, restore}
@@ -23,11 +23,12 @@ abbrev pub «LETTER_R» : ℕ
 abbrev pub «LETTER_X» : ℕ
 «LETTER_X» = 0x58
 
--- `S,contact,sent,acked,contiguous,beyond,queued,expired`: beyond counts the numbers above contiguous, expired those in the expired ranges
+-- `S,contact,sent,acked,contiguous,beyond,queued,expired`: beyond counts the numbers above contiguous in the ranges above it, expired
+-- the numbers above peer_acked in the expired ranges (document 02, A5)
 abbrev pub contactLine : List Entry → ContactRow → List ℕ
 contactLine es c =
     let v = c .fields in
-    lineOf (c .id) (v .«sent_msgno») (v .«peer_acked») (v .contiguous) (size (v .above)) (queuedOf (c .id) es) (size (v .expired))
+    lineOf (c .id) (v .«sent_msgno») (v .«peer_acked») (v .contiguous) (size (v .above)) (queuedOf (c .id) es) (sizeFrom (v .«peer_acked» + 1) (v .expired))
 
 unfoldable pub contactLines : List Entry → List ContactRow → List ℕ
 contactLines es [] = []

@@ -16,7 +16,7 @@ ghost use Rattle.rows.specs.Rows as layouts;
 ghost use Rattle.rows.specs.Rows.{range};
 ghost use Rattle.contact_lists.specs.Lists.{items, Stands};
 ghost use Rattle.put.specs.Put.{Wrote};
-ghost use Rattle.numbers.specs.Sets.{size};
+ghost use Rattle.numbers.specs.Sets.{sizeFrom};
 ghost use Rattle.store.specs.Store.{isOf};
 ghost use Rattle.store.specs.Kinds.{QUEUED};
 ghost use Rattle.store.specs.Line.{queuedOf};
@@ -100,10 +100,10 @@ fn queued_in(records: &[u64], n: usize, id: ContactId) -> u64
 
 // ---- a line's numbers
 
-// How many numbers the ranges of a row's list hold.
-fn numbers_in_row(row: &[u8], first: usize, count: usize) -> u64
+// How many numbers from `lowest` on the ranges hold that stand in the row from `first` on.
+fn numbers_in_row(row: &[u8], first: usize, count: usize, lowest: u64) -> u64
     requires { ⌜ Stands (group range) (now row) first count × (length (now row) ≤ 61440) ⌝ }
-    ensures { λ r. ⌜ r ≡ size (items (group range) count (drop first (now (row .entry)))) ⌝ }
+    ensures { λ r. ⌜ r ≡ sizeFrom lowest (items (group range) count (drop first (now (row .entry)))) ⌝ }
 {
     let mut sum: u64 = 0;
     let mut p = first;
@@ -111,7 +111,7 @@ fn numbers_in_row(row: &[u8], first: usize, count: usize) -> u64
     while i < count {
         let a = fields::be32(row, p);
         let b = fields::be32(row, p + 4);
-        sum += statement_line::width(a as u32, b as u32);
+        sum += statement_line::size_from(a as u32, b as u32, lowest);
         p += 8;
         i += 1;
     }
@@ -141,9 +141,9 @@ fn row_line(row: &[u8], version: u32, id: ContactId, queued: u64) -> Line
     let acked = width::wide(numbers.peer_acked);
     let contiguous = width::wide(numbers.contiguous);
     let above = numbers.above;
-    let beyond = numbers_in_row(row, above.first, above.count);
+    let beyond = numbers_in_row(row, above.first, above.count, 0);
     let gone = numbers.expired;
-    let expired = numbers_in_row(row, gone.first, gone.count);
+    let expired = numbers_in_row(row, gone.first, gone.count, acked + 1);
     let fields = [id.0, sent, acked, contiguous, beyond, queued, expired];
     Line { fields, held: true }
 }

@@ -1,4 +1,4 @@
--- `statement_line::numbers_of` meets its contract. The invariant: the sum, and what the ranges from the i-th on hold, are what all hold; no range holds more than 2^32.
+-- `statement_line::numbers_of` meets its contract. The invariant: the sum, and what the ranges from the i-th on hold from `lowest` on, are what all hold; no range holds more than 2^32.
 -- Assumes nothing.
 use Prim.Native.Nat.{ℕ, _+_, _-_, _*_, _^_, _≤_, _<_}
 use mathlib.Core.List.{List}
@@ -6,7 +6,7 @@ use mathlib.Core.Path.{_≡_}
 use native.Mathlib.Omega.{arith}
 use lib.ListN.{drop}
 use borrow.Author.Needs.{needs}
-use Rattle.numbers.specs.Sets.{size}
+use Rattle.numbers.specs.Sets.{sizeFrom}
 use Rattle.received.specs.Lent.{pairs}
 use Rattle.received.proofs.Pairs.{drop-pairs, drop-pairs-all}
 use Rattle.statement_line.proofs.Numbers.{counted, all-counted, held-sum, full-sum}
@@ -14,53 +14,58 @@ use Rattle.statement_line.proofs.numbers_of.Statement.{statement}
 use Rattle.statement_line.proofs.numbers_of.Tie as tie
 
 abbrev Inv-loop : tie.InvT-loop
-Inv-loop list held i₀ sum₀ i sum = (i ≤ held) × (sum ≤ i * 2 ^ 32) × (sum < 2 ^ 64) × (sum + size (drop i (pairs held list)) ≡ size (pairs held list))
+Inv-loop list held lowest i₀ sum₀ i sum =
+    (i ≤ held) × (sum ≤ i * 2 ^ 32) × (sum < 2 ^ 64) × (sum + sizeFrom lowest (drop i (pairs held list)) ≡ sizeFrom lowest (pairs held list))
 
 abbrev μ-loop : tie.MeasureT-loop
-μ-loop list held i₀ sum₀ i sum = held - i
+μ-loop list held lowest i₀ sum₀ i sum = held - i
 
--- the list, how many ranges it holds, and the turn that a call stands in
+-- the list, how many ranges it holds, the number from which on they are counted, and the turn that a call stands in
 abbrev list : tie.At-loop Inv-loop μ-loop → List ℕ
 list l = l .before .before .args .list .now
 
 abbrev held : tie.At-loop Inv-loop μ-loop → ℕ
 held l = l .before .before .args .held
 
-abbrev at : tie.After-width Inv-loop μ-loop → tie.At-loop Inv-loop μ-loop
+abbrev lowest : tie.At-loop Inv-loop μ-loop → ℕ
+lowest l = l .before .before .args .lowest
+
+abbrev at : tie.After-size-from Inv-loop μ-loop → tie.At-loop Inv-loop μ-loop
 at w = w .before .before .before .before
 
 -- the i-th range is counted
-turn : (w : tie.After-width Inv-loop μ-loop) → at w .loop .sum + w .width .result + size (drop (at w .loop .i + 1) (pairs (held (at w)) (list (at w)))) ≡ size (pairs (held (at w)) (list (at w)))
+turn : (w : tie.After-size-from Inv-loop μ-loop) → let l = at w in
+    l .loop .sum + w .size-from .result + sizeFrom (lowest l) (drop (l .loop .i + 1) (pairs (held l) (list l))) ≡ sizeFrom (lowest l) (pairs (held l) (list l))
 turn w =
     let l = at w in
-    counted (l .loop .sum) (l .loop .inv .3) (drop-pairs (list l) (held l) (l .loop .i) (w .before .before .before .loop-test .taken) (l .before .before .pre)) (w .width .ensures .0)
+    counted (lowest l) (l .loop .sum) (l .loop .inv .3) (drop-pairs (list l) (held l) (l .loop .i) (w .before .before .before .loop-test .taken) (l .before .before .pre)) (w .size-from .ensures .0)
 
 loop-holds : tie.Need-loop-holds Inv-loop μ-loop
 loop-holds c = (search needs, search needs, search needs, omega arith)
 
-mul-width : tie.Need-mul-width Inv-loop μ-loop
-mul-width c = search needs
+mul-size-from : tie.Need-mul-size-from Inv-loop μ-loop
+mul-size-from c = search needs
 
-mul-width-2 : tie.Need-mul-width-2 Inv-loop μ-loop
-mul-width-2 c = search needs
+mul-size-from-2 : tie.Need-mul-size-from-2 Inv-loop μ-loop
+mul-size-from-2 c = search needs
 
-shared-slice-read-width : tie.Need-shared-slice-read-width Inv-loop μ-loop
-shared-slice-read-width c = search needs
+shared-slice-read-size-from : tie.Need-shared-slice-read-size-from Inv-loop μ-loop
+shared-slice-read-size-from c = search needs
 
-mul-width-3 : tie.Need-mul-width-3 Inv-loop μ-loop
-mul-width-3 c = search needs
+mul-size-from-3 : tie.Need-mul-size-from-3 Inv-loop μ-loop
+mul-size-from-3 c = search needs
 
-add-width : tie.Need-add-width Inv-loop μ-loop
-add-width c = search needs
+add-size-from : tie.Need-add-size-from Inv-loop μ-loop
+add-size-from c = search needs
 
-mul-width-4 : tie.Need-mul-width-4 Inv-loop μ-loop
-mul-width-4 c = search needs
+mul-size-from-4 : tie.Need-mul-size-from-4 Inv-loop μ-loop
+mul-size-from-4 c = search needs
 
-shared-slice-read-width-2 : tie.Need-shared-slice-read-width-2 Inv-loop μ-loop
-shared-slice-read-width-2 c = search needs
+shared-slice-read-size-from-2 : tie.Need-shared-slice-read-size-from-2 Inv-loop μ-loop
+shared-slice-read-size-from-2 c = search needs
 
-width-requires : tie.Need-width-requires Inv-loop μ-loop
-width-requires c κs = search needs
+size-from-requires : tie.Need-size-from-requires Inv-loop μ-loop
+size-from-requires c κs = search needs
 
 sub-if1 : tie.Need-sub-if1 Inv-loop μ-loop
 sub-if1 c = search needs
@@ -78,12 +83,12 @@ loop-less : tie.Need-loop-less Inv-loop μ-loop
 loop-less c = search needs
 
 loop-again : tie.Need-loop-again Inv-loop μ-loop
-loop-again c = (omega arith, omega (arith, c .before .width .ensures .1), omega arith, turn (c .before))
+loop-again c = (omega arith, omega (arith, c .before .size-from .ensures .1), omega arith, turn (c .before))
 
 returns-2 : tie.Need-returns-2 Inv-loop μ-loop
 returns-2 c =
     let l = c .before in
-    let e = all-counted (l .loop .sum) (l .loop .inv .3) (drop-pairs-all (list l) (held l) (l .loop .i) (c .loop-test .left) (l .before .before .pre)) in
+    let e = all-counted (lowest l) (l .loop .sum) (l .loop .inv .3) (drop-pairs-all (list l) (held l) (l .loop .i) (c .loop-test .left) (l .before .before .pre)) in
     (rw (← e) (held-sum (l .loop .sum) (omega arith)), λ h. e)
 
 pub numbers-of-spec : {M : Type 1} → statement M
@@ -93,14 +98,14 @@ numbers-of-spec =
     Inv-loop
     μ-loop
     loop-holds
-    mul-width
-    mul-width-2
-    shared-slice-read-width
-    mul-width-3
-    add-width
-    mul-width-4
-    shared-slice-read-width-2
-    width-requires
+    mul-size-from
+    mul-size-from-2
+    shared-slice-read-size-from
+    mul-size-from-3
+    add-size-from
+    mul-size-from-4
+    shared-slice-read-size-from-2
+    size-from-requires
     sub-if1
     returns
     add-sum

@@ -1,4 +1,4 @@
--- `statement_text::numbers_in_row` meets its contract. The invariant: the sum, and what the ranges from the i-th on hold, are what all hold.
+-- `statement_text::numbers_in_row` meets its contract. The invariant: the sum, and what the ranges from the i-th on hold from `lowest` on, are what all hold.
 -- Assumes nothing.
 use Prim.Native.Nat.{ℕ, _+_, _-_, _*_, _^_, _≤_}
 use mathlib.Core.List.{List, _∷_}
@@ -12,7 +12,7 @@ use Rattle.layout.specs.Layout.{group}
 use Rattle.rows.specs.Values.{Range}
 use Rattle.rows.specs.Rows.{range}
 use Rattle.contact_lists.specs.Lists.{items}
-use Rattle.numbers.specs.Sets.{size}
+use Rattle.numbers.specs.Sets.{sizeFrom}
 use Rattle.contact_checks.specs.Cells.{cells, Rooms}
 use Rattle.contact_checks.proofs.Cells.{standing, all-shown, Turn, turn, none-left}
 use Rattle.contact_checks.proofs.Fields.{rangeAt, range-shows}
@@ -24,18 +24,21 @@ abbrev ranges : ℕ → List ℕ → List Range
 ranges = cells (λ l. 8) rangeAt
 
 abbrev Inv-loop : tie.InvT-loop
-Inv-loop row first count sum₀ p₀ i₀ sum p i =
+Inv-loop row first count lowest sum₀ p₀ i₀ sum p i =
     (i ≤ count) × (8 * i ≤ p) × (p ≤ length row) × (sum ≤ i * 2 ^ 32) × Rooms (λ l. 8) (count - i) (drop p row)
-    × (sum + size (ranges (count - i) (drop p row)) ≡ size (items (group range) count (drop first row)))
+    × (sum + sizeFrom lowest (ranges (count - i) (drop p row)) ≡ sizeFrom lowest (items (group range) count (drop first row)))
 
 abbrev μ-loop : tie.MeasureT-loop
-μ-loop row first count sum₀ p₀ i₀ sum p i = count - i
+μ-loop row first count lowest sum₀ p₀ i₀ sum p i = count - i
 
 abbrev row : tie.At-loop Inv-loop μ-loop → List ℕ
 row l = l .before .before .args .row .now
 
 abbrev count : tie.At-loop Inv-loop μ-loop → ℕ
 count l = l .before .before .args .count
+
+abbrev lowest : tie.At-loop Inv-loop μ-loop → ℕ
+lowest l = l .before .before .args .lowest
 
 -- the i-th range, and those behind it
 turned : (c : tie.In-loop Inv-loop μ-loop) → let l = c .before in Turn (λ l. 8) rangeAt (row l) (count l) (l .loop .i) (l .loop .p)
@@ -53,7 +56,7 @@ loop-holds c =
     let s = c .before in
     let a = s .args in
     let m = standing (λ l. 8) rangeAt (λ r. r) (group range) range-shows (a .row .now) (a .first) (a .count) (s .pre .0) in
-    rw sub-zero (omega arith, omega arith, s .pre .0 .so .starts, omega arith, m .rooms, simp zero-add (ap size (all-shown (λ l. 8) rangeAt m)))
+    rw sub-zero (omega arith, omega arith, s .pre .0 .so .starts, omega arith, m .rooms, simp zero-add (ap (sizeFrom (a .lowest)) (all-shown (λ l. 8) rangeAt m)))
 
 be32-requires : tie.Need-be32-requires Inv-loop μ-loop
 be32-requires c κs = omega (arith, turned c .fits)
@@ -64,17 +67,17 @@ add-be32 c = omega (arith, turned (c .before) .fits)
 be32-requires-2 : tie.Need-be32-requires-2 Inv-loop μ-loop
 be32-requires-2 c κs = omega (arith, turned (c .before) .fits)
 
-cast-width : tie.Need-cast-width Inv-loop μ-loop
-cast-width c = search needs
+cast-size-from : tie.Need-cast-size-from Inv-loop μ-loop
+cast-size-from c = search needs
 
-cast-width-2 : tie.Need-cast-width-2 Inv-loop μ-loop
-cast-width-2 c = search needs
+cast-size-from-2 : tie.Need-cast-size-from-2 Inv-loop μ-loop
+cast-size-from-2 c = search needs
 
-width-requires : tie.Need-width-requires Inv-loop μ-loop
-width-requires c κs = search needs
+size-from-requires : tie.Need-size-from-requires Inv-loop μ-loop
+size-from-requires c κs = search needs
 
 add-sum : tie.Need-add-sum Inv-loop μ-loop
-add-sum c = let l = c .before .before .before .before in omega (arith, turned (c .before .before .before) .fits, c .width .ensures .1)
+add-sum c = let l = c .before .before .before .before in omega (arith, turned (c .before .before .before) .fits, c .size-from .ensures .1)
 
 add-p : tie.Need-add-p Inv-loop μ-loop
 add-p c = omega (arith, turned (c .before .before .before) .fits)
@@ -90,13 +93,13 @@ loop-again c =
     let u = c .before in
     let l = u .before .before .before in
     let t = turned (u .before .before) in
-    let w = c .width .ensures in
-    (omega arith, omega arith, omega (arith, t .fits), omega (arith, w .1), t .rooms, counted (l .loop .sum) (l .loop .inv .5) (here u) (w .0))
+    let w = c .size-from .ensures in
+    (omega arith, omega arith, omega (arith, t .fits), omega (arith, w .1), t .rooms, counted (lowest l) (l .loop .sum) (l .loop .inv .5) (here u) (w .0))
 
 returns : tie.Need-returns Inv-loop μ-loop
 returns c =
     let l = c .before in
-    all-counted (l .loop .sum) (l .loop .inv .5) (none-left (λ l. 8) rangeAt (row l) (count l) (l .loop .i) (l .loop .p) (c .loop-test .left))
+    all-counted (lowest l) (l .loop .sum) (l .loop .inv .5) (none-left (λ l. 8) rangeAt (row l) (count l) (l .loop .i) (l .loop .p) (c .loop-test .left))
 
 pub numbers-in-row-spec : {M : Type 1} → statement M
 numbers-in-row-spec =
@@ -108,9 +111,9 @@ numbers-in-row-spec =
     be32-requires
     add-be32
     be32-requires-2
-    cast-width
-    cast-width-2
-    width-requires
+    cast-size-from
+    cast-size-from-2
+    size-from-requires
     add-sum
     add-p
     add-i

@@ -58,6 +58,9 @@ numbers-in-row-requires c κs =
     let p = placed (k .check .given .1) (lies (k .before .before)) in
     (record { next = _; so = p .numbers .above }, k .before .before .before .before .pre)
 
+add-numbers-in-row : tie.Need-add-numbers-in-row
+add-numbers-in-row c = search needs
+
 numbers-in-row-requires-2 : tie.Need-numbers-in-row-requires-2
 numbers-in-row-requires-2 c κs =
     let k = c .before .before .before .before .before .before .before .before in
@@ -87,5 +90,6 @@ row-line-spec =
     wide-requires-2
     wide-requires-3
     numbers-in-row-requires
+    add-numbers-in-row
     numbers-in-row-requires-2
     returns-2)
