@@ -1,7 +1,7 @@
 //! The commands about lists of calls and about sheets.
 
 use crate::program::Program;
-use crate::{call_samples, calls_speed, script_run, scripts};
+use crate::{call_samples, calls_speed, script_cases, script_run, scripts};
 use crate::{sheet_cases, sheet_model, sheet_samples, sheets, sheets_speed};
 use std::error::Error;
 use std::io::Read;
@@ -17,6 +17,7 @@ pub fn run(words: &[&str]) -> Option<Done> {
         ["replay"] => Some(from_input(|text| {
             script_run::replay(&String::from_utf8_lossy(text))
         })),
+        ["script-cases", folder, script] => Some(script_cases(folder.as_ref(), script)),
         ["statement"] => Some(from_input(crate::statement::statement)),
         ["statement-model"] => Some(from_input(sheet_model::statement)),
         ["sheet-cases", folder] => Some(sheet_cases::write(folder.as_ref()).map(|()| true)),
@@ -40,6 +41,11 @@ fn samples(folder: &Path) -> Done {
     std::fs::create_dir_all(folder)?;
     sheet_samples::write(folder)?;
     call_samples::write(folder)?;
+    Ok(true)
+}
+
+fn script_cases(folder: &Path, script: &str) -> Done {
+    script_cases::write(folder, &std::fs::read_to_string(script)?)?;
     Ok(true)
 }
 

@@ -1,5 +1,6 @@
 //! Lists of calls: printed, printed with the model's answers, and compared with the Rust and with a program.
 
+use crate::expired::Ways;
 use crate::inputs::Random;
 use crate::program::Program;
 use crate::script_build::script;
@@ -8,6 +9,8 @@ use crate::script_run::{HAS, Runner, replay};
 use crate::script_rust::{self, Shadow};
 use crate::script_shrink;
 use crate::script_text::{Step, Steps};
+use crate::sheet_model;
+use crate::store_model::Store;
 use std::collections::BTreeMap;
 
 /// So many lists for each of TIMES.
@@ -126,6 +129,7 @@ pub fn transcript(steps: &[Step]) -> String {
 pub struct Due {
     scripts: u64,
     answers: BTreeMap<String, BTreeMap<String, u64>>,
+    ways: Ways,
 }
 
 /// What must have come.
@@ -147,6 +151,9 @@ const MUST: [(&str, &[&str]); 12] = [
 impl Due {
     pub fn count(&mut self, answers: &[(&Step, String)]) {
         self.scripts += 1;
+        for (store, line) in stated(answers) {
+            self.ways.count(&store, line);
+        }
         for (step, answer) in answers {
             let of_step = self.answers.entry(step.name()).or_default();
             *of_step.entry(class(step, &answer[2..])).or_default() += 1;
@@ -163,12 +170,12 @@ impl Due {
                 .collect();
             println!("  {name}: {}", counts.join(", "));
         }
+        let mut all = self.ways.print();
         let came = |name: &str, answer: &str| {
             self.answers
                 .get(name)
                 .is_some_and(|answers| answers.contains_key(answer))
         };
-        let mut all = true;
         for (name, answers) in MUST {
             for answer in answers.iter().filter(|answer| !came(name, answer)) {
                 println!("  {name} was never to answer {answer}");
@@ -179,8 +186,25 @@ impl Due {
     }
 }
 
+/// The `S` lines, each with the store that was restored then.
+pub fn stated<'a>(answers: &'a [(&Step, String)]) -> Vec<(Store, &'a str)> {
+    let (mut store, mut lines) = (None, Vec::new());
+    for (step, answer) in answers {
+        match (step, answer.as_str()) {
+            (Step::Restore(lines), "= yes") => store = Some(sheet_model::store_of(lines)),
+            (Step::RawRestore(raw), "= yes") => store = Some(raw.clone()),
+            (_, line) if line.starts_with("= S,") => {
+                let store = store.clone().expect("a store is restored");
+                lines.push((store, &line[2..]));
+            }
+            _ => {}
+        }
+    }
+    lines
+}
+
 /// The answer without what it is about; of a store's refusal without number and place.
-fn class(step: &Step, answer: &str) -> String {
+pub fn class(step: &Step, answer: &str) -> String {
     let word = answer.split(' ').next().unwrap_or("");
     match (step, word) {
         (Step::Restore(_) | Step::RawRestore(_), "no") => "no".into(),

@@ -1,5 +1,6 @@
 //! Sheets: printed with what `statement` is to print, and compared with the Rust and with a program.
 
+use crate::expired::Ways;
 use crate::inputs::Random;
 use crate::program::Program;
 use crate::script_shrink;
@@ -61,13 +62,19 @@ struct Due {
     sheets: u64,
     lines: u64,
     answers: BTreeMap<String, u64>,
+    ways: Ways,
 }
 
 impl Due {
-    fn count(&mut self, due: &str) {
+    fn count(&mut self, sheet: &[u8], due: &str) {
         self.sheets += 1;
-        self.lines += due.lines().filter(|line| line.starts_with('S')).count() as u64;
         *self.answers.entry(class(due)).or_default() += 1;
+        let lines: Vec<&str> = due.lines().filter(|line| line.starts_with('S')).collect();
+        self.lines += lines.len() as u64;
+        if let (false, Ok(rows)) = (lines.is_empty(), sheet_model::read(sheet)) {
+            let store = sheet_model::store_of(&rows);
+            lines.iter().for_each(|line| self.ways.count(&store, line));
+        }
     }
 
     /// Whether every answer came: granted, R with 1 and 3 to 33, X with 41 to 44.
@@ -87,7 +94,7 @@ impl Due {
         if !missing.is_empty() {
             println!("  never due: {missing:?}");
         }
-        missing.is_empty()
+        self.ways.print() && missing.is_empty()
     }
 }
 
@@ -97,7 +104,7 @@ pub fn compare_rust(seed: u64, times: u64) -> bool {
     let (mut known, mut faults) = (0, Vec::new());
     each(seed, times, |made| {
         let model = sheet_model::statement(&made.sheet);
-        due.count(&model);
+        due.count(&made.sheet, &model);
         if let Some(before) = &made.due {
             known += 1;
             if *before != model {
@@ -151,7 +158,7 @@ pub fn check(seed: u64, times: u64, program: Program) -> bool {
     let mut different = 0;
     each(seed, times, |made| {
         let model = sheet_model::statement(&made.sheet);
-        due.count(&model);
+        due.count(&made.sheet, &model);
         if program.run_in(&pieces(&mut random, &made.sheet)) != model.as_bytes() {
             different += 1;
             if different <= SHOWN {
