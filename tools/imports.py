@@ -1,5 +1,5 @@
 #!/usr/bin/env python3
-"""Lists imports that a file does not use, in the .antt and .rt files of crates/. Exit status 1 if there are any."""
+"""Lists imports that a file does not use or has twice, in the .antt and .rt files of crates/. Exit status 1 if there are any."""
 import pathlib
 import re
 import sys
@@ -35,6 +35,11 @@ def unused(path: pathlib.Path) -> list[str]:
     return missing
 
 
+def doubled(path: pathlib.Path) -> list[str]:
+    imports = [line for line in path.read_text().split("\n") if USE.match(line)]
+    return sorted({line for line in imports if imports.count(line) > 1})
+
+
 def used(name: str, body: set[str], text: str) -> bool:
     if name == "[]":
         return text.count("[]") > 1
@@ -49,6 +54,9 @@ def main() -> int:
         if path.suffix in (".antt", ".rt"):
             for name in unused(path):
                 print(f"{path}: {name} is not used")
+                bad = 1
+            for line in doubled(path):
+                print(f"{path}: {line} stands twice")
                 bad = 1
     return bad
 

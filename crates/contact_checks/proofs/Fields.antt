@@ -26,8 +26,8 @@ use Rattle.rows.specs.Values.{Skipped, Range}
 use Rattle.rows.specs.Checks.{keyOf}
 use Rattle.rows.specs.Rows.{dirOf, dirByte, dir, skipped, range}
 use Rattle.rows.specs.declared.Dir.{Dir}
-use Rattle.contact_checks.specs.Cells.{keyAt}
-use Rattle.contact_checks.proofs.Cells.{Shows}
+use Rattle.contact_checks.specs.Cells.{cells, keyAt}
+use Rattle.contact_checks.proofs.Cells.{Shows, Turn}
 
 -- ---- the first n bytes of l were taken, and mid is left
 pub record Cut (n : ℕ) (l mid : List ℕ) : Type 0 where
@@ -91,6 +91,17 @@ at-end p = let so = p .so in record { same = cc; left = cc }
 -- ---- ranges
 abbrev pub rangeAt : List ℕ → Range
 rangeAt l = record { from = bigEndian 4 l; to = bigEndian 4 (drop 4 l) }
+
+abbrev pub ranges : ℕ → List ℕ → List Range
+ranges = cells (λ l. 8) rangeAt
+
+-- of n ranges, those from the i-th on, which stand from p on, begin with a..b
+abbrev pub Begin : (row : List ℕ) (n i p a b : ℕ) → Type 0
+Begin row n i p a b = ranges (n - i) (drop p row) ≡ record { from = a; to = b } ∷ ranges (n - (i + 1)) (drop (p + 8) row)
+
+-- ... once both numbers are read
+pub range-read : {row : List ℕ} {n i p a b : ℕ} → Turn (λ l. 8) rangeAt row n i p → a ≡ bigEndian 4 (drop p row) → b ≡ bigEndian 4 (drop (p + 4) row) → Begin row n i p a b
+range-read {row = row} {p = p} t e f = rw (e, f, ← drop-drop 4 p row) (t .here)
 
 pub range-shows : (l : List ℕ) (r : Range) (rest : List ℕ) → group range .read l ≡ value r rest → Shows (λ l. 8) rangeAt (λ r. r) l r rest
 range-shows l r rest e =

@@ -2,7 +2,6 @@
 use native.Mathlib.Omega.{arith}
 use borrow.Author.Needs.{needs}
 use Rattle.put.proofs.Put.{_then_}
-use borrow.Author.Needs.{needs}
 use Rattle.ascii.proofs.put_field.Statement.{statement}
 use Rattle.ascii.proofs.put_field.Tie as tie
 

@@ -36,7 +36,6 @@ use denote.Triple.Walked.{says, Stays, walkOf, Walks, ends-at, walked, walk-meet
 use Rattle.walks.proofs.Walk.{untok, retok, gone, drops, drops-go}
 use Rattle.walks.proofs.Held.{Held, number, of-struct, vals, Lies, plus, lends, none, calls-held, into, local}
 use mathlib.Core.Bool.{cond}
-use lib.ListN.{length}
 use Rattle.calls_find.proofs.Laws.{wanted-count, queued-wanted}
 use Rattle.store.specs.declared.Entry.{Entry}
 use Rattle.store.proofs.Entry as EntryT

@@ -2,7 +2,6 @@
 use native.Mathlib.Omega.{arith}
 use borrow.Author.Needs.{needs}
 use Rattle.received.proofs.Pairs.{pairs-lent}
-use borrow.Author.Needs.{needs}
 use Rattle.statement_line.proofs.numbers_in.Statement.{statement}
 use Rattle.statement_line.proofs.numbers_in.Tie as tie
 

@@ -1,27 +1,22 @@
 -- `statement_text::numbers_in_row` meets its contract. The invariant: the sum, and what the ranges from the i-th on hold from `lowest` on, are what all hold.
 -- Assumes nothing.
 use Prim.Native.Nat.{ℕ, _+_, _-_, _*_, _^_, _≤_}
-use mathlib.Core.List.{List, _∷_}
+use mathlib.Core.List.{List}
 use mathlib.Core.Path.{_≡_, ap}
 use native.Mathlib.Omega.{arith}
 use native.Mathlib.Nat.{sub-zero, zero-add}
 use lib.ListN.{length, drop}
-use lib.Seq.{drop-drop}
 use borrow.Author.Needs.{needs}
 use Rattle.layout.specs.Layout.{group}
-use Rattle.rows.specs.Values.{Range}
 use Rattle.rows.specs.Rows.{range}
 use Rattle.contact_lists.specs.Lists.{items}
 use Rattle.numbers.specs.Sets.{sizeFrom}
-use Rattle.contact_checks.specs.Cells.{cells, Rooms}
+use Rattle.contact_checks.specs.Cells.{Rooms}
 use Rattle.contact_checks.proofs.Cells.{standing, all-shown, Turn, turn, none-left}
-use Rattle.contact_checks.proofs.Fields.{rangeAt, range-shows}
+use Rattle.contact_checks.proofs.Fields.{rangeAt, ranges, range-shows, Begin, range-read}
 use Rattle.statement_line.proofs.Numbers.{counted, all-counted}
 use Rattle.statement_text.proofs.numbers_in_row.Statement.{statement}
 use Rattle.statement_text.proofs.numbers_in_row.Tie as tie
-
-abbrev ranges : ℕ → List ℕ → List Range
-ranges = cells (λ l. 8) rangeAt
 
 abbrev Inv-loop : tie.InvT-loop
 Inv-loop row first count lowest sum₀ p₀ i₀ sum p i =
@@ -45,11 +40,8 @@ turned : (c : tie.In-loop Inv-loop μ-loop) → let l = c .before in Turn (λ l.
 turned c = let l = c .before in turn (λ l. 8) rangeAt (row l) (count l) (l .loop .i) (l .loop .p) (c .loop-test .taken) (l .loop .inv .4)
 
 here : (c : tie.After-be322 Inv-loop μ-loop) → let l = c .before .before .before in
-    ranges (count l - l .loop .i) (drop (l .loop .p) (row l))
-    ≡ record { from = c .before .be32 .result; to = c .be322 .result } ∷ ranges (count l - (l .loop .i + 1)) (drop (l .loop .p + 8) (row l))
-here c =
-    let l = c .before .before .before in
-    rw (c .before .be32 .ensures .0, c .be322 .ensures .0, ← drop-drop 4 (l .loop .p) (row l)) (turned (c .before .before) .here)
+    Begin (row l) (count l) (l .loop .i) (l .loop .p) (c .before .be32 .result) (c .be322 .result)
+here c = range-read (turned (c .before .before)) (c .before .be32 .ensures .0) (c .be322 .ensures .0)
 
 loop-holds : tie.Need-loop-holds Inv-loop μ-loop
 loop-holds c =
