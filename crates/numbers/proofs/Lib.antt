@@ -3,4 +3,5 @@ pub mod Runs
 pub mod Insert
 pub mod Sets
 pub mod Sizes
+pub mod Uncovered
 pub mod Decimal

@@ -1,6 +1,6 @@
 -- The covered numbers as a contact row holds them, 1..contiguous and ranges above, and what a cover does to them. Defined on every list of ranges.
 -- Assumes nothing.
-use Prim.Native.Nat.{ℕ, suc, _+_, min, max}
+use Prim.Native.Nat.{ℕ, suc, _+_, _-_, min, max}
 use mathlib.Core.List.{List, [], _∷_, _++_}
 use mathlib.Core.Bool.{Bool, cond, _&&_, _||_}
 use lib.Dec.{leb, ltb}
@@ -69,3 +69,15 @@ fromRanges (r ∷ rs) = received (r .to) rs
 
 unfoldable pub inserted : Received → ℕ → ℕ → Received
 inserted v f t = fromRanges (insert f t (allRanges v))
+
+-- ---- how many numbers an insert adds (document 02's A2)
+-- how many of at..t lie in none of these ranges, from the first on: on rising ranges each number counts once, and on no list are they more than at..t
+unfoldable pub uncovered : (at t : ℕ) → List Range → ℕ
+uncovered at t [] = t + 1 - at
+uncovered at t (r ∷ rs) =
+    let here = max at (min (t + 1) (r .from)) in
+    here - at + uncovered (max here (r .to + 1)) t rs
+
+-- 0 is no message number, and 0..contiguous holds it: so it never counts
+abbrev pub added : Received → ℕ → ℕ → ℕ
+added v f t = uncovered f t (allRanges v)

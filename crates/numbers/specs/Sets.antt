@@ -7,7 +7,7 @@ use mathlib.Core.Path.{_≡_}
 use lib.Dec.{leb, eqb}
 use Rattle.rows.specs.Values.{Range}
 use Rattle.rows.specs.Checks.{canonical}
-use Rattle.numbers.specs.Ranges.{Received, received, range, contains, inserted}
+use Rattle.numbers.specs.Ranges.{Received, received, range, contains, inserted, added}
 
 -- S with f..t added
 abbrev pub add : ℕ → ℕ → (ℕ → Bool) → ℕ → Bool
@@ -72,3 +72,8 @@ Coverable N (r ∷ rs) = (1 ≤ r .from) × (r .from ≤ r .to) × (r .to ≤ N)
 abbrev pub insertAll : List Range → Received → Received
 insertAll [] v = v
 insertAll (r ∷ rs) v = insertAll rs (inserted v (r .from) (r .to))
+
+-- ... and how many numbers they add, all together
+abbrev pub addedByAll : List Range → Received → ℕ
+addedByAll [] v = 0
+addedByAll (r ∷ rs) v = added v (r .from) (r .to) + addedByAll rs (inserted v (r .from) (r .to))

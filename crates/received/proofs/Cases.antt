@@ -13,5 +13,5 @@ pub thirteen : length cases ≡ 13
 thirteen = refl
 
 pub proved-cases : AllHold cases
-unfolding form.lebRead put.put ranges.insert ranges.inserted change.changeOf lent.pairs lent.stored
+unfolding form.lebRead put.put ranges.insert ranges.inserted ranges.uncovered change.changeOf lent.pairs lent.stored
 proved-cases = (refl, (refl, (refl, (refl, (refl, (refl, (refl, (refl, (refl, (refl, ((refl, refl), ((refl, refl), ((refl, refl), tt)))))))))))))

@@ -14,7 +14,7 @@ use borrow.Author.Tests.{lt-ltb, le-ltb, le-leb, lt-leb, leb-true, eq-eqb, ne-eq
 use Rattle.layout.specs.Questions.{«RANGES_FIT»}
 use Rattle.rows.specs.Values.{Range}
 use Rattle.numbers.proofs.Insert.{merged-joined, insert-joined, insert-apart}
-use Rattle.numbers.specs.Ranges.{Received, received, range, below, Merged, merged, mergedAt, insert, inserted}
+use Rattle.numbers.specs.Ranges.{Received, received, range, below, Merged, merged, mergedAt, insert, inserted, added}
 use Rattle.received.specs.Change.{changeOf, applied}
 use Rattle.received.specs.Lent.{pairs, receivedIn, stored, fits, planOf, listAfter, Fitting}
 use Rattle.numbers.specs.Lists.{limitOf}
@@ -55,8 +55,8 @@ length-insert f t rs =
     ∙ rw (length-take-le (below f rs) rs (below-few f rs)) (omega arith)
 
 -- ---- the two cases
-abbrev pub change : (before after count contiguous from to : ℕ) → Bool → Change
-change before after count contiguous from to moved = record {
+abbrev pub change : (before after count contiguous from to : ℕ) → Bool → (added : ℕ) → Change
+change before after count contiguous from to moved added = record {
   before = before;
   after = after;
   count = count;
@@ -64,21 +64,22 @@ change before after count contiguous from to moved = record {
   from = from;
   to = to;
   moved = moved;
+  added = added;
 }
 
-abbrev joined : Received → ℕ → Change
-joined v t =
+abbrev joined : Received → ℕ → ℕ → Change
+joined v f t =
     let m : Merged = merged 0 (max t (v .contiguous)) (v .above) in
-    change 0 (length (m .behind)) (length (m .behind)) (m .range .to) (m .range .from) (m .range .to) (not (eqb (m .range .to) (v .contiguous)))
+    change 0 (length (m .behind)) (length (m .behind)) (m .range .to) (m .range .from) (m .range .to) (not (eqb (m .range .to) (v .contiguous))) (added v f t)
 
 abbrev apart : Received → ℕ → ℕ → Change
 apart v f t =
     let i : ℕ = below f (v .above) in
     let m : Merged = mergedAt f t (v .above) in
-    change (i + 1) (length (m .behind)) (i + 1 + length (m .behind)) (v .contiguous) (m .range .from) (m .range .to) false
+    change (i + 1) (length (m .behind)) (i + 1 + length (m .behind)) (v .contiguous) (m .range .from) (m .range .to) false (added v f t)
 
 module _ (v : Received) (f t : ℕ) where
-  change-joined : f ≤ v .contiguous + 1 → joined v t ≡ changeOf v f t
+  change-joined : f ≤ v .contiguous + 1 → joined v f t ≡ changeOf v f t
   unfolding changeOf inserted
   change-joined h = rw (insert-joined v f t h, merged-joined v f t h, le-ltb (v .contiguous + 1) f h)
 
@@ -95,7 +96,7 @@ pub record Sound (v : Received) (f t : ℕ) (c : Change) : Type 0 where
   pub gives : applied c (v .above) ≡ inserted v f t .above
 
 module _ (v : Received) (f t : ℕ) where
-  joined-sound : f ≤ v .contiguous + 1 → Sound v f t (joined v t)
+  joined-sound : f ≤ v .contiguous + 1 → Sound v f t (joined v f t)
   unfolding inserted
   joined-sound h =
       let short = behind-short 0 (max t (v .contiguous)) (v .above) in
@@ -130,18 +131,18 @@ module _ (v : Received) (f t : ℕ) where
       (λ h. subst (Sound v f t) (change-joined v f t h) (joined-sound h))
 
 -- ---- what `change_of` answers, from what its loops found
-module _ (c k : ℕ) (rs : List Range) (n : length rs ≡ k) (f t next a b : ℕ) where
+module _ (c k : ℕ) (rs : List Range) (n : length rs ≡ k) (f t next a b : ℕ) (new : ℕ) (counts : new ≡ added (received c rs) f t) where
   pub joined-found : (h : ℕ) → f ≤ c + 1 → h ≡ max t c → merged 0 h rs ≡ record { range = range a b; behind = drop next rs }
-      → change 0 (k - next) (k - next) b a b (not (eqb b c)) ≡ changeOf (received c rs) f t
+      → change 0 (k - next) (k - next) b a b (not (eqb b c)) new ≡ changeOf (received c rs) f t
   joined-found h le e found =
       let m : merged 0 (max t c) rs ≡ record { range = range a b; behind = drop next rs } = rw e at found in
-      rw (← change-joined (received c rs) f t le, m, length-drop, n)
+      rw (← change-joined (received c rs) f t le, m, length-drop, n, counts)
 
   pub apart-found : (i : ℕ) → c + 1 < f → i ≡ below f rs → merged f t (drop i rs) ≡ record { range = range a b; behind = drop next rs }
-      → change (i + 1) (k - next) (i + 1 + (k - next)) c a b false ≡ changeOf (received c rs) f t
+      → change (i + 1) (k - next) (i + 1 + (k - next)) c a b false new ≡ changeOf (received c rs) f t
   apart-found i lt e found =
       let m : merged f t (drop (below f rs) rs) ≡ record { range = range a b; behind = drop next rs } = rw e at found in
-      rw (← change-apart (received c rs) f t lt, m, length-drop, n, e)
+      rw (← change-apart (received c rs) f t lt, m, length-drop, n, e, counts)
 
 -- ---- what `plan` answers: the change where there is room for it, else a refusal
 module _ (v : Received) (n f t : ℕ) where

@@ -1,6 +1,6 @@
 -- The laws of covered numbers, all of `Proved`. What covers do one after the other is shown from the laws of a record alone.
 -- Assumes nothing.
-use Prim.Native.Nat.{ℕ, zero, suc, _*_, _≤_}
+use Prim.Native.Nat.{ℕ, zero, suc, _+_, _-_, _*_, _≤_}
 use mathlib.Core.List.{List, [], _∷_}
 use mathlib.Core.Bool.{Bool, true, false, cond, _||_, not}
 use mathlib.Core.Path.{_≡_, refl, subst, sym, ap, _∙_}
@@ -11,11 +11,11 @@ use borrow.Author.Tests.{leb-true, le-leb}
 use Rattle.layout.specs.Questions.{«RANGES_FIT»}
 use Rattle.rows.specs.Values.{Range}
 use Rattle.rows.specs.Checks.{any}
-use Rattle.numbers.specs.Ranges.{Received, received, inside, inserted}
+use Rattle.numbers.specs.Ranges.{Received, received, inside, inserted, added}
 use Rattle.received.specs.Change.{changeOf}
 use Rattle.received.specs.Lent.{pairs, stored, planOf, listAfter}
 use Rattle.numbers.specs.Lists.{limitOf}
-use Rattle.numbers.specs.Sets.{runs, Records, Coverable, insertAll}
+use Rattle.numbers.specs.Sets.{add, howMany, runs, Records, Coverable, insertAll, addedByAll}
 use Rattle.received.specs.Cases.{outcome, gives, refuses}
 use Rattle.received.specs.Proved.{ScanLaws, leadsTo, RecordLaws, Proved}
 use Rattle.received.specs.declared.Planned.the-variants as planned
@@ -25,6 +25,7 @@ use Rattle.numbers.proofs.Runs.{runs-canon, runs-from, runs-to, runs-size, all-
 use Rattle.received.proofs.Stored.{stored-is, pairs-stored}
 use Rattle.numbers.proofs.Sets.{records, contiguous-width, above-width, contiguous-in, contiguous-greatest, runs-above, beyond, covers-all, record-is, size-is, inserts, only-record, insert-is, has-record, canonical-unique}
 use Rattle.numbers.proofs.Sizes.{size-counts}
+use Rattle.numbers.proofs.Uncovered.{uncovered-most, uncovered-counts, alike, added-new, added-more}
 use Rattle.received.proofs.Cases.{thirteen, proved-cases}
 
 scan-laws : (S : ℕ → Bool) (n k : ℕ) → ScanLaws S n k
@@ -54,13 +55,13 @@ module _ (v : Received) (l : List ℕ) (count : ℕ) (held : pairs count l ≡ v
     places : listAfter v l f t ≡ stored (inserted v f t .above) (length (v .above)) l
     places = rw (le-leb (length (inserted v f t .above)) (limitOf (length l)) room)
 
-  leads : outcome (planOf v (length l) f t) (listAfter v l f t) ≡ leadsTo v (inserted v f t) l
+  leads : outcome (planOf v (length l) f t) (listAfter v l f t) ≡ leadsTo v (inserted v f t) (added v f t) l
   unfolding changeOf
   leads =
       either (leb (length (inserted v f t .above)) (limitOf (length l)))
       (λ b. outcome (cond b (planned.Change (changeOf v f t)) (planned.Refused «RANGES_FIT»)) (cond b (stored (inserted v f t .above) (length (v .above)) l) l)
-      ≡ cond b (gives (inserted v f t) (not (eqb (inserted v f t .contiguous) (v .contiguous)))) (refuses «RANGES_FIT» l))
-      (λ e. ap (λ (rs : List Range). gives (received (inserted v f t .contiguous) rs) (not (eqb (inserted v f t .contiguous) (v .contiguous))))
+      ≡ cond b (gives (inserted v f t) (not (eqb (inserted v f t .contiguous) (v .contiguous))) (added v f t)) (refuses «RANGES_FIT» l))
+      (λ e. ap (λ (rs : List Range). gives (received (inserted v f t .contiguous) rs) (not (eqb (inserted v f t .contiguous) (v .contiguous))) (added v f t))
       (pairs-stored (inserted v f t .above) (length (v .above)) l before (after (leb-true _ _ e))))
       (λ e. refl)
 
@@ -78,7 +79,11 @@ record-laws {N} {S} {v} p = record {
   zero-out = sym (p .same-numbers 0);
   covers-all = covers-all p;
   insert-adds = λ f t one ft tN. inserts p f t (omega arith) (omega arith) (omega arith);
-  cover-leads = λ l count held f t one ft tN. rw (insert-is p f t one ft tN) (leads v l count held f t);
+  added-new = added-new p;
+  added-more = added-more p;
+  cover-leads = λ l count held f t one ft tN.
+      let more : howMany (add f t S) 1 N - howMany S 1 N ≡ added v f t = omega (arith, added-more p f t one tN) in
+      rw (insert-is p f t one ft tN, more) (leads v l count held f t);
   cover-places = λ l count held f t one ft tN w is room.
       let same : inserted v f t ≡ w = sym (insert-is p f t one ft tN) ∙ is in
       let fits : length (inserted v f t .above) ≤ limitOf (length l) = rw same room in
@@ -107,6 +112,16 @@ any-order : {N : ℕ} {S : ℕ → Bool} {v : Received} → Records N S v → (r
 any-order {N} {S} {v} p rs ss h k e =
     record-laws (all-added p ss k) .only (insertAll rs v) (same-set (λ n. ap (λ (b : Bool). b || S n) (e n)) (all-added p rs h))
 
+-- what each adds is what the set has more then
+all-counted : {N : ℕ} {S : ℕ → Bool} {v : Received} → Records N S v → (rs : List Range) → Coverable N rs
+    → howMany S 1 N + addedByAll rs v ≡ howMany (λ n. any (inside n n) rs || S n) 1 N
+all-counted p [] h = omega arith
+all-counted {N} {S} {v} p (r ∷ rs) h =
+    let laws = record-laws p in
+    let rest = all-counted (laws .insert-adds (r .from) (r .to) (h .0) (h .1) (h .2)) rs (h .3) in
+    let same = alike _ _ 1 N (λ n one. swap (inside n n r) (any (inside n n) rs) (S n)) in
+    omega (arith, laws .added-more (r .from) (r .to) (h .0) (h .2), rest, same)
+
 pub proved : Proved
 proved = record {
   scans = scan-laws;
@@ -115,6 +130,7 @@ proved = record {
   records = record-laws;
   all-added = all-added;
   any-order = any-order;
-  ranges = record { only = canonical-unique; counted = size-counts };
+  all-counted = all-counted;
+  ranges = record { only = canonical-unique; counted = size-counts; uncounted = uncovered-counts; most = uncovered-most };
   table = record { thirteen = thirteen; hold = proved-cases };
 }

@@ -1,14 +1,16 @@
 -- What a turn of each loop over the ranges does, and the loop's end.
 -- Assumes nothing.
-use Prim.Native.Nat.{ℕ, suc, _+_, _*_, _≤_, _<_, min, max}
+use Prim.Native.Nat.{ℕ, suc, _+_, _-_, _*_, _≤_, _<_, min, max}
 use mathlib.Core.List.{List}
 use mathlib.Core.Bool.{Bool, true, false}
-use mathlib.Core.Path.{_≡_, sym, _∙_}
+use mathlib.Core.Path.{_≡_, sym, ap, _∙_}
 use native.Mathlib.Omega.{arith}
 use lib.ListN.{length, getD, drop}
 use borrow.Author.Tests.{lt-ltb, le-ltb, le-leb, lt-leb}
+use Rattle.rows.specs.Values.{Range}
 use Rattle.rows.specs.Checks.{any}
-use Rattle.numbers.specs.Ranges.{range, inside, below, Merged, merged}
+use Rattle.numbers.specs.Ranges as ranges
+use Rattle.numbers.specs.Ranges.{received, range, inside, below, Merged, merged, uncovered, added}
 use Rattle.received.specs.Lent.{pairs}
 use Rattle.received.proofs.Pairs.{drop-pairs, drop-pairs-all}
 
@@ -44,6 +46,12 @@ module _ (l : List ℕ) (k i : ℕ) (h : i < k) (fits : 2 * k ≤ length l) wher
       → merged (min f (getD l (2 * i) 0)) (max t (getD l (2 * i + 1) 0)) (drop (i + 1) (pairs k l)) ≡ m
   merged-on f t m e p = sym (rw (drop-pairs l k i h fits, le-ltb _ _ p)) ∙ e
 
+  -- the i-th range is passed: so many lie before it
+  pub uncovered-on : (at t found n start : ℕ) → found + uncovered at t (drop i (pairs k l)) ≡ n → start ≡ max at (min (t + 1) (getD l (2 * i) 0))
+      → found + (start - at) + uncovered (max start (getD l (2 * i + 1) 0 + 1)) t (drop (i + 1) (pairs k l)) ≡ n
+  unfolding ranges.uncovered
+  uncovered-on at t found n start e is = rw is (omega (arith, ap (uncovered at t) (drop-pairs l k i h fits)))
+
 module _ (l : List ℕ) (k i : ℕ) (h : k ≤ i) (fits : 2 * k ≤ length l) where
   pub any-end : (f t : ℕ) (b : Bool) → any (inside f t) (drop i (pairs k l)) ≡ b → false ≡ b
   any-end f t b e = sym (rw (drop-pairs-all l k i h fits)) ∙ e
@@ -55,3 +63,14 @@ module _ (l : List ℕ) (k i : ℕ) (h : k ≤ i) (fits : 2 * k ≤ length l) wh
 
   pub merged-end : (f t : ℕ) (m : Merged) → merged f t (drop i (pairs k l)) ≡ m → m ≡ record { range = range f t; behind = drop i (pairs k l) }
   merged-end f t m e = sym e ∙ rw (drop-pairs-all l k i h fits)
+
+  pub uncovered-end : (at t found n : ℕ) → found + uncovered at t (drop i (pairs k l)) ≡ n → found + (max at (t + 1) - at) ≡ n
+  unfolding ranges.uncovered
+  uncovered-end at t found n e = omega (arith, ap (uncovered at t) (drop-pairs-all l k i h fits))
+
+-- none of 0..contiguous is new
+pub behind-contiguous : (c f t : ℕ) (rs : List Range) → uncovered (max f (c + 1)) t rs ≡ added (received c rs) f t
+unfolding ranges.uncovered
+behind-contiguous c f t rs =
+    let low : max f (min (t + 1) 0) ≡ f = omega arith in
+    rw low (omega arith)

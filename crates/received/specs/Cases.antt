@@ -14,13 +14,13 @@ use Rattle.received.specs.Lent.{pairs, planOf, listAfter}
 use Rattle.received.specs.declared.Planned.{Planned}
 use Rattle.received.specs.declared.Planned.the-variants.{Change, Refused}
 
--- what a cover leads to: a record, which the list then holds, and whether contiguous moved; or a refusal, and the list as it is then
+-- what a cover leads to: a record, which the list then holds, and whether contiguous moved, and how many numbers are new (02, A2); or a refusal, and the list as it is then
 pub data Outcome : Type 0 where
-  gives : Received → Bool → Outcome
+  gives : Received → (moved : Bool) → (added : ℕ) → Outcome
   refuses : ℕ → List ℕ → Outcome
 
 abbrev pub outcome : Planned → List ℕ → Outcome
-outcome (Change c) l = gives (received (c .contiguous) (pairs (c .count) l)) (c .moved)
+outcome (Change c) l = gives (received (c .contiguous) (pairs (c .count) l)) (c .moved) (c .added)
 outcome (Refused q) l = refuses q l
 
 pub data Case : Type 0 where
@@ -35,9 +35,9 @@ pub data Case : Type 0 where
 
 abbrev pub cases : List Case
 cases =
-    cover (4 ∷ 4 ∷ 0 ∷ 0 ∷ []) 3 3 (gives (received 4 []) true)
-    ∷ cover (4 ∷ 4 ∷ 0 ∷ 0 ∷ []) 5 5 (gives (received 2 (range 4 5 ∷ [])) false)
-    ∷ cover (4 ∷ 4 ∷ 0 ∷ 0 ∷ []) 6 9 (gives (received 2 (range 4 4 ∷ range 6 9 ∷ [])) false)
+    cover (4 ∷ 4 ∷ 0 ∷ 0 ∷ []) 3 3 (gives (received 4 []) true 1)
+    ∷ cover (4 ∷ 4 ∷ 0 ∷ 0 ∷ []) 5 5 (gives (received 2 (range 4 5 ∷ [])) false 1)
+    ∷ cover (4 ∷ 4 ∷ 0 ∷ 0 ∷ []) 6 9 (gives (received 2 (range 4 4 ∷ range 6 9 ∷ [])) false 4)
     ∷ cover (4 ∷ 4 ∷ []) 6 9 (refuses «RANGES_FIT» (4 ∷ 4 ∷ []))
     ∷ contained (4 ∷ 4 ∷ []) 0 false
     ∷ covered (4 ∷ 4 ∷ []) 3 4 false

@@ -6,7 +6,7 @@ use mathlib.Core.Bool.{cond, not}
 use lib.Dec.{eqb}
 use lib.ListN.{length, take, drop}
 use Rattle.rows.specs.Values.{Range}
-use Rattle.numbers.specs.Ranges.{Received, range, below, mergedAt, allRanges, inserted}
+use Rattle.numbers.specs.Ranges.{Received, range, below, mergedAt, allRanges, inserted, added}
 use Rattle.received.specs.declared.Change.{Change}
 
 unfoldable pub changeOf : Received → ℕ → ℕ → Change
@@ -18,6 +18,7 @@ changeOf v f t = record {
   from = mergedAt f t (allRanges v) .range .from;
   to = mergedAt f t (allRanges v) .range .to;
   moved = not (eqb (inserted v f t .contiguous) (v .contiguous));
+  added = added v f t;
 }
 
 -- f..t in the place of the ranges from the i-th up to next

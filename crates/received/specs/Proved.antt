@@ -1,4 +1,4 @@
--- What is proved of covered numbers (proofs/Proved.antt): hold it beside document 01's module 4, its ledger, and its (p) cases.
+-- What is proved of covered numbers (proofs/Proved.antt): hold it beside document 01's module 4, its ledger, its (p) cases, and 02's A2.
 -- A set S is its test, and N the highest number; `Records N S v` says that v, contiguous with the ranges above, is a canonical record of S. Assumes nothing.
 use Prim.Native.Nat.{ℕ, _+_, _-_, _*_, _≤_, _<_, max}
 use mathlib.Core.List.{List, _++_}
@@ -11,10 +11,10 @@ use Rattle.layout.specs.Questions.{«RANGES_FIT»}
 use Rattle.layout.specs.Veil.{zeros}
 use Rattle.rows.specs.Values.{Range}
 use Rattle.rows.specs.Checks.{any, canonical, noneAbove}
-use Rattle.numbers.specs.Ranges.{Received, inside, contains, covers, inserted}
+use Rattle.numbers.specs.Ranges.{Received, inside, contains, covers, inserted, uncovered, added}
 use Rattle.received.specs.Lent.{pairs, flat, planOf, listAfter}
 use Rattle.numbers.specs.Lists.{limitOf}
-use Rattle.numbers.specs.Sets.{add, allOf, howMany, runs, recordOf, size, sizeFrom, Records, Coverable, insertAll}
+use Rattle.numbers.specs.Sets.{add, allOf, howMany, runs, recordOf, size, sizeFrom, Records, Coverable, insertAll, addedByAll}
 use Rattle.received.specs.Cases.{Outcome, gives, refuses, outcome, cases, AllHold}
 
 -- ---- what scanning the k numbers from n on finds
@@ -26,9 +26,9 @@ pub record ScanLaws (S : ℕ → Bool) (n k : ℕ) : Type 0 where
   pub runs-size : size (runs S n k) ≡ howMany S n k
 
 -- ---- a record v of S
--- what a cover leads to by the record w of the set after it: 38 where w has more ranges than may be left in the list l
-abbrev pub leadsTo : (v w : Received) → List ℕ → Outcome
-leadsTo v w l = cond (leb (length (w .above)) (limitOf (length l))) (gives w (not (eqb (w .contiguous) (v .contiguous)))) (refuses «RANGES_FIT» l)
+-- what a cover leads to by the record w of the set after it, which has so many numbers more: 38 where w has more ranges than may be left in the list l
+abbrev pub leadsTo : (v w : Received) → (more : ℕ) → List ℕ → Outcome
+leadsTo v w more l = cond (leb (length (w .above)) (limitOf (length l))) (gives w (not (eqb (w .contiguous) (v .contiguous))) more) (refuses «RANGES_FIT» l)
 
 pub record RecordLaws (N : ℕ) (S : ℕ → Bool) (v : Received) : Type 0 where
   -- it is the only one, and the one that is found by scanning S
@@ -49,9 +49,12 @@ pub record RecordLaws (N : ℕ) (S : ℕ → Bool) (v : Received) : Type 0 where
   pub covers-all : (f t : ℕ) → 1 ≤ f → f ≤ t → covers v f t ≡ allOf S f (t + 1 - f)
   -- insert adds f..t
   pub insert-adds : (f t : ℕ) → 1 ≤ f → f ≤ t → t ≤ N → Records N (add f t S) (inserted v f t)
+  -- ... which are so many new numbers: as many of f..t as are not in S, and as many as S then has more
+  pub added-new : (f t : ℕ) → 1 ≤ f → added v f t ≡ howMany (λ n. not (S n)) f (t + 1 - f)
+  pub added-more : (f t : ℕ) → 1 ≤ f → t ≤ N → howMany S 1 N + added v f t ≡ howMany (add f t S) 1 N
   -- in a lent list l that holds the ranges above: what a cover leads to, by the set alone
   pub cover-leads : (l : List ℕ) (count : ℕ) → pairs count l ≡ v .above → (f t : ℕ) → 1 ≤ f → f ≤ t → t ≤ N
-      → outcome (planOf v (length l) f t) (listAfter v l f t) ≡ leadsTo v (recordOf N (add f t S)) l
+      → outcome (planOf v (length l) f t) (listAfter v l f t) ≡ leadsTo v (recordOf N (add f t S)) (howMany (add f t S) 1 N - howMany S 1 N) l
   -- ... and every place afterwards: the ranges, 0 where one was and none is any more, and all behind as it was
   pub cover-places : (l : List ℕ) (count : ℕ) → pairs count l ≡ v .above → (f t : ℕ) → 1 ≤ f → f ≤ t → t ≤ N
       → (w : Received) → recordOf N (add f t S) ≡ w → length (w .above) ≤ limitOf (length l)
@@ -67,6 +70,9 @@ pub record RangesLaws : Type 0 where
   -- ... and from `lowest` on they hold as many as counting up to their last number, or further, finds (the last figure of a statement, document 02's A5)
   pub counted : (N lowest k : ℕ) (rs : List Range) → canonical 1 rs ≡ true → noneAbove N rs ≡ true → N < lowest + k
       → sizeFrom lowest rs ≡ howMany (λ n. any (inside n n) rs) lowest k
+  -- ... and of at..t as many lie in none of them as counting finds; on any list they are no more than at..t
+  pub uncounted : (from at t : ℕ) (rs : List Range) → canonical from rs ≡ true → uncovered at t rs ≡ howMany (λ n. not (any (inside n n) rs)) at (t + 1 - at)
+  pub most : (at t : ℕ) (rs : List Range) → uncovered at t rs ≤ t + 1 - at
 
 -- ---- 01's (p) cases: all of the table hold, and none of 01's is left out
 pub record CaseLaws : Type 0 where
@@ -83,5 +89,8 @@ pub record Proved : Type 0 where
   pub all-added : {N : ℕ} {S : ℕ → Bool} {v : Received} → Records N S v → (rs : List Range) → Coverable N rs → Records N (λ n. any (inside n n) rs || S n) (insertAll rs v)
   pub any-order : {N : ℕ} {S : ℕ → Bool} {v : Received} → Records N S v → (rs ss : List Range) → Coverable N rs → Coverable N ss
       → ((n : ℕ) → any (inside n n) rs ≡ any (inside n n) ss) → insertAll rs v ≡ insertAll ss v
+  -- ... and so many new numbers, counted at each of them, are as many as the set has more at the end
+  pub all-counted : {N : ℕ} {S : ℕ → Bool} {v : Received} → Records N S v → (rs : List Range) → Coverable N rs
+      → howMany S 1 N + addedByAll rs v ≡ howMany (λ n. any (inside n n) rs || S n) 1 N
   pub ranges : RangesLaws
   pub table : CaseLaws

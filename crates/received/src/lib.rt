@@ -8,7 +8,7 @@ ghost use Prim.Native.Nat.{_+_, _-_, _*_, _≤_, _<_, min, max};
 ghost use lib.ListN.{length, getD, take, drop};
 ghost use Rattle.layout.specs.Veil.{zeros};
 ghost use Rattle.rows.specs.Checks.{any};
-ghost use Rattle.numbers.specs.Ranges.{range, inside, contains, covers, below, merged};
+ghost use Rattle.numbers.specs.Ranges.{range, inside, contains, covers, below, merged, uncovered, added};
 ghost use Rattle.received.specs.Change.{changeOf, placed, applied};
 ghost use Rattle.received.specs.Lent.{pairs, receivedIn, stored, planOf, listAfter, Fitting};
 ghost use Rattle.numbers.specs.Lists.{limitOf};
@@ -18,6 +18,7 @@ pub const MAX_RANGES: usize = 65_535;
 
 // What a cover leaves. from..to is the range that it makes with those that it touches or overlaps; before and after are how many others stay.
 // 1..contiguous counts as the first range, as 0..contiguous: before is 0 where it is part of from..to, which then is no range above.
+// moved says whether contiguous did, and added how many numbers were not covered before.
 pub struct Change {
     pub before: usize,
     pub after: usize,
@@ -26,6 +27,7 @@ pub struct Change {
     pub from: u32,
     pub to: u32,
     pub moved: bool,
+    pub added: u64,
 }
 
 // Refused: the question whose answer is no.
@@ -146,11 +148,44 @@ fn merge(above: &[u32], held: usize, i: usize, from: u32, to: u32) -> Merged
     }
 }
 
+// How many of at..to lie in none of the ranges, from the first on; none does once at is past to.
+fn uncovered(above: &[u32], held: usize, at: u64, to: u32) -> u64
+    requires { ⌜ 2 * held ≤ length (now above) ⌝ }
+    ensures { λ r. ⌜ r ≡ uncovered at to (pairs held (now (above .entry))) ⌝ }
+{
+    let end = width::wide(to) + 1;
+    let mut here = at;
+    let mut found = 0;
+    let mut i = 0;
+    while i < held {
+        if end <= here {
+            return found;
+        }
+        let from = width::wide(above[2 * i]);
+        let next = width::wide(above[2 * i + 1]) + 1;
+        let start = width::higher(here, width::lower(end, from));
+        found += start - here;
+        here = width::higher(start, next);
+        i += 1;
+    }
+    found + (width::higher(here, end) - here)
+}
+
+// How many of from..to are not covered.
+fn added(contiguous: u32, above: &[u32], held: usize, from: u32, to: u32) -> u64
+    requires { ⌜ 2 * held ≤ length (now above) ⌝ }
+    ensures { λ r. ⌜ r ≡ added (receivedIn contiguous held (now (above .entry))) from to ⌝ }
+{
+    let behind = width::wide(contiguous) + 1;
+    uncovered(above, held, width::higher(width::wide(from), behind), to)
+}
+
 // What covering from..to leaves, if there is room for it.
 fn change_of(contiguous: u32, above: &[u32], held: usize, from: u32, to: u32) -> Change
     requires { ⌜ 2 * held ≤ length (now above) ⌝ }
     ensures { λ r. ⌜ r ≡ changeOf (receivedIn contiguous held (now (above .entry))) from to ⌝ }
 {
+    let added = added(contiguous, above, held, from, to);
     if width::wide(from) <= width::wide(contiguous) + 1 {
         let m = merge(above, held, 0, 0, higher(to, contiguous));
         let after = held - m.next;
@@ -162,6 +197,7 @@ fn change_of(contiguous: u32, above: &[u32], held: usize, from: u32, to: u32) ->
             from: m.from,
             to: m.to,
             moved: m.to != contiguous,
+            added,
         };
     }
     let i = below(above, held, from);
@@ -175,6 +211,7 @@ fn change_of(contiguous: u32, above: &[u32], held: usize, from: u32, to: u32) ->
         from: m.from,
         to: m.to,
         moved: false,
+        added,
     }
 }
 

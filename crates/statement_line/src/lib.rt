@@ -45,20 +45,13 @@ pub fn statement_line(
     Written::Length(len)
 }
 
-// The higher of two numbers.
-fn higher(x: u64, y: u64) -> u64
-    ensures { λ r. ⌜ r ≡ max x y ⌝ }
-{
-    if x < y { y } else { x }
-}
-
 // How many numbers from `lowest` on a range holds.
 pub fn size_from(from: u32, to: u32, lowest: u64) -> u64
     ensures { λ r. ⌜ (r ≡ to + 1 - max from lowest) × (r ≤ 2 ^ 32) ⌝ }
 {
     let start = width::wide(from);
     let end = width::wide(to) + 1;
-    let low = higher(start, lowest);
+    let low = width::higher(start, lowest);
     if end < low {
         return 0;
     }

@@ -1,0 +1,117 @@
+-- How many numbers an insert adds: what the ranges say is what counting number by number finds, and the set then has so many more.
+-- Assumes nothing.
+use Prim.Native.Nat.{ℕ, zero, suc, _+_, _-_, _≤_, _<_, max, min}
+use mathlib.Core.List.{List, [], _∷_}
+use mathlib.Core.Bool.{Bool, true, false, cond, not}
+use mathlib.Core.Path.{_≡_, refl, sym, ap, _∙_}
+use native.Mathlib.Omega.{arith}
+use lib.Dec.{leb}
+use borrow.Author.Tests.{le-leb, lt-leb}
+use Rattle.rows.specs.Values.{Range}
+use Rattle.rows.specs.Checks.{any, canonical}
+use Rattle.numbers.specs.Ranges as ranges
+use Rattle.numbers.specs.Ranges.{Received, inside, allRanges, uncovered, added}
+use Rattle.numbers.specs.Sets.{add, howMany, Records}
+use Rattle.rows.proofs.Tests.{either, order}
+use Rattle.numbers.proofs.Canon.{Canon, to-canon, from-canon, to-in, above-start}
+
+-- ---- on every list
+-- no more than at..t
+pub uncovered-most : (at t : ℕ) (rs : List Range) → uncovered at t rs ≤ t + 1 - at
+unfolding ranges.uncovered
+uncovered-most at t [] = omega arith
+uncovered-most at t (r ∷ rs) = omega (arith, uncovered-most (max (max at (min (t + 1) (r .from))) (r .to + 1)) t rs)
+
+-- ... and so none past t
+pub none-past : (at t : ℕ) (rs : List Range) → t < at → uncovered at t rs ≡ 0
+none-past at t rs h = omega (arith, uncovered-most at t rs)
+
+-- ---- on canonical ranges
+-- a number before all of them is in none
+outside : (g n : ℕ) (rs : List Range) → Canon g rs → n < g → any (inside n n) rs ≡ false
+outside g n rs c h = either (any (inside n n) rs) (λ b. b ≡ false) (λ e. absurd (omega (arith, above-start g rs c n (to-in n rs e)))) (λ e. refl)
+
+-- one more from n on than from behind it, if n is not among them
+one-more : (g n t : ℕ) (rs : List Range) → Canon g rs → n ≤ t
+    → uncovered n t rs ≡ cond (any (inside n n) rs) (uncovered (suc n) t rs) (suc (uncovered (suc n) t rs))
+unfolding ranges.uncovered
+one-more g n t [] c h = omega arith
+one-more g n t (r ∷ rs) c h =
+    let past : ℕ → ℕ = λ at. max (max at (min (t + 1) (r .from))) (r .to + 1) in
+    let same : (at next : ℕ) → past at ≡ next → uncovered (past at) t rs ≡ uncovered next t rs = λ at next e. ap (λ (x : ℕ). uncovered x t rs) e in
+    order (r .from) n
+    (λ from. order n (r .to)
+    (λ to. rw (le-leb (r .from) n from, le-leb n (r .to) to) (omega (arith, same n (r .to + 1) (omega arith), same (suc n) (r .to + 1) (omega arith))))
+    (λ behind. rw (le-leb (r .from) n from, lt-leb n (r .to) behind)
+    (either (any (inside n n) rs)
+    (λ b. uncovered n t rs ≡ cond b (uncovered (suc n) t rs) (suc (uncovered (suc n) t rs))
+    → uncovered n t (r ∷ rs) ≡ cond b (uncovered (suc n) t (r ∷ rs)) (suc (uncovered (suc n) t (r ∷ rs))))
+    (λ e rest. omega (arith, same n n (omega arith), same (suc n) (suc n) (omega arith)))
+    (λ e rest. omega (arith, same n n (omega arith), same (suc n) (suc n) (omega arith)))
+    (one-more (r .to + 2) n t rs (c .2) h))))
+    (λ before. rw (outside (r .from) n (r ∷ rs) (omega arith, c .1, c .2) before) (omega (arith, same n (past (suc n)) (omega arith))))
+
+-- as many as are counted up to t
+counts : (k g n t : ℕ) (rs : List Range) → Canon g rs → n + k ≡ t + 1 → uncovered n t rs ≡ howMany (λ m. not (any (inside m m) rs)) n k
+counts zero g n t rs c e = none-past n t rs (omega arith)
+counts (suc k) g n t rs c e =
+    one-more g n t rs c (omega arith)
+    ∙ either (any (inside n n) rs)
+    (λ b. let later : ℕ = howMany (λ m. not (any (inside m m) rs)) (suc n) k in
+    cond b (uncovered (suc n) t rs) (suc (uncovered (suc n) t rs)) ≡ cond (not b) (suc later) later)
+    (λ i. counts k g (suc n) t rs c (omega arith)) (λ i. ap suc (counts k g (suc n) t rs c (omega arith)))
+
+pub uncovered-counts : (g n t : ℕ) (rs : List Range) → canonical g rs ≡ true → uncovered n t rs ≡ howMany (λ m. not (any (inside m m) rs)) n (t + 1 - n)
+uncovered-counts g n t rs c =
+    order n t (λ h. counts (t + 1 - n) g n t rs (to-canon g rs c) (omega arith))
+    (λ h. let none : t + 1 - n ≡ 0 = omega arith in rw none (none-past n t rs h))
+
+-- two tests that say the same of the k numbers from n on find as many
+pub alike : (S T : ℕ → Bool) (n k : ℕ) → ((m : ℕ) → n ≤ m → S m ≡ T m) → howMany S n k ≡ howMany T n k
+alike S T n zero same = refl
+alike S T n (suc k) same =
+    let rest : howMany S (suc n) k ≡ howMany T (suc n) k = alike S T (suc n) k (λ m h. same m (omega arith)) in
+    λ i. cond (same n (omega arith) i) (suc (rest i)) (rest i)
+
+-- ---- one number more in front of those that are counted: it is not to be added, or it is
+kept : (in-S : Bool) (a b new : ℕ) → a + new ≡ b → cond in-S (suc a) a + new ≡ cond in-S (suc b) b
+kept true a b new e = omega arith
+kept false a b new e = e
+
+added-too : (in-S : Bool) (a b new : ℕ) → a + new ≡ b → cond in-S (suc a) a + cond in-S new (suc new) ≡ suc b
+added-too true a b new e = omega arith
+added-too false a b new e = omega arith
+
+-- ---- a record v of S
+module _ {N : ℕ} {S : ℕ → Bool} {v : Received} (p : Records N S v) where
+  canon : Canon 0 (allRanges v)
+  canon = (omega arith, omega arith, to-canon (v .contiguous + 2) (v .above) (p .is-canonical))
+
+  -- a message number is in its ranges if it is in S
+  among : (n : ℕ) → 1 ≤ n → any (inside n n) (allRanges v) ≡ S n
+  among n one = sym (rw (le-leb 1 n one, le-leb 0 n (omega arith))) ∙ p .same-numbers n
+
+  -- an insert adds as many of f..t as are not in S
+  pub added-new : (f t : ℕ) → 1 ≤ f → added v f t ≡ howMany (λ n. not (S n)) f (t + 1 - f)
+  added-new f t one =
+      uncovered-counts 0 f t (allRanges v) (from-canon 0 (allRanges v) canon)
+      ∙ alike (λ n. not (any (inside n n) (allRanges v))) (λ n. not (S n)) f (t + 1 - f) (λ n h. ap not (among n (omega arith)))
+
+  -- ... and S with f..t added has so many numbers more: of the k from n on, if these reach past t
+  more-from : (f t k n : ℕ) → 1 ≤ n → t < n + k → howMany S n k + uncovered (max n f) t (allRanges v) ≡ howMany (add f t S) n k
+  more-from f t zero n one h = omega (arith, none-past (max n f) t (allRanges v) (omega arith))
+  more-from f t (suc k) n one h =
+      let new : ℕ → ℕ = λ m. uncovered m t (allRanges v) in
+      let rest : (m : ℕ) → max (suc n) f ≡ m → howMany S (suc n) k + new m ≡ howMany (add f t S) (suc n) k =
+      λ m e. rw e at (more-from f t k (suc n) (omega arith) (omega arith)) in
+      let here : (m : ℕ) → max n f ≡ m → new (max n f) ≡ new m = λ m e. ap new e in
+      order f n
+      (λ from. order n t
+      (λ to. rw (le-leb f n from, le-leb n t to, here n (omega arith), one-more 0 n t (allRanges v) canon to, among n one)
+      (added-too (S n) _ _ _ (rest (suc n) (omega arith))))
+      (λ behind. let none : new (max n f) ≡ new (max (suc n) f) = omega (arith, none-past (max n f) t (allRanges v) (omega arith), none-past (max (suc n) f) t (allRanges v) (omega arith)) in
+      rw (le-leb f n from, lt-leb n t behind, none) (kept (S n) _ _ _ (rest (max (suc n) f) refl))))
+      (λ before. rw (lt-leb f n before, here f (omega arith)) (kept (S n) _ _ _ (rest f (omega arith))))
+
+  pub added-more : (f t : ℕ) → 1 ≤ f → t ≤ N → howMany S 1 N + added v f t ≡ howMany (add f t S) 1 N
+  added-more f t one tN = let from : max 1 f ≡ f = omega arith in rw from at (more-from f t N 1 (omega arith) (omega arith))
