@@ -26,12 +26,12 @@ module _ (contiguous count from to : ℕ) (above answer : List ℕ) {r : Planned
   refused e = planned e
 
   module _ {change : declared.Change} (known : r ≡ Change change) where
-    no-room : length answer < 3 → answered (Change change) answer ≡ record { answer = refuses OUTPUT; out = answer }
-    no-room h = rw (lt-leb 3 (length answer) h)
+    no-room : length answer < 4 → answered (Change change) answer ≡ record { answer = refuses OUTPUT; out = answer }
+    no-room h = rw (lt-leb 4 (length answer) h)
 
-    pub short : length answer < 3 → covered OUTPUT above answer ≡ insertRange contiguous count from to above answer
+    pub short : length answer < 4 → covered OUTPUT above answer ≡ insertRange contiguous count from to above answer
     short h = ap (λ (left : Left). coveredBy left after above) (sym (no-room h)) ∙ planned known
 
-    pub granted : {written : List ℕ} → record { answer = wrote 3; out = written } ≡ answered (Change change) answer
+    pub granted : {written : List ℕ} → record { answer = wrote 4; out = written } ≡ answered (Change change) answer
         → covered 0 after written ≡ insertRange contiguous count from to above answer
     granted w = ap (λ (left : Left). coveredBy left after above) w ∙ planned known

@@ -19,9 +19,9 @@ pub record Covered : Type 0 where
 abbrev pub covered : ℕ → List ℕ → List ℕ → Covered
 covered number above answer = record { number = number; above = above; answer = answer }
 
--- the answer's places: contiguous, how many ranges lie above it, whether it moved
+-- the answer's places: contiguous, how many ranges lie above it, whether it moved, how many numbers are new
 abbrev pub answered : Planned → List ℕ → Left
-answered (Change c) answer = stored (c .contiguous ∷ c .count ∷ flagByte (c .moved) ∷ []) answer
+answered (Change c) answer = stored (c .contiguous ∷ c .count ∷ flagByte (c .moved) ∷ c .added ∷ []) answer
 answered (Refused q) answer = record { answer = refuses q; out = answer }
 
 -- a refused call changes neither list

@@ -73,18 +73,20 @@ pub extern "C" fn sicklestar_covers(
     flag(received::covers(contiguous, above, count, from, to))
 }
 
-// Writes contiguous, how many ranges lie above it, and whether it moved (1 or 0) to the answer's first three places.
+// Writes contiguous, how many ranges lie above it, whether it moved (1 or 0), and how many numbers are new to the answer's first four places.
 fn put_change(answer: &mut [u64], change: Change)
-    requires { ⌜ 3 ≤ length (now answer) ⌝ }
-    ensures { λ _. ⌜ record { answer = wrote 3; out = now (answer .exit) } ≡ answered (planned.Change change) (now (answer .entry)) ⌝ }
+    requires { ⌜ 4 ≤ length (now answer) ⌝ }
+    ensures { λ _. ⌜ record { answer = wrote 4; out = now (answer .exit) } ≡ answered (planned.Change change) (now (answer .entry)) ⌝ }
 {
     let moved = flag(change.moved);
     answer[0] = change.contiguous as u64;
     answer[1] = change.count as u64;
     answer[2] = moved as u64;
+    answer[3] = change.added;
 }
 
-// Covers from..to: 0, and the answer's first three places hold contiguous, how many ranges lie above it, and whether it moved (1 or 0); or the question's number.
+// Covers from..to: 0, and the answer's first four places hold contiguous, how many ranges lie above it, whether it moved (1 or 0), and how many numbers are new;
+// or the question's number.
 #[no_mangle]
 pub extern "C" fn sicklestar_insert(
     contiguous: u32,
@@ -99,7 +101,7 @@ pub extern "C" fn sicklestar_insert(
     match received::plan(contiguous, above, count, from, to) {
         Planned::Refused(number) => return number as u32,
         Planned::Change(change) => {
-            if answer.len() < 3 {
+            if answer.len() < 4 {
                 return question::OUTPUT as u32;
             }
             received::insert(contiguous, above, count, from, to);

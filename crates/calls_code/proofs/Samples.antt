@@ -21,8 +21,8 @@ samples :
     × (callsOf [] [] (TAKE ∷ 0 ∷ 0 ∷ 0 ∷ 0 ∷ 0 ∷ TAKE ∷ 0 ∷ 0 ∷ 0 ∷ 0 ∷ []) 12 ≡ take ∷ [])
     × (callsOf [] [] (TAKE ∷ 0 ∷ 0 ∷ 0 ∷ 0 ∷ 0 ∷ WRITE ∷ 0 ∷ 0 ∷ 0 ∷ 0 ∷ 0 ∷ []) 11 ≡ take ∷ [])
     -- each answer
-    × (numbersOf (granted ∷ advanced true ∷ truth true ∷ truth false ∷ number 4 ∷ wrote 303 ∷ said 16 (1 ∷ 2 ∷ []) ∷ refused 34 ∷ refusedAt 25 2 ∷ [])
-    ≡ 0 ∷ 0 ∷ 0 ∷ 0 ∷ 0 ∷ 0 ∷ 1 ∷ 1 ∷ 0 ∷ 0 ∷ 0 ∷ 0 ∷ 2 ∷ 1 ∷ 0 ∷ 0 ∷ 0 ∷ 0 ∷ 2 ∷ 0 ∷ 0 ∷ 0 ∷ 0 ∷ 0 ∷ 3 ∷ 4 ∷ 0 ∷ 0 ∷ 0 ∷ 0
+    × (numbersOf (granted ∷ advanced true 5 ∷ advanced false 0 ∷ truth true ∷ truth false ∷ number 4 ∷ wrote 303 ∷ said 16 (1 ∷ 2 ∷ []) ∷ refused 34 ∷ refusedAt 25 2 ∷ [])
+    ≡ 0 ∷ 0 ∷ 0 ∷ 0 ∷ 0 ∷ 0 ∷ 1 ∷ 1 ∷ 5 ∷ 0 ∷ 0 ∷ 0 ∷ 1 ∷ 0 ∷ 0 ∷ 0 ∷ 0 ∷ 0 ∷ 2 ∷ 1 ∷ 0 ∷ 0 ∷ 0 ∷ 0 ∷ 2 ∷ 0 ∷ 0 ∷ 0 ∷ 0 ∷ 0 ∷ 3 ∷ 4 ∷ 0 ∷ 0 ∷ 0 ∷ 0
     ∷ 4 ∷ 303 ∷ 0 ∷ 0 ∷ 0 ∷ 0 ∷ 5 ∷ 16 ∷ 0 ∷ 0 ∷ 0 ∷ 0 ∷ 6 ∷ 34 ∷ 0 ∷ 0 ∷ 0 ∷ 0 ∷ 7 ∷ 25 ∷ 2 ∷ 0 ∷ 0 ∷ 0 ∷ [])
 unfolding tables.entriesFrom encoding.callAs encoding.callsFrom encoding.numbersOf
 samples = (refl, refl, refl, refl)

@@ -90,7 +90,7 @@ callsOf run records numbers room = callsFrom (mostCalls (length numbers) room) r
 abbrev pub YES : ℕ
 YES = 0
 
--- 1 where contiguous moved
+-- 1 where contiguous moved, and how many numbers are new
 abbrev pub ADVANCED : ℕ
 ADVANCED = 1
 
@@ -123,7 +123,7 @@ tagged tag a b = tag ∷ a ∷ b ∷ 0 ∷ 0 ∷ 0 ∷ []
 
 abbrev pub sixOf : Answer → List ℕ
 sixOf granted = tagged YES 0 0
-sixOf (advanced moved) = tagged ADVANCED (cond moved 1 0) 0
+sixOf (advanced moved added) = tagged ADVANCED (cond moved 1 0) added
 sixOf (truth b) = tagged TRUTH (cond b 1 0) 0
 sixOf (number n) = tagged NUMBER n 0
 sixOf (wrote n) = tagged WROTE n 0

@@ -97,7 +97,7 @@ pub fn numbers_of(answer: Answer) -> Numbers
 {
     match answer {
         Answer::Yes => tagged(YES, 0, 0),
-        Answer::Advanced(moved) => tagged(ADVANCED, bit(moved), 0),
+        Answer::Advanced(moved, added) => tagged(ADVANCED, bit(moved), added),
         Answer::Truth(b) => tagged(TRUTH, bit(b), 0),
         Answer::Number(n) => tagged(NUMBER, width::wide(n), 0),
         Answer::Wrote(n) => tagged(WROTE, n as u64, 0),

@@ -45,7 +45,7 @@ callOf Write = ledger.write
 -- the line that is said stands at the front of the output
 abbrev pub says : Answer → (out : List ℕ) → ledger.Answer
 says answer.Yes out = granted
-says (answer.Advanced b) out = advanced b
+says (answer.Advanced b n) out = advanced b n
 says (answer.Truth b) out = truth b
 says (answer.Number n) out = number n
 says (answer.Wrote n) out = wrote n

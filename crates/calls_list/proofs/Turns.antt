@@ -31,7 +31,7 @@ use Rattle.calls_list.proofs.Typed.{typed-calls}
 
 six-long : (a : Answer) → length (sixOf a) ≡ 6
 six-long granted = refl
-six-long (advanced b) = refl
+six-long (advanced b n) = refl
 six-long (truth b) = refl
 six-long (number n) = refl
 six-long (wrote n) = refl

@@ -48,7 +48,7 @@ coversSays c above f t = cond (isRange f t) (answer.Truth (received.covers (cove
 
 -- 38
 abbrev pub coveredBy : Planned → Contact → Mark → Left
-coveredBy (planned.Change x) c m = left (renumbered (c .«sent_msgno») (x .contiguous) (x .count) c) m (answer.Advanced (x .moved))
+coveredBy (planned.Change x) c m = left (renumbered (c .«sent_msgno») (x .contiguous) (x .count) c) m (answer.Advanced (x .moved) (x .added))
 coveredBy (planned.Refused q) c m = left c m (answer.No q)
 
 abbrev pub coverLeaves : Contact → Mark → (above : List ℕ) → (from to : ℕ) → Left

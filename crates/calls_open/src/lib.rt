@@ -17,11 +17,11 @@ ghost use Rattle.numbers.specs.Ranges.{isRange};
 ghost use Rattle.calls_step.specs.Step.{renumbered};
 ghost use Rattle.calls_open.specs.Calls.{left, containsSays, coversSays, coveredBy, coverLeaves, coverList, takeLeaves, lineSays, rowSays, WrittenBy, lineLeft, openedBy, openLeaves, openLists};
 
-// Open answers yes; cover whether contiguous moved; contains and covers a truth; take the number taken; write the length written; statement the length of
-// the line. A no is the question's number.
+// Open answers yes; cover whether contiguous moved, and how many numbers were not covered before; contains and covers a truth; take the
+// number taken; write the length written; statement the length of the line. A no is the question's number.
 pub enum Answer {
     Yes,
-    Advanced(bool),
+    Advanced(bool, u64),
     Truth(bool),
     Number(u32),
     Wrote(usize),
@@ -89,7 +89,7 @@ pub fn covers(contact: Contact, mark: Mark, above: &[u32], from: u32, to: u32) -
     answered(contact, mark, Answer::Truth(are))
 }
 
-// The opened fields and whether contiguous moved, once a cover is planned.
+// The opened fields and what a cover answers, once it is planned.
 fn covered(contact: Contact, mark: Mark, planned: Planned) -> Left
     ensures { λ r. ⌜ r ≡ coveredBy planned contact mark ⌝ }
 {
@@ -97,7 +97,7 @@ fn covered(contact: Contact, mark: Mark, planned: Planned) -> Left
         Planned::Change(change) => Left {
             contact: renumbered(contact, contact.sent_msgno, change.contiguous, change.count),
             mark,
-            answer: Answer::Advanced(change.moved),
+            answer: Answer::Advanced(change.moved, change.added),
         },
         Planned::Refused(q) => Left {
             contact,

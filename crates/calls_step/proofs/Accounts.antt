@@ -13,7 +13,7 @@ use Rattle.calls_step.specs.Two.{RowsAlike, LedgersAlike}
 abbrev pub OutputsAlike : Answer → (out out′ : List ℕ) → Type 0
 OutputsAlike (wrote n) out out′ = (n ≡ length out) × RowsAlike out out′
 OutputsAlike granted out out′ = Unit {0}
-OutputsAlike (advanced b) out out′ = Unit {0}
+OutputsAlike (advanced b n) out out′ = Unit {0}
 OutputsAlike (truth b) out out′ = Unit {0}
 OutputsAlike (number n) out out′ = Unit {0}
 OutputsAlike (said n line) out out′ = Unit {0}
@@ -23,7 +23,7 @@ OutputsAlike (refusedAt q i) out out′ = Unit {0}
 abbrev isRow : Answer → Bool
 isRow (wrote n) = true
 isRow granted = false
-isRow (advanced b) = false
+isRow (advanced b n) = false
 isRow (truth b) = false
 isRow (number n) = false
 isRow (said n line) = false
@@ -32,7 +32,7 @@ isRow (refusedAt q i) = false
 
 no-row : (a : Answer) → isRow a ≡ false → (out out′ : List ℕ) → OutputsAlike a out out′
 no-row granted e out out′ = tt
-no-row (advanced b) e out out′ = tt
+no-row (advanced b n) e out out′ = tt
 no-row (truth b) e out out′ = tt
 no-row (number n) e out out′ = tt
 no-row (wrote n) e out out′ = absurd (true≢false e)

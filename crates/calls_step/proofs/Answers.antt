@@ -156,16 +156,16 @@ pairs2 = 0 ∷ 0 ∷ 0 ∷ 0 ∷ []
 
 samples :
     -- all eight calls are granted. The line is `S,1,4,1,4,0,1,0`
-    (answers N allEight (fresh pairs2 320) ≡ granted ∷ granted ∷ advanced true ∷ truth true ∷ truth true ∷ number 4 ∷ said 16 (line 0x34 0x34 0x30) ∷ wrote 303 ∷ [])
+    (answers N allEight (fresh pairs2 320) ≡ granted ∷ granted ∷ advanced true 1 ∷ truth true ∷ truth true ∷ number 4 ∷ said 16 (line 0x34 0x34 0x30) ∷ wrote 303 ∷ [])
     -- the row's bytes, and what stands behind them stays
     × (left N allEight (fresh pairs2 320) .out ≡ rowBytes 0 ++ replicate 17 0)
     -- document 02's line (A5), of the contact as it was opened, in an output just long enough for it: `S,1,3,1,2,1,1,0`
     × (answers N (then 3 (statement ∷ [])) (fresh pairs2 16) ≡ granted ∷ granted ∷ said 16 (line 0x33 0x32 0x31) ∷ [])
     -- 4..5 are two numbers beyond: `S,1,3,1,2,2,1,0`
-    × (answers N (then 3 (cover 5 5 ∷ statement ∷ [])) (fresh pairs2 16) ≡ granted ∷ granted ∷ advanced false ∷ said 16 (line 0x33 0x32 0x32) ∷ [])
+    × (answers N (then 3 (cover 5 5 ∷ statement ∷ [])) (fresh pairs2 16) ≡ granted ∷ granted ∷ advanced false 1 ∷ said 16 (line 0x33 0x32 0x32) ∷ [])
     -- 01's (p) cases of cover, contains and covers, each from the contact as it was opened: open drops what was not written
     × (answers N (then 3 (cover 3 3 ∷ opens 1 ∷ cover 5 5 ∷ opens 1 ∷ cover 6 9 ∷ opens 1 ∷ contains 0 ∷ covers 3 4 ∷ [])) (fresh pairs2 0)
-    ≡ granted ∷ granted ∷ advanced true ∷ granted ∷ advanced false ∷ granted ∷ advanced false ∷ granted ∷ truth false ∷ truth false ∷ [])
+    ≡ granted ∷ granted ∷ advanced true 1 ∷ granted ∷ advanced false 1 ∷ granted ∷ advanced false 4 ∷ granted ∷ truth false ∷ truth false ∷ [])
     -- a cover frees a pair: 4..4 and 6..6 with 5..5 are 4..6, the freed pair is 0, and what stands behind stays
     × (left N (then 3 (cover 6 6 ∷ cover 5 5 ∷ [])) (fresh (0 ∷ 0 ∷ 0 ∷ 0 ∷ 7 ∷ 8 ∷ 9 ∷ []) 0) .lists .above ≡ 4 ∷ 6 ∷ 0 ∷ 0 ∷ 7 ∷ 8 ∷ 9 ∷ [])
     -- take, write, open again: the number is the stored one again
@@ -179,28 +179,28 @@ samples :
     × (answers N (restore (run 3) entries ∷ opens 1 ∷ contains 4 ∷ []) (fresh (0 ∷ []) 0) ≡ granted ∷ refused LISTS ∷ refused STORE ∷ [])
     -- 37; 38 with one pair lent, in which another cover has room; 40
     × (answers N (then 3 (cover 0 0 ∷ covers 2 1 ∷ cover 6 9 ∷ cover 5 5 ∷ write ∷ statement ∷ [])) (fresh (0 ∷ 0 ∷ []) 15)
-    ≡ granted ∷ granted ∷ refused RANGE ∷ refused RANGE ∷ refused «RANGES_FIT» ∷ advanced false ∷ refused OUTPUT ∷ refused OUTPUT ∷ [])
+    ≡ granted ∷ granted ∷ refused RANGE ∷ refused RANGE ∷ refused «RANGES_FIT» ∷ advanced false 1 ∷ refused OUTPUT ∷ refused OUTPUT ∷ [])
     -- 39: the last number was taken
     × (answers N (then 4294967294 (take ∷ take ∷ [])) (fresh pairs2 0) ≡ granted ∷ granted ∷ number 4294967295 ∷ refused «MSGNO_LEFT» ∷ [])
     -- a refused restore, and a refused open, leave the contact open
     × (answers N (then 3 (restore [] [] ∷ opens 2 ∷ contains 4 ∷ [])) (fresh pairs2 0) ≡ granted ∷ granted ∷ refusedAt ORDER 0 ∷ refused «CONTACT_STORED» ∷ truth true ∷ [])
     -- no range above, and one pair lent: a cover has room
-    × (answers N (bare 2 (cover 4 4 ∷ [])) (fresh (0 ∷ 0 ∷ []) 0) ≡ granted ∷ granted ∷ advanced false ∷ [])
+    × (answers N (bare 2 (cover 4 4 ∷ [])) (fresh (0 ∷ 0 ∷ []) 0) ≡ granted ∷ granted ∷ advanced false 1 ∷ [])
     -- no pairs lent: a cover that touches 1..contiguous needs none
-    × (answers N (bare 2 (cover 4 4 ∷ cover 1 2 ∷ cover 3 3 ∷ [])) (fresh [] 0) ≡ granted ∷ granted ∷ refused «RANGES_FIT» ∷ advanced false ∷ advanced true ∷ [])
+    × (answers N (bare 2 (cover 4 4 ∷ cover 1 2 ∷ cover 3 3 ∷ [])) (fresh [] 0) ≡ granted ∷ granted ∷ refused «RANGES_FIT» ∷ advanced false 0 ∷ advanced true 1 ∷ [])
     -- the last number; all numbers; cover is not bounded by n
-    × (answers N (bare 4294967294 (cover 4294967295 4294967295 ∷ covers 1 4294967295 ∷ [])) (fresh [] 0) ≡ granted ∷ granted ∷ advanced true ∷ truth true ∷ [])
+    × (answers N (bare 4294967294 (cover 4294967295 4294967295 ∷ covers 1 4294967295 ∷ [])) (fresh [] 0) ≡ granted ∷ granted ∷ advanced true 1 ∷ truth true ∷ [])
     × (left N (then 3 (cover 1 4294967295 ∷ [])) (fresh pairs2 0) .contact .contiguous ≡ 4294967295)
 unfolding steps.step layout.parse layout.print form.bigEndian form.bytesOf form.readMany form.printMany form.lebRead utf.completes
-    puts.put places.printPlaces places.placesOf places.readPlaces lents.placesBytes ranges.insert ranges.inserted changes.changeOf
+    puts.put places.printPlaces places.placesOf places.readPlaces lents.placesBytes ranges.insert ranges.inserted ranges.uncovered changes.changeOf
     received.pairs received.stored row.counted row.image row.chainedImage decimals.digitsOf lines.lineOf
 samples = (refl, refl, refl, refl, refl, refl, refl, refl, refl, refl, refl, refl, refl, refl, refl, refl, refl)
 
 -- ---- the ledger on its own, where numbers go up to 16
 ledger-samples :
-    (ledgerAnswers 16 allEight (lent 4 320) nothing ≡ granted ∷ granted ∷ advanced true ∷ truth true ∷ truth true ∷ number 4 ∷ said 16 (line 0x34 0x34 0x30) ∷ wrote 303 ∷ [])
+    (ledgerAnswers 16 allEight (lent 4 320) nothing ≡ granted ∷ granted ∷ advanced true 1 ∷ truth true ∷ truth true ∷ number 4 ∷ said 16 (line 0x34 0x34 0x30) ∷ wrote 303 ∷ [])
     × (ledgerAnswers 16 (then 3 (cover 3 3 ∷ opens 1 ∷ cover 5 5 ∷ opens 1 ∷ cover 6 9 ∷ opens 1 ∷ contains 0 ∷ covers 3 4 ∷ [])) (lent 4 0) nothing
-    ≡ granted ∷ granted ∷ advanced true ∷ granted ∷ advanced false ∷ granted ∷ advanced false ∷ granted ∷ truth false ∷ truth false ∷ [])
+    ≡ granted ∷ granted ∷ advanced true 1 ∷ granted ∷ advanced false 1 ∷ granted ∷ advanced false 4 ∷ granted ∷ truth false ∷ truth false ∷ [])
     -- 34 and 35; 34 with a list lent too short, though the contact is open; 36
     × (ledgerAnswers 16 (cover 0 0 ∷ opens 1 ∷ restore (run 3) entries ∷ cover 0 0 ∷ take ∷ opens 2 ∷ []) (lent 4 0) nothing
     ≡ refused STORE ∷ refused STORE ∷ granted ∷ refused STORE ∷ refused STORE ∷ refused «CONTACT_STORED» ∷ [])
@@ -208,7 +208,7 @@ ledger-samples :
     × (ledgerAnswers 16 (restore (run 3) entries ∷ opens 1 ∷ contains 4 ∷ []) (lent 1 0) nothing ≡ granted ∷ refused LISTS ∷ refused STORE ∷ [])
     -- 37, 38, 40; 39
     × (ledgerAnswers 16 (then 3 (cover 0 0 ∷ covers 2 1 ∷ cover 6 9 ∷ cover 5 5 ∷ write ∷ statement ∷ [])) (lent 2 15) nothing
-    ≡ granted ∷ granted ∷ refused RANGE ∷ refused RANGE ∷ refused «RANGES_FIT» ∷ advanced false ∷ refused OUTPUT ∷ refused OUTPUT ∷ [])
+    ≡ granted ∷ granted ∷ refused RANGE ∷ refused RANGE ∷ refused «RANGES_FIT» ∷ advanced false 1 ∷ refused OUTPUT ∷ refused OUTPUT ∷ [])
     × (ledgerAnswers 16 (then 15 (take ∷ take ∷ [])) (lent 4 0) nothing ≡ granted ∷ granted ∷ number 16 ∷ refused «MSGNO_LEFT» ∷ [])
 unfolding ledgers.ledger sets.recordOf layout.parse layout.print form.bigEndian form.bytesOf form.readMany form.printMany form.lebRead utf.completes decimals.digitsOf lines.lineOf
 ledger-samples = (refl, refl, refl, refl, refl, refl, refl)

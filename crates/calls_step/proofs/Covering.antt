@@ -1,4 +1,4 @@
--- cover agrees with the ledger: the ranges that it leaves are the runs of S with from..to added.
+-- cover agrees with the ledger: the ranges that it leaves are the runs of S with from..to added, and it answers how many numbers that set has more.
 -- Assumes nothing.
 use Prim.Native.Nat.{ℕ, _+_, _-_, _/_, _^_, _≤_}
 use mathlib.Core.List.{List, []}
@@ -11,10 +11,10 @@ use borrow.Author.Tests.{leb-true}
 use Rattle.layout.specs.Questions.{RANGE, «RANGES_FIT»}
 use Rattle.layout.specs.RowLaws.{Valid}
 use Rattle.rows.specs.Rows.{contact}
-use Rattle.numbers.specs.Ranges.{Received, inserted, isRange}
+use Rattle.numbers.specs.Ranges.{Received, inserted, added, isRange}
 use Rattle.received.specs.Change.{changeOf}
 use Rattle.received.specs.Change as changes
-use Rattle.numbers.specs.Sets.{add, Records}
+use Rattle.numbers.specs.Sets.{add, howMany, Records}
 use Rattle.received.specs.Lent.{flat, stored, fits, planOf, listAfter}
 use Rattle.numbers.specs.Lists.{limitOf}
 use Rattle.received.specs.declared.Change.{Change}
@@ -52,7 +52,7 @@ module _ (N : ℕ) (wide : N + 1 ≡ 256 ^ 4) (run : List ℕ) (es : List Entry)
     abbrev leftOf : Received → Left
     leftOf v =
         cond (fits v (length (ls .above)) f t)
-        (leaves (advanced (changeOf v f t .moved))
+        (leaves (advanced (changeOf v f t .moved) (changeOf v f t .added))
         (relisted (renumbered (o .n) (changeOf v f t .contiguous) (changeOf v f t .count) (contactOf (current N o))) (aboveAs (listAfter v (ls .above) f t) ls) given))
         (no «RANGES_FIT» given)
 
@@ -60,22 +60,22 @@ module _ (N : ℕ) (wide : N + 1 ≡ 256 ^ 4) (run : List ℕ) (es : List Entry)
     plan-left = go (fits (coveredIn given) (length (ls .above)) f t)
       where
         go : (b : Bool) → covering f t given (cond b (planned.Change (changeOf (coveredIn given) f t)) (planned.Refused «RANGES_FIT»))
-            ≡ cond b (leaves (advanced (changeOf (coveredIn given) f t .moved))
+            ≡ cond b (leaves (advanced (changeOf (coveredIn given) f t .moved) (changeOf (coveredIn given) f t .added))
             (relisted (renumbered (o .n) (changeOf (coveredIn given) f t .contiguous) (changeOf (coveredIn given) f t .count) (contactOf (current N o)))
             (aboveAs (listAfter (coveredIn given) (ls .above) f t) ls) given)) (no «RANGES_FIT» given)
         go true = refl
         go false = refl
 
-    -- ... in terms of the ranges r that it would then be
-    abbrev leftAs : Received → Left
-    leftAs r =
+    -- ... in terms of the ranges r that it would then be, with so many new numbers
+    abbrev leftAs : Received → (new : ℕ) → Left
+    leftAs r new =
         cond (leb (length (r .above)) (limitOf (length (ls .above))))
-        (leaves (advanced (not (eqb (r .contiguous) (covered N o .contiguous))))
+        (leaves (advanced (not (eqb (r .contiguous) (covered N o .contiguous))) new)
         (relisted (renumbered (o .n) (r .contiguous) (length (r .above)) (contactOf (current N o)))
         (aboveAs (cond (leb (length (r .above)) (limitOf (length (ls .above)))) (stored (r .above) (length (covered N o .above)) (ls .above)) (ls .above)) ls) given))
         (no «RANGES_FIT» given)
 
-    left-as : leftOf (covered N o) ≡ leftAs (inserted (covered N o) f t)
+    left-as : leftOf (covered N o) ≡ leftAs (inserted (covered N o) f t) (added (covered N o) f t)
     unfolding changes.changeOf
     left-as = refl
 
@@ -83,12 +83,18 @@ module _ (N : ℕ) (wide : N + 1 ≡ 256 ^ 4) (run : List ℕ) (es : List Entry)
     abbrev wider : Open
     wider = record { id = o .id; fields = o .fields; n = o .n; S = add f t (o .S) }
 
+    abbrev more : ℕ
+    more = howMany (add f t (o .S)) 1 N - howMany (o .S) 1 N
+
     module _ (one : 1 ≤ f) (ft : f ≤ t) (tN : t ≤ N) where
       adds : Records N (add f t (o .S)) (inserted (covered N o) f t)
       adds = proved .records (sound .records) .insert-adds f t one ft tN
 
       wider-is : covered N wider ≡ inserted (covered N o) f t
       wider-is = proved .records adds .scanned
+
+      more-is : added (covered N o) f t ≡ more
+      more-is = omega (arith, proved .records (sound .records) .added-more f t one tN)
 
       records : Records N (add f t (o .S)) (covered N wider)
       records = subst (Records N (add f t (o .S))) (sym wider-is) adds
@@ -131,12 +137,12 @@ module _ (N : ℕ) (wide : N + 1 ≡ 256 ^ 4) (run : List ℕ) (es : List Entry)
           }
 
           grants : Good N here given
-              (leaves (advanced (not (eqb (covered N wider .contiguous) (covered N o .contiguous))))
+              (leaves (advanced (not (eqb (covered N wider .contiguous) (covered N o .contiguous))) more)
               (relisted (renumbered (o .n) (covered N wider .contiguous) (length (covered N wider .above)) (contactOf (current N o)))
               (aboveAs (stored (covered N wider .above) (length (covered N o .above)) (ls .above)) ls) given))
-              (record { answer = advanced (not (eqb (covered N wider .contiguous) (covered N o .contiguous))); state = opened run es wider; freed = freed; output = [] })
+              (record { answer = advanced (not (eqb (covered N wider .contiguous) (covered N o .contiguous))) more; state = opened run es wider; freed = freed; output = [] })
           grants = record {
-            agrees = λ i. leaves (advanced (not (eqb (covered N wider .contiguous) (covered N o .contiguous))))
+            agrees = λ i. leaves (advanced (not (eqb (covered N wider .contiguous) (covered N o .contiguous))) more)
                 (record { mark = Opened (record { 0 = o .id }); run = run; entries = es; contact = contactOf (current N wider); lists = lists-are i; out = out });
             next = (
               sound-wider,
@@ -153,15 +159,15 @@ module _ (N : ℕ) (wide : N + 1 ≡ 256 ^ 4) (run : List ℕ) (es : List Entry)
             );
           }
 
-      covers-now : fitting (current N o) (lentOf given) ≡ true → Good N here given (leftAs (covered N wider)) (coverNow N f t (lentOf given) run es o)
+      covers-now : fitting (current N o) (lentOf given) ≡ true → Good N here given (leftAs (covered N wider) more) (coverNow N f t (lentOf given) run es o)
       covers-now fit =
           either (leb (length (covered N wider .above)) (limitOf (length (ls .above))))
           (λ b. Good N here given
-          (cond b (leaves (advanced (not (eqb (covered N wider .contiguous) (covered N o .contiguous))))
+          (cond b (leaves (advanced (not (eqb (covered N wider .contiguous) (covered N o .contiguous))) more)
           (relisted (renumbered (o .n) (covered N wider .contiguous) (length (covered N wider .above)) (contactOf (current N o)))
           (aboveAs (cond b (stored (covered N wider .above) (length (covered N o .above)) (ls .above)) (ls .above)) ls) given)) (no «RANGES_FIT» given))
           (cond b (record {
-            answer = advanced (not (eqb (covered N wider .contiguous) (covered N o .contiguous)));
+            answer = advanced (not (eqb (covered N wider .contiguous) (covered N o .contiguous))) more;
             state = opened run es wider;
             freed = length (covered N o .above) - length (covered N wider .above);
             output = [];
@@ -173,7 +179,7 @@ module _ (N : ℕ) (wide : N + 1 ≡ 256 ^ 4) (run : List ℕ) (es : List Entry)
           → Good N here given (covering f t given (planOf (coveredIn given) (length (ls .above)) f t)) (coverNow N f t (lentOf given) run es o)
       planned-good fit =
           subst (λ (x : Left). Good N here given x (coverNow N f t (lentOf given) run es o))
-          (sym (plan-left ∙ ap leftOf (covered-now N run es o ls out sound same fit) ∙ left-as ∙ ap leftAs (sym wider-is)))
+          (sym (plan-left ∙ ap leftOf (covered-now N run es o ls out sound same fit) ∙ left-as ∙ (λ i. leftAs (sym wider-is i) (more-is i))))
           (covers-now fit)
 
     pub cover-good : t ≤ N → Good N here given (step N (cover f t) given) (ledger N (cover f t) (lentOf given) here)

@@ -57,11 +57,11 @@ samples :
     × Expires 9 (range 1 2 ∷ []) 0
     -- neither cover nor take changes the figure
     × Both (calls 8 3 (range 1 5 ∷ []) (cover 3 5 ∷ take ∷ statement ∷ [])) 16
-    (granted ∷ granted ∷ advanced true ∷ number 9 ∷ said 16 (lineOf 1 9 3 5 0 1 2) ∷ [])
+    (granted ∷ granted ∷ advanced true 3 ∷ number 9 ∷ said 16 (lineOf 1 9 3 5 0 1 2) ∷ [])
     -- all numbers of the ledger are acknowledged
     × (ledgerAnswers 16 (calls 16 16 (range 1 16 ∷ []) (statement ∷ [])) (lentOf (before 18)) nothing ≡ granted ∷ granted ∷ said 18 (lineOf 1 16 16 2 0 1 0) ∷ [])
 unfolding steps.step ledgers.ledger sets.recordOf layout.parse layout.print form.bigEndian form.bytesOf form.readMany form.printMany form.lebRead utf.completes
-    puts.put places.printPlaces places.placesOf places.readPlaces lents.placesBytes ranges.insert ranges.inserted changes.changeOf
+    puts.put places.printPlaces places.placesOf places.readPlaces lents.placesBytes ranges.insert ranges.inserted ranges.uncovered changes.changeOf
     received.pairs received.stored row.counted row.image row.chainedImage decimals.digitsOf lines.lineOf
 samples = ((refl, refl), (refl, refl), (refl, refl), (refl, refl), (refl, refl), (refl, refl), (refl, refl), refl)
 

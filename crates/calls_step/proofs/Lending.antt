@@ -70,7 +70,7 @@ longer =
 -- the line is `S,1,3,1,2,5,1,0`
 abbrev longerSays : List Answer
 longerSays =
-    granted ∷ granted ∷ refused «RANGES_FIT» ∷ advanced false ∷ truth true ∷ refused OUTPUT ∷ said 16 (line 0x33 0x32 0x35) ∷ wrote 319 ∷ []
+    granted ∷ granted ∷ refused «RANGES_FIT» ∷ advanced false 4 ∷ truth true ∷ refused OUTPUT ∷ said 16 (line 0x33 0x32 0x35) ∷ wrote 319 ∷ []
 
 -- ---- too short
 -- 34 with one pair for two ranges, and with no place for unacked or half a pair for expired: each time the same call is granted with places enough.
@@ -91,7 +91,7 @@ short =
 
 abbrev shortSays : List Answer
 shortSays =
-    granted ∷ granted ∷ advanced false ∷ refused STORE ∷ truth true ∷ refused STORE ∷ refused STORE ∷ number 4 ∷ refused LISTS ∷ truth true ∷ []
+    granted ∷ granted ∷ advanced false 4 ∷ refused STORE ∷ truth true ∷ refused STORE ∷ refused STORE ∷ number 4 ∷ refused LISTS ∷ truth true ∷ []
 
 -- ---- the turns: the calls with these lengths
 abbrev turns : List Request → List Turn
@@ -120,7 +120,7 @@ both-agree = (every-list N refl before refl (turns longer) (both-legal .0), ever
 -- ---- what they answer, and what the ledger does
 both-say : (answersOf (turns longer) ≡ longerSays) × (answersOf (turns short) ≡ shortSays)
 unfolding occurs.again occurs.fitted steps.step layout.parse layout.print form.bigEndian form.bytesOf form.readMany form.printMany form.lebRead utf.completes
-    puts.put places.printPlaces places.placesOf places.readPlaces lents.placesBytes ranges.insert ranges.inserted changes.changeOf
+    puts.put places.printPlaces places.placesOf places.readPlaces lents.placesBytes ranges.insert ranges.inserted ranges.uncovered changes.changeOf
     received.pairs received.stored row.counted row.image row.chainedImage decimals.digitsOf lines.lineOf
 both-say = (refl, refl)
 

@@ -27,6 +27,7 @@ pub mod Contracts
 pub mod Replay
 pub mod Answers
 pub mod Expired
+pub mod Added
 pub mod TwoContacts
 pub mod TwoStores
 pub mod Lending

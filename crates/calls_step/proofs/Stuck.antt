@@ -52,7 +52,7 @@ use Rattle.calls_step.proofs.Every.{each-turn, begun}
 -- ---- answers that are 34
 abbrev is34 : call.Answer → Bool
 is34 granted = false
-is34 (advanced b) = false
+is34 (advanced b n) = false
 is34 (truth b) = false
 is34 (number n) = false
 is34 (wrote n) = false

@@ -30,7 +30,7 @@ written : (a : Answer) (row row′ out out′ : List ℕ) → OutputsAlike a row
 written (wrote n) row row′ out out′ h =
     subst₂ RowsAlike (sym (take-at row out n (sym (h .0)))) (sym (take-at row′ out′ n (sym (h .0 ∙ h .1 .long)))) (h .1)
 written granted row row′ out out′ h = tt
-written (advanced b) row row′ out out′ h = tt
+written (advanced b n) row row′ out out′ h = tt
 written (truth b) row row′ out out′ h = tt
 written (number n) row row′ out out′ h = tt
 written (said n line) row row′ out out′ h = tt

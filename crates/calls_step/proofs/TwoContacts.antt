@@ -36,18 +36,18 @@ abbrev reopened : List Call
 reopened = two ∷ opens 1 ∷ cover 3 3 ∷ opens 2 ∷ contains 3 ∷ cover 1 1 ∷ opens 1 ∷ contains 3 ∷ contains 4 ∷ opens 2 ∷ contains 1 ∷ []
 
 abbrev reopenedSays : List Answer
-reopenedSays = granted ∷ granted ∷ advanced true ∷ granted ∷ truth false ∷ advanced true ∷ granted ∷ truth false ∷ truth true ∷ granted ∷ truth false ∷ []
+reopenedSays = granted ∷ granted ∷ advanced true 1 ∷ granted ∷ truth false ∷ advanced true 1 ∷ granted ∷ truth false ∷ truth true ∷ granted ∷ truth false ∷ []
 
 -- a refused restore leaves the contact open with what was covered, a granted one leaves none open
 abbrev restoredAgain : List Call
 restoredAgain = two ∷ opens 1 ∷ cover 3 3 ∷ restore [] [] ∷ contains 3 ∷ two ∷ contains 3 ∷ opens 1 ∷ contains 3 ∷ []
 
 abbrev restoredAgainSays : List Answer
-restoredAgainSays = granted ∷ granted ∷ advanced true ∷ refusedAt ORDER 0 ∷ truth true ∷ granted ∷ refused STORE ∷ granted ∷ truth false ∷ []
+restoredAgainSays = granted ∷ granted ∷ advanced true 1 ∷ refusedAt ORDER 0 ∷ truth true ∷ granted ∷ refused STORE ∷ granted ∷ truth false ∷ []
 
 two-contacts : (answers N reopened (fresh pairs2 0) ≡ reopenedSays) × (answers N restoredAgain (fresh pairs2 0) ≡ restoredAgainSays)
 unfolding steps.step layout.parse layout.print form.bigEndian form.bytesOf form.readMany form.printMany form.lebRead utf.completes
-    puts.put places.printPlaces places.placesOf places.readPlaces lents.placesBytes ranges.insert ranges.inserted changes.changeOf
+    puts.put places.printPlaces places.placesOf places.readPlaces lents.placesBytes ranges.insert ranges.inserted ranges.uncovered changes.changeOf
     received.pairs received.stored row.counted row.image row.chainedImage
 two-contacts = (refl, refl)
 

@@ -87,7 +87,7 @@ before = fresh pairs2 320
 
 -- the line is `S,1,4,1,4,0,1,0`
 abbrev says : List Answer
-says = granted ∷ granted ∷ advanced true ∷ truth true ∷ truth true ∷ number 4 ∷ said 16 (line 0x34 0x34 0x30) ∷ wrote 303 ∷ []
+says = granted ∷ granted ∷ advanced true 1 ∷ truth true ∷ truth true ∷ number 4 ∷ said 16 (line 0x34 0x34 0x30) ∷ wrote 303 ∷ []
 
 -- each writes its own row
 both-say :
@@ -96,7 +96,7 @@ both-say :
     × (left N (eight 0) before .out ≡ rowBytes 0 ++ replicate 17 0)
     × (left N (eight 100) before .out ≡ rowBytes 100 ++ replicate 17 0)
 unfolding steps.step layout.parse layout.print form.bigEndian form.bytesOf form.readMany form.printMany form.lebRead utf.completes
-    puts.put places.printPlaces places.placesOf places.readPlaces lents.placesBytes ranges.insert ranges.inserted changes.changeOf
+    puts.put places.printPlaces places.placesOf places.readPlaces lents.placesBytes ranges.insert ranges.inserted ranges.uncovered changes.changeOf
     received.pairs received.stored row.counted row.image row.chainedImage decimals.digitsOf lines.lineOf
 both-say = (refl, refl, refl, refl)
 

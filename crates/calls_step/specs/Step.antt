@@ -110,10 +110,10 @@ output out h = record { mark = h .mark; run = h .run; entries = h .entries; cont
 abbrev pub coveredIn : Input → Received
 coveredIn h = receivedIn (h .contact .contiguous) (h .contact .above) (h .lists .above)
 
--- 38. The answer is whether contiguous moved; list places that cover frees become 0
+-- 38. The answer is whether contiguous moved, and how many numbers are new; list places that cover frees become 0
 abbrev pub covering : (from to : ℕ) → Input → Planned → Left
 covering f t h (planned.Change c) =
-    leaves (advanced (c .moved))
+    leaves (advanced (c .moved) (c .added))
     (relisted (renumbered (h .contact .«sent_msgno») (c .contiguous) (c .count) (h .contact)) (aboveAs (listAfter (coveredIn h) (h .lists .above) f t) (h .lists)) h)
 covering f t h (planned.Refused q) = no q h
 

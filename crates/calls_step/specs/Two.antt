@@ -40,7 +40,7 @@ pub record RowsAlike (row row′ : List ℕ) : Type 0 where
 abbrev pub WrittenAlike : Answer → (out out′ : List ℕ) → Type 0
 WrittenAlike (wrote n) out out′ = RowsAlike (take n out) (take n out′)
 WrittenAlike granted out out′ = Unit {0}
-WrittenAlike (advanced b) out out′ = Unit {0}
+WrittenAlike (advanced b n) out out′ = Unit {0}
 WrittenAlike (truth b) out out′ = Unit {0}
 WrittenAlike (number n) out out′ = Unit {0}
 WrittenAlike (said n line) out out′ = Unit {0}

@@ -1,4 +1,4 @@
--- The calls of document 01, and what they answer.
+-- The calls of document 01, and what they answer, with 02's A2.
 -- Assumes nothing.
 use Prim.Native.Nat.{ℕ}
 use mathlib.Core.List.{List}
@@ -17,11 +17,11 @@ pub data Call : Type 0 where
   statement : Call
   write : Call
 
--- restore and open answer yes; cover whether contiguous moved; contains and covers a truth; take the number taken; write the length written; statement the length and the line's bytes.
+-- restore and open answer yes; cover whether contiguous moved, and how many numbers were not covered before; contains and covers a truth; take the number taken; write the length written; statement the length and the line's bytes.
 -- A refusal is the question's number, restore's with the entry's index
 pub data Answer : Type 0 where
   granted : Answer
-  advanced : (moved : Bool) → Answer
+  advanced : (moved : Bool) → (added : ℕ) → Answer
   truth : Bool → Answer
   number : ℕ → Answer
   wrote : (length : ℕ) → Answer
@@ -31,7 +31,7 @@ pub data Answer : Type 0 where
 
 abbrev pub isGranted : Answer → Bool
 isGranted granted = true
-isGranted (advanced b) = true
+isGranted (advanced b n) = true
 isGranted (truth b) = true
 isGranted (number n) = true
 isGranted (wrote n) = true

@@ -1,4 +1,4 @@
--- THE LEDGER of document 01, with 02's A5 in the line of a statement. It is fed the calls with their own arguments and lent lengths, and nothing that earlier calls left.
+-- THE LEDGER of document 01, with 02's A2 in the answer of a cover and its A5 in the line of a statement. It is fed the calls with their own arguments and lent lengths, and nothing that earlier calls left.
 -- N is the highest message number; a set of message numbers is its test. Assumes nothing.
 use Prim.Native.Nat.{ℕ, _+_, _-_}
 use mathlib.Core.List.{List, []}
@@ -132,14 +132,14 @@ module _ (N : ℕ) where
   abbrev pub passesNow : Lent → (run : List ℕ) → List Entry → Open → Bool
   passesNow lent run es o = fitting (current o) lent && replacedPasses run es (o .id) (print (rows.contact 3) (current o))
 
-  -- 38
+  -- 38. The numbers of S after it, less those before it, are counted (02, A2)
   abbrev pub coverNow : (from to : ℕ) → Lent → (run : List ℕ) → List Entry → Open → Account
   coverNow f t lent run es o =
       let before = covered o in
       let after = recordOf N (add f t (o .S)) in
       cond (leb (length (after .above)) (limitOf (lent .above)))
       (record {
-        answer = advanced (not (eqb (after .contiguous) (before .contiguous)));
+        answer = advanced (not (eqb (after .contiguous) (before .contiguous))) (howMany (add f t (o .S)) 1 N - howMany (o .S) 1 N);
         state = opened run es (record { id = o .id; fields = o .fields; n = o .n; S = add f t (o .S) });
         freed = length (before .above) - length (after .above);
         output = [];

@@ -1,13 +1,15 @@
 -- The text of an answer by its tag.
 -- Assumes nothing.
 use Prim.Native.Nat.{ℕ, _-_}
-use mathlib.Core.List.{List}
+use mathlib.Core.List.{List, _∷_, _++_}
 use mathlib.Core.Path.{_≡_, sym, ap, _∙_}
 use lib.ListN.{take}
 use borrow.Author.Tests.{eq-eqb, ne-eqb}
+use Rattle.numbers.specs.Decimal.{decimal}
+use Rattle.ascii.specs.Words.{SPACE}
 use Rattle.ascii.specs.Hex.{hexOf}
 use Rattle.calls_code.specs.Encoding.{YES, ADVANCED, TRUTH, NUMBER, WROTE, SAID, NO}
-use Rattle.replay_answer.specs.Transcript.{falseText, trueText, truthText, placeText, answerText}
+use Rattle.replay_answer.specs.Transcript.{falseText, trueText, truthText, addedText, placeText, answerText}
 
 -- ---- a truth as a number
 pub is-false : (a : ℕ) → a ≡ 0 → falseText ≡ truthText a
@@ -15,6 +17,10 @@ is-false a z = rw (eq-eqb a 0 z)
 
 pub is-true : (a : ℕ) → (a ≡ 0 → ⊥) → trueText ≡ truthText a
 is-true a z = rw (ne-eqb a 0 z)
+
+-- ... and a number behind it
+pub with-added : {text : List ℕ} (a n : ℕ) → text ≡ truthText a → text ++ (SPACE ∷ decimal n) ≡ addedText a n
+with-added a n e = ap (λ (t : List ℕ). t ++ (SPACE ∷ decimal n)) e
 
 -- ---- by the tag
 module _ (a b : ℕ) (out : List ℕ) {tag : ℕ} where

@@ -35,6 +35,10 @@ falseText = 0x66 ∷ 0x61 ∷ 0x6C ∷ 0x73 ∷ 0x65 ∷ []
 abbrev pub truthText : ℕ → List ℕ
 truthText a = cond (eqb a 0) falseText trueText
 
+-- a truth as a number, and a number behind it
+abbrev pub addedText : (truth added : ℕ) → List ℕ
+addedText a added = truthText a ++ (SPACE ∷ decimal added)
+
 -- no, and a space
 abbrev pub noText : List ℕ
 noText = 0x6E ∷ 0x6F ∷ SPACE ∷ []
@@ -47,7 +51,7 @@ placeText question place = noText ++ (decimal question ++ (SPACE ∷ decimal pla
 unfoldable pub answerText : (tag a b : ℕ) → (out : List ℕ) → List ℕ
 answerText tag a b out =
     cond (eqb tag YES) yesText
-    (cond (eqb tag ADVANCED) (truthText a)
+    (cond (eqb tag ADVANCED) (addedText a b)
     (cond (eqb tag TRUTH) (truthText a)
     (cond (eqb tag NUMBER) (decimal a)
     (cond (eqb tag WROTE) (hexOf (take a out))

@@ -22,7 +22,7 @@ ghost use Rattle.received.specs.Lent.{pairs};
 ghost use Rattle.numbers.specs.Decimal.{decimal};
 ghost use Rattle.ascii.specs.Words.{SPACE};
 ghost use Rattle.ascii.specs.Hex.{hexOf};
-ghost use Rattle.replay_answer.specs.Transcript.{EQUALS, lineOf, truthText, placeText, answerText, rangeText, listed, rangesText, stateText};
+ghost use Rattle.replay_answer.specs.Transcript.{EQUALS, lineOf, truthText, addedText, placeText, answerText, rangeText, listed, rangesText, stateText};
 
 const EQUALS: u8 = b'=';
 
@@ -129,6 +129,16 @@ fn truth_line(a: u64, out: &mut [u8]) -> Written
     text_line(b"true", out)
 }
 
+// ... and a number behind it.
+fn added_line(a: u64, added: u64, out: &mut [u8]) -> Written
+    ensures { λ r. ⌜ leaves r (now (out .exit)) ≡ stored (lineOf (addedText a added)) (now (out .entry)) ⌝ }
+{
+    if a == 0 {
+        return number_line(b"false ", added, out);
+    }
+    number_line(b"true ", added, out)
+}
+
 // The line of a call's answer: its tag and two numbers. What the call wrote stands at the front of the bytes.
 pub fn answer_line(tag: u64, a: u64, b: u64, bytes: &[u8], out: &mut [u8]) -> Written
     ensures { λ r. ⌜ leaves r (now (out .exit)) ≡ stored (lineOf (answerText tag a b (now (bytes .entry)))) (now (out .entry)) ⌝ }
@@ -138,7 +148,7 @@ pub fn answer_line(tag: u64, a: u64, b: u64, bytes: &[u8], out: &mut [u8]) -> Wr
         return text_line(b"yes", out);
     }
     if tag == ADVANCED {
-        return truth_line(a, out);
+        return added_line(a, b, out);
     }
     if tag == TRUTH {
         return truth_line(a, out);

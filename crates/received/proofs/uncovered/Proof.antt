@@ -1,6 +1,6 @@
 -- `received::uncovered` meets its contract. The invariant: what is found, and what is to be found from here on behind the ranges that are passed, is the answer;
 -- the answer is at most all of at..to, and so no sum is too wide.
-use Prim.Native.Nat.{ℕ, _≤_, _-_, _+_, _*_, min, max}
+use Prim.Native.Nat.{ℕ, _≤_, _-_, _+_, _*_, max}
 use mathlib.Core.List.{List}
 use mathlib.Core.Path.{_≡_}
 use native.Mathlib.Omega.{arith}

@@ -24,8 +24,8 @@ returns c =
     let s = h .before .before .before .args in
     as-line (s .out .now) (of-tag (s .a) (s .b) (s .bytes .now) (h .if1 .taken)) (t .text-line .ensures)
 
-truth-line-requires : tie.Need-truth-line-requires
-truth-line-requires c κs = search needs
+added-line-requires : tie.Need-added-line-requires
+added-line-requires c κs = search needs
 
 same-length-2 : tie.Need-same-length-2
 same-length-2 c = search needs
@@ -36,10 +36,10 @@ returns-2 c =
     let t = c .before .before in
     let h = t .before .before in
     let s = h .before .before .before .before .args in
-    as-line (s .out .now) (of-tag (s .a) (s .b) (s .bytes .now) (h .if2 .taken)) (t .truth-line .ensures)
+    as-line (s .out .now) (of-tag (s .a) (s .b) (s .bytes .now) (h .if2 .taken)) (t .added-line .ensures)
 
-truth-line-requires-2 : tie.Need-truth-line-requires-2
-truth-line-requires-2 c κs = search needs
+truth-line-requires : tie.Need-truth-line-requires
+truth-line-requires c κs = search needs
 
 same-length-3 : tie.Need-same-length-3
 same-length-3 c = search needs
@@ -50,7 +50,7 @@ returns-3 c =
     let t = c .before .before in
     let h = t .before .before in
     let s = h .before .before .before .before .before .args in
-    as-line (s .out .now) (of-tag (s .a) (s .b) (s .bytes .now) (h .if3 .taken)) (t .truth-line2 .ensures)
+    as-line (s .out .now) (of-tag (s .a) (s .b) (s .bytes .now) (h .if3 .taken)) (t .truth-line .ensures)
 
 slice-aggregate-number-line : tie.Need-slice-aggregate-number-line
 slice-aggregate-number-line c = search needs
@@ -154,10 +154,10 @@ answer-line-spec =
     text-line-requires
     same-length
     returns
-    truth-line-requires
+    added-line-requires
     same-length-2
     returns-2
-    truth-line-requires-2
+    truth-line-requires
     same-length-3
     returns-3
     slice-aggregate-number-line
