@@ -1,12 +1,13 @@
 //! A model of the eight calls: document 01's ledger, with the questions 34 to 40 in order, what a granted call answers and
-//! writes, and what it leaves in the lent lists. The last figure of an `S` line is document 02's (A5).
+//! writes, and what it leaves in the lent lists. The last figure of an `S` line is document 02's (A5), and so
+//! is the count that cover answers (A2).
 //!
 //! How it was made: from document 01 ("The ledger", questions 34 to 40, and the paragraph between them) and from the list of
 //! how its open points are read (docs/DECISIONS.md), with no Rattle of the calls or of covered numbers read. Its author had
 //! read the Rust's `Received`, which merges ranges and refuses nothing; here S is a set of numbers (number_set.rs). It sees
 //! the arguments and the lengths of what is lent, never what lent places hold. 34 is asked in full: the store with the
-//! opened fields' row in place of the contact's is restored by store_model.rs each time. That last figure came later, from
-//! document 02, by an author who knew the Rattle's definition of it.
+//! opened fields' row in place of the contact's is restored by store_model.rs each time. That last figure and that
+//! count came later, from document 02, by an author who knew the Rattle's definitions of them.
 
 use crate::lent::Lists;
 use crate::model::{self, Contact};
@@ -37,6 +38,8 @@ pub enum Call {
 pub enum Granted {
     Yes,
     Is(bool),
+    /// Whether contiguous moved, and how many numbers are new.
+    Covered(bool, u64),
     Number(u32),
     /// So many bytes of the output.
     Wrote(usize),
@@ -220,13 +223,14 @@ impl Ledger {
 /// S with from..to. List places that the fewer runs free become 0, those past them stay.
 fn cover(opened: &mut Opened, from: u32, to: u32, lent: &mut Lent) -> Granted {
     let before = opened.fields();
+    let added = opened.covered.added(from, to);
     opened.covered = opened.covered.with(from, to);
     let after = opened.fields();
     lent.above[..2 * before.above.len()].fill(0);
     for (place, (from, to)) in lent.above.chunks_exact_mut(2).zip(&after.above) {
         place.copy_from_slice(&[*from, *to]);
     }
-    Granted::Is(after.contiguous != before.contiguous)
+    Granted::Covered(after.contiguous != before.contiguous, added)
 }
 
 /// 1 to 33.

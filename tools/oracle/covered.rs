@@ -1,5 +1,5 @@
-//! A model of covered numbers, from document 01's ledger alone: S is a set of numbers from 1 on, here as its maximal
-//! runs in rising order, in 64 bits. Nothing is merged step by step: a set is its sorted ranges, joined once.
+//! A model of covered numbers, from document 01's ledger alone, with 02's A2: S is a set of numbers from 1 on, here as its
+//! maximal runs in rising order, in 64 bits. Nothing is merged step by step: a set is its sorted ranges, joined once.
 
 use crate::model::Range;
 use crate::questions::{LIMIT, RANGE, ask};
@@ -50,14 +50,20 @@ impl Covered {
         Ok(self.runs.iter().any(holds))
     }
 
-    /// S with from..to, where so many pairs are lent, and whether contiguous moved. (37, 38)
-    pub fn cover(&self, from: u32, to: u32, lent: usize) -> Result<(Self, bool), u32> {
+    /// S with from..to, where so many pairs are lent, whether contiguous moved, and how many numbers were not in S. (37, 38)
+    pub fn cover(&self, from: u32, to: u32, lent: usize) -> Result<(Self, bool, u64), u32> {
         ask(RANGE, 1 <= from && from <= to)?;
         let more = (u64::from(from), u64::from(to));
         let after = Self::joined([&self.runs[..], &[more]].concat());
         ask(LIMIT, after.above().len() <= lent.min(COUNTED))?;
         let moved = after.contiguous() != self.contiguous();
-        Ok((after, moved))
+        Ok((after, moved, self.missing(more)))
+    }
+
+    /// How many of from..to are not in S: all but those that a run shares with it.
+    fn missing(&self, (from, to): (u64, u64)) -> u64 {
+        let shared = |run: &(u64, u64)| (run.1.min(to) + 1).saturating_sub(run.0.max(from));
+        to + 1 - from - self.runs.iter().map(shared).sum::<u64>()
     }
 
     /// The greatest c with 1..c in S, else 0.

@@ -47,6 +47,33 @@ impl NumberSet {
         set
     }
 
+    /// How many numbers S has more with from..to: the size after, less before. Those of from..to that are missing are as
+    /// many, and are counted singly where all of it is kept one by one.
+    pub fn added(&self, from: u32, to: u32) -> u64 {
+        let size = |set: &Self| numbers_in(&set.runs());
+        let added = size(&self.with(from, to)) - size(self);
+        let (from, to) = (u64::from(from), u64::from(to));
+        assert_eq!(added, self.missing(from, to), "{from}..{to} in {self:?}");
+        if to <= WINDOW || HIGHEST - WINDOW < from {
+            let singly = (from..=to).filter(|number| !self.windows.contains(number));
+            assert_eq!(added, singly.count() as u64, "{from}..{to} in {self:?}");
+        }
+        added
+    }
+
+    /// How many of from..to are not in S, from one hole to the next.
+    fn missing(&self, from: u64, to: u64) -> u64 {
+        let (mut number, mut missing) = (self.least_missing(from), 0);
+        while number <= to {
+            let starts = self.parts.iter().map(|(start, _)| *start);
+            let next = starts.filter(|start| number < *start).min();
+            let end = next.map_or(to + 1, |start| start.min(to + 1));
+            missing += end - number;
+            number = self.least_missing(end);
+        }
+        missing
+    }
+
     fn put(&mut self, from: u32, to: u32) {
         let (from, to) = (u64::from(from), u64::from(to));
         if from <= to {

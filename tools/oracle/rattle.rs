@@ -450,11 +450,11 @@ mod side {
         answer: &mut [u64],
     ) -> u32 {
         let before = covered(contiguous, above, count);
-        let (after, moved) = match before.cover(from, to, above.len() / 2) {
+        let (after, moved, added) = match before.cover(from, to, above.len() / 2) {
             Ok(after) => after,
             Err(number) => return number,
         };
-        let Some(answer) = answer.get_mut(..3) else {
+        let Some(answer) = answer.get_mut(..4) else {
             return questions::OUTPUT;
         };
         let ranges = after.above();
@@ -462,7 +462,8 @@ mod side {
         for (place, (from, to)) in above.chunks_exact_mut(2).zip(&ranges) {
             place.copy_from_slice(&[*from, *to]);
         }
-        answer.copy_from_slice(&[after.contiguous().into(), ranges.len() as u64, moved.into()]);
+        let (contiguous, count) = (after.contiguous(), ranges.len() as u64);
+        answer.copy_from_slice(&[contiguous.into(), count, moved.into(), added]);
         0
     }
 

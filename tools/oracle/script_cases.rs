@@ -4,7 +4,7 @@
 use crate::expired;
 use crate::script_run::replay;
 use crate::script_text::Step;
-use crate::scripts::{answers, class, each, stated, text};
+use crate::scripts::{COVER, answers, class, each, stated, text};
 use std::collections::BTreeSet;
 use std::path::Path;
 
@@ -35,8 +35,13 @@ pub fn write(folder: &Path, script: &str) -> std::io::Result<()> {
         seen.extend(kinds_of(steps));
         seen.len() > before
     });
-    for way in expired::WAYS {
-        assert!(seen.contains(way), "no short list has {way}");
+    let covers = COVER.map(|answer| format!("cover  {answer}"));
+    for kind in expired::WAYS
+        .iter()
+        .copied()
+        .chain(covers.iter().map(String::as_str))
+    {
+        assert!(seen.contains(kind), "no short list has {kind}");
     }
     let chosen: String = lists.iter().map(|steps| text(steps)).collect();
     let input = [script, LISTS, &chosen, NONE].concat();

@@ -136,6 +136,7 @@ impl Runner {
         match granted {
             Granted::Yes => "yes".into(),
             Granted::Is(truth) => truth.to_string(),
+            Granted::Covered(moved, added) => format!("{moved} {added}"),
             Granted::Number(number) => number.to_string(),
             Granted::Wrote(size) if call == Call::Statement => {
                 let line = str::from_utf8(&self.memory.out[..size]).expect("a line is of digits");

@@ -105,8 +105,9 @@ impl Shadow {
         let model = answer[2..].to_string();
         match call {
             Call::Cover(from, to) if granted => {
-                let moved = contact.received.insert(from, to);
-                self.compare("insert", moved.to_string(), model)
+                let moved = contact.received.insert(from, to).to_string();
+                let of_model = model.split(' ').next().unwrap_or_default();
+                self.compare("insert", moved, of_model.to_string())
             }
             Call::Contains(number) if granted => {
                 let rust = contact.received.contains(number);

@@ -1,5 +1,6 @@
 //! Lists of calls: printed, printed with the model's answers, and compared with the Rust and with a program.
 
+use crate::calls_model::Call;
 use crate::expired::Ways;
 use crate::inputs::Random;
 use crate::program::Program;
@@ -132,12 +133,24 @@ pub struct Due {
     ways: Ways,
 }
 
+/// By whether contiguous moved, and by how many of the range were new: it does not move where none was.
+pub const COVER: [&str; 8] = [
+    "true, all new",
+    "true, some new",
+    "false, all new",
+    "false, some new",
+    "false, none new",
+    "no 34",
+    "no 37",
+    "no 38",
+];
+
 /// What must have come.
 const MUST: [(&str, &[&str]); 12] = [
     ("restore", &["yes", "no"]),
     ("rawrestore", &["yes", "no"]),
     ("open", &["yes", "no 34", "no 35", "no 36"]),
-    ("cover", &["true", "false", "no 34", "no 37", "no 38"]),
+    ("cover", &COVER),
     ("contains", &["true", "false", "no 34"]),
     ("covers", &["true", "false", "no 34", "no 37"]),
     ("take", &["number", "no 34", "no 39"]),
@@ -208,9 +221,18 @@ pub fn class(step: &Step, answer: &str) -> String {
     let word = answer.split(' ').next().unwrap_or("");
     match (step, word) {
         (Step::Restore(_) | Step::RawRestore(_), "no") => "no".into(),
+        (Step::Call(Call::Cover(from, to)), "true" | "false") => {
+            let count: u64 = answer[word.len() + 1..].parse().expect("a count");
+            let new = match count {
+                0 => "none",
+                count if count == u64::from(*to) - u64::from(*from) + 1 => "all",
+                _ => "some",
+            };
+            format!("{word}, {new} new")
+        }
         (_, "no" | "yes" | "true" | "false" | "none") => answer.into(),
         (_, line) if line.starts_with("S,") => "S".into(),
-        (Step::Call(crate::calls_model::Call::Take), _) => "number".into(),
+        (Step::Call(Call::Take), _) => "number".into(),
         _ => "row".into(),
     }
 }

@@ -1,4 +1,5 @@
-//! Covered numbers: `Received::contains`, `covers` and `insert`, on canonical state and 1 <= from <= to.
+//! Covered numbers: `Received::contains`, `covers` and `insert`, on canonical state and 1 <= from <= to. The Rust's `insert`
+//! says whether contiguous moved; how many numbers are new (02, A2) is compared with the model and with a count of its own.
 
 use crate::covered::Covered;
 use crate::inputs::Random;
@@ -16,7 +17,7 @@ const MORE: [usize; 6] = [0, 1, 2, 3, 4, 7];
 const FILL: u32 = 0xa5a5_a5a5;
 const UNTOUCHED: u64 = 0xa5a5_a5a5_a5a5_a5a5;
 /// How many places the answer takes.
-const ANSWER: usize = 3;
+const ANSWER: usize = 4;
 const HISTORIES: usize = 2_000;
 const STEPS: usize = 40;
 /// One more than the most ranges that a count holds.
@@ -77,6 +78,13 @@ impl Record {
         Covered::of(self.contiguous, &self.above)
     }
 
+    /// How many numbers it has.
+    fn size(&self) -> u64 {
+        let above = self.above.iter();
+        let sizes = above.map(|(from, to)| u64::from(*to) - u64::from(*from) + 1);
+        u64::from(self.contiguous) + sizes.sum::<u64>()
+    }
+
     /// The lent list: the ranges, and places that hold none.
     fn lent(&self, more: usize) -> Vec<u32> {
         let mut list: Vec<u32> = self
@@ -102,6 +110,12 @@ fn every_set(tallies: &mut Tallies) {
                 let added = sets(from, to);
                 compare_covers(tallies, &record, from, to, bits & added == added);
                 let after = Record::of_bits(bits | added);
+                let new = (added & !bits).count_ones();
+                assert_eq!(
+                    after.size() - record.size(),
+                    new.into(),
+                    "{bits:b} {added:b}"
+                );
                 for more in MORE {
                     compare_insert(tallies, &record, more, (from, to), &after);
                 }
@@ -144,7 +158,7 @@ fn lent_lists(record: &Record) -> [(Vec<u32>, usize); 3] {
     ]
 }
 
-/// `after` is what covering the range gives where there is room.
+/// `after` is what covering the range gives where there is room; it has so many numbers more as are new.
 fn compare_insert(
     tallies: &mut Tallies,
     record: &Record,
@@ -161,10 +175,11 @@ fn compare_insert(
         && moved == (after.contiguous != record.contiguous)
         && model.is_ok() == (fits && after.above.len() < TOO_MANY as usize);
     let due = match &model {
-        Ok((covered, model_moved)) => {
+        Ok((covered, model_moved, model_added)) => {
             same &= covered.contiguous() == after.contiguous
                 && covered.above() == after.above
-                && *model_moved == moved;
+                && *model_moved == moved
+                && *model_added == after.size() - record.size();
             u32::from(moved)
         }
         Err(number) => *number,
@@ -184,7 +199,7 @@ fn compare_insert(
     });
 }
 
-type Cover = Result<(Covered, bool), u32>;
+type Cover = Result<(Covered, bool, u64), u32>;
 /// The number answered, the list of ranges and the answer afterwards.
 type Left = (u32, Vec<u32>, Vec<u64>);
 
@@ -196,17 +211,19 @@ fn rattle_insert(record: &Record, mut list: Vec<u32>, range: Range, room: usize)
 }
 
 /// Granted: the ranges, 0 in the places that they leave free, the rest as it was; and contiguous, the count, whether it
-/// moved. A refusal changes nothing.
+/// moved, how many numbers are new. A refusal changes nothing.
 fn due_left(model: &Cover, record: &Record, after: &Record, before: Vec<u32>) -> Left {
     let moved = match model {
-        Ok((_, moved)) => *moved,
+        Ok((_, moved, _)) => *moved,
         Err(number) => return (*number, before, vec![UNTOUCHED; ANSWER]),
     };
     let mut list = after.lent(0);
     list.resize(list.len().max(2 * record.above.len()), 0);
     list.extend_from_slice(&before[list.len()..]);
     let count = after.above.len() as u64;
-    (0, list, vec![after.contiguous.into(), count, moved.into()])
+    let added = after.size() - record.size();
+    let answer = vec![after.contiguous.into(), count, moved.into(), added];
+    (0, list, answer)
 }
 
 /// Covers one after the other, over all numbers of 32 bits, and often next to what is covered already.
@@ -225,7 +242,7 @@ fn history(random: &mut Random, tallies: &mut Tallies) {
         compare_contains(tallies, &record, one, covered.contains(one));
         let all = covered.covers(from, to) == Ok(true);
         compare_covers(tallies, &record, from, to, all);
-        let (after, _) = covered
+        let (after, _, _) = covered
             .cover(from, to, usize::MAX)
             .expect("1 <= from <= to, and room");
         let after = Record {
