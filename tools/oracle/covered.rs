@@ -1,5 +1,6 @@
-//! A model of covered numbers, from document 01's ledger alone, with 02's A2: S is a set of numbers from 1 on, here as its
-//! maximal runs in rising order, in 64 bits. Nothing is merged step by step: a set is its sorted ranges, joined once.
+//! A model of covered numbers, from document 01's ledger alone: S is a set of numbers from 1 on, here as its maximal
+//! runs in rising order, in 64 bits. Nothing is merged step by step: a set is its sorted ranges, joined once.
+//! How many numbers a cover adds came later, from document 02 (A2), by an author who knew the Rattle's definition of it.
 
 use crate::model::Range;
 use crate::questions::{LIMIT, RANGE, ask};

@@ -14,6 +14,7 @@ mod contact_samples;
 mod covered;
 mod expired;
 mod inputs;
+mod insert_speed;
 mod lent;
 mod model;
 mod names;
@@ -133,7 +134,7 @@ const USAGE: &str =
        oracle samples DIR
        oracle store-cases|sheet-cases DIR
        oracle program-samples DIR
-       oracle speed|names-speed|restore-speed [large]
+       oracle speed|names-speed|insert-speed|restore-speed [large]
        oracle scripts|transcript|scripts-rust|sheets|sheets-rust SEED TIMES
        oracle scripts-check|sheets-check SEED TIMES PROGRAM [WORD..]
        oracle sheets-speed|calls-speed PROGRAM [WORD..]
@@ -166,6 +167,10 @@ fn run(words: &[&str]) -> Result<bool, Box<dyn std::error::Error>> {
         }
         ["names-speed"] => {
             names_speed::run();
+            Ok(true)
+        }
+        ["insert-speed"] => {
+            insert_speed::run();
             Ok(true)
         }
         ["restore-speed"] => {

@@ -1,4 +1,5 @@
-//! S of document 01's ledger, and the expired numbers of document 02's A5: sets of numbers from 1 to 2^32 - 1.
+//! S of document 01's ledger with the count of document 02's A2, and the expired numbers of its A5: sets of numbers from 1 to
+//! 2^32 - 1.
 //!
 //! What was put into it is kept as it came and never joined. A number is in S if one of these ranges holds it; the least
 //! number missing is found by going from range to range; and the maximal runs are found by counting, at each number where

@@ -35,13 +35,9 @@ pub fn write(folder: &Path, script: &str) -> std::io::Result<()> {
         seen.extend(kinds_of(steps));
         seen.len() > before
     });
-    let covers = COVER.map(|answer| format!("cover  {answer}"));
-    for kind in expired::WAYS
-        .iter()
-        .copied()
-        .chain(covers.iter().map(String::as_str))
-    {
-        assert!(seen.contains(kind), "no short list has {kind}");
+    let covers = COVER.map(|answer| named("cover", "", answer));
+    for kind in expired::WAYS.map(String::from).into_iter().chain(covers) {
+        assert!(seen.contains(&kind), "no short list has {kind}");
     }
     let chosen: String = lists.iter().map(|steps| text(steps)).collect();
     let input = [script, LISTS, &chosen, NONE].concat();
@@ -71,5 +67,9 @@ fn kind(step: &Step, answer: &str) -> String {
         ["no", number, ..] => format!("no {number}"),
         _ => class(step, answer),
     };
-    format!("{} {row} {answer}", step.name())
+    named(&step.name(), &row, &answer)
+}
+
+fn named(step: &str, row: &str, answer: &str) -> String {
+    format!("{step} {row} {answer}")
 }

@@ -58,11 +58,7 @@ fn long_none() -> [String; 4] {
     let sheet_line = |bytes: usize| format!("D,3,{}\n", blob(bytes));
     [
         // The third line goes beyond 61,440 bytes.
-        format!(
-            "restore 4\n{}{}D\n",
-            sheet_line(40_000),
-            sheet_line(30_000)
-        ),
+        format!("restore 4\n{}{}D\n", sheet_line(40_000), sheet_line(30_000)),
         format!("state\nrawrestore 0 {}\n", blob(61_441)),
         format!("# {}\n= {}\nfly\n", blob(200_000), blob(400_000)),
         format!("state\nveil 0 3 0 {}\n", blob(1_000_000)),
@@ -224,6 +220,7 @@ pub fn class(step: &Step, answer: &str) -> String {
         (Step::Call(Call::Cover(from, to)), "true" | "false") => {
             let count: u64 = answer[word.len() + 1..].parse().expect("a count");
             let new = match count {
+                0 if word == "true" => panic!("contiguous moved, and no number is new"),
                 0 => "none",
                 count if count == u64::from(*to) - u64::from(*from) + 1 => "all",
                 _ => "some",

@@ -18,13 +18,12 @@ use Rattle.numbers.specs.Sets as sets
 use Rattle.received.specs.Change as changes
 use Rattle.received.specs.Lent as received
 use Rattle.contact_image.specs.Row as row
-use Rattle.ledger.specs.Call.{Call, restore, opens, cover, Answer, granted, advanced}
-use Rattle.ledger.specs.Ledger.{nothing}
+use Rattle.ledger.specs.Call.{Call, restore, opens, cover, granted, advanced}
 use Rattle.ledger.specs.Ledger as ledgers
-use Rattle.calls_step.specs.Input.{Input, lentOf}
+use Rattle.calls_step.specs.Input.{Input}
 use Rattle.calls_step.specs.Step as steps
-use Rattle.calls_step.specs.Replay.{answers, ledgerAnswers}
-use Rattle.calls_step.proofs.Answers.{N, fieldsOf, runOf, entriesOf, four, fresh}
+use Rattle.calls_step.specs.Replay.{answers}
+use Rattle.calls_step.proofs.Answers.{N, fieldsOf, runOf, entriesOf, four, fresh, Both}
 
 -- a contact of which these numbers are covered is opened, and then these calls made
 abbrev calls : (contiguous : ℕ) → (above : List Range) → List Call → List Call
@@ -34,20 +33,12 @@ calls contiguous above cs = restore (runOf 0 (fieldsOf 3 contiguous above)) (ent
 abbrev before : Input
 before = fresh (replicate 6 0) 0
 
-abbrev Answers : List Call → List Answer → Type 0
-Answers cs due = answers N cs before ≡ granted ∷ granted ∷ due
-
--- `step` and the ledger answer so
-abbrev Both : List Call → List Answer → Type 0
-Both cs due = Answers cs due × (ledgerAnswers 16 cs (lentOf before) nothing ≡ granted ∷ granted ∷ due)
-
 -- a cover answers whether contiguous moved, and so many
-abbrev Adds : (contiguous : ℕ) → (above : List Range) → (from to : ℕ) → Bool → ℕ → Type 0
-Adds contiguous above f t moved added = Both (calls contiguous above (cover f t ∷ [])) (advanced moved added ∷ [])
+abbrev Adds : (contiguous : ℕ) → (above : List Range) → (from to : ℕ) → (moved : Bool) → (added : ℕ) → Type 0
+Adds contiguous above f t moved added = Both (calls contiguous above (cover f t ∷ [])) before (granted ∷ granted ∷ advanced moved added ∷ [])
 
--- contiguous 2, above 4..4
 samples :
-    -- covered before: up to contiguous, above it
+    -- from contiguous 2 and above 4..4: covered before, up to contiguous and above it
     Adds 2 four 1 2 false 0
     × Adds 2 four 4 4 false 0
     -- contiguous moves by two, and one number is new; part of from..to is covered, at its start, within, at its end
@@ -57,7 +48,6 @@ samples :
     -- not the width of the range that is left: 4..9
     × Adds 2 four 5 9 false 5
     × Adds 2 four 4 9 false 5
-    × Adds 2 four 6 9 false 4
     -- the hole between two ranges, and what lies before, between and behind two
     × Adds 2 (range 4 4 ∷ range 6 6 ∷ []) 5 5 false 1
     × Adds 1 (range 4 5 ∷ range 8 9 ∷ []) 5 8 false 2
@@ -67,7 +57,8 @@ samples :
     × Adds 0 (range 2 2 ∷ []) 1 16 true 15
     × Adds 0 [] 1 16 true 16
     -- what several add one after the other is what they add at once
-    × Both (calls 2 four (cover 6 9 ∷ cover 5 5 ∷ cover 3 3 ∷ cover 1 9 ∷ [])) (advanced false 4 ∷ advanced false 1 ∷ advanced true 1 ∷ advanced false 0 ∷ [])
+    × Both (calls 2 four (cover 6 9 ∷ cover 5 5 ∷ cover 3 3 ∷ cover 1 9 ∷ [])) before
+    (granted ∷ granted ∷ advanced false 4 ∷ advanced false 1 ∷ advanced true 1 ∷ advanced false 0 ∷ [])
     × Adds 2 four 1 9 true 6
 unfolding steps.step ledgers.ledger sets.recordOf layout.parse layout.print form.bigEndian form.bytesOf form.readMany form.printMany form.lebRead utf.completes
     puts.put places.printPlaces places.placesOf places.readPlaces lents.placesBytes ranges.insert ranges.inserted ranges.uncovered changes.changeOf
@@ -88,16 +79,19 @@ samples = (
   (refl, refl),
   (refl, refl),
   (refl, refl),
-  (refl, refl),
 )
 
--- up to the last number: all of them, all but one, and the last alone
+-- `step` alone, up to the last number: all numbers are new, all but one that is covered, the first alone, and none
+abbrev AddsUp : (contiguous : ℕ) → (above : List Range) → (from : ℕ) → (moved : Bool) → (added : ℕ) → Type 0
+AddsUp contiguous above f moved added = answers N (calls contiguous above (cover f N ∷ [])) before ≡ granted ∷ granted ∷ advanced moved added ∷ []
+
 last-number :
-    Answers (calls 0 [] (cover 1 N ∷ [])) (advanced true N ∷ [])
-    × Answers (calls 0 (range 2 2 ∷ []) (cover 1 N ∷ [])) (advanced true 4294967294 ∷ [])
-    × Answers (calls 0 (range N N ∷ []) (cover 2 N ∷ [])) (advanced false 4294967293 ∷ [])
-    × Answers (calls 4294967294 [] (cover N N ∷ cover 1 N ∷ [])) (advanced true 1 ∷ advanced false 0 ∷ [])
+    AddsUp 0 [] 1 true N
+    × AddsUp 0 (range 2 2 ∷ []) 1 true 4294967294
+    × AddsUp 0 (range N N ∷ []) 2 false 4294967293
+    × AddsUp 0 (range 2 N ∷ []) 1 true 1
+    × AddsUp N [] 1 false 0
 unfolding steps.step layout.parse layout.print form.bigEndian form.bytesOf form.readMany form.printMany form.lebRead utf.completes
     puts.put places.printPlaces places.placesOf places.readPlaces lents.placesBytes ranges.insert ranges.inserted ranges.uncovered changes.changeOf
     received.pairs received.stored row.counted row.image row.chainedImage
-last-number = (refl, refl, refl, refl)
+last-number = (refl, refl, refl, refl, refl)

@@ -27,8 +27,8 @@ use Rattle.contact_image.specs.Row as row
 use Rattle.store.specs.declared.Entry.{Entry}
 use Rattle.store.specs.Kinds.{DEVICE, CONTACT, QUEUED, COURIER}
 use Rattle.calls_step.specs.declared.Mark.the-variants.{Fresh}
-use Rattle.ledger.specs.Call.{Call, restore, opens, cover, contains, covers, take, statement, write, granted, advanced, truth, number, wrote, said, refused, refusedAt, Lent}
-use Rattle.calls_step.specs.Input.{Input}
+use Rattle.ledger.specs.Call.{Call, restore, opens, cover, contains, covers, take, statement, write, Answer, granted, advanced, truth, number, wrote, said, refused, refusedAt, Lent}
+use Rattle.calls_step.specs.Input.{Input, lentOf}
 use Rattle.numbers.specs.Decimal as decimals
 use Rattle.store.specs.Line as lines
 use Rattle.calls_step.specs.Step as steps
@@ -150,6 +150,10 @@ rowBytes d =
 -- lengths as those of `fresh`
 abbrev pub lent : (above out : ℕ) → Lent
 lent above out = record { chains = 0; skipped = 0; above = above; unacked = 1; expired = 2; out = out }
+
+-- `step` and the ledger, whose numbers go up to 16 here, answer so
+abbrev pub Both : List Call → Input → List Answer → Type 0
+Both cs h due = (answers N cs h ≡ due) × (ledgerAnswers 16 cs (lentOf h) nothing ≡ due)
 
 abbrev pub pairs2 : List ℕ
 pairs2 = 0 ∷ 0 ∷ 0 ∷ 0 ∷ []

@@ -83,8 +83,8 @@ module _ (N : ℕ) (wide : N + 1 ≡ 256 ^ 4) (run : List ℕ) (es : List Entry)
     abbrev wider : Open
     wider = record { id = o .id; fields = o .fields; n = o .n; S = add f t (o .S) }
 
-    abbrev more : ℕ
-    more = howMany (add f t (o .S)) 1 N - howMany (o .S) 1 N
+    abbrev addedNow : ℕ
+    addedNow = howMany (add f t (o .S)) 1 N - howMany (o .S) 1 N
 
     module _ (one : 1 ≤ f) (ft : f ≤ t) (tN : t ≤ N) where
       adds : Records N (add f t (o .S)) (inserted (covered N o) f t)
@@ -93,8 +93,8 @@ module _ (N : ℕ) (wide : N + 1 ≡ 256 ^ 4) (run : List ℕ) (es : List Entry)
       wider-is : covered N wider ≡ inserted (covered N o) f t
       wider-is = proved .records adds .scanned
 
-      more-is : added (covered N o) f t ≡ more
-      more-is = omega (arith, proved .records (sound .records) .added-more f t one tN)
+      added-is : added (covered N o) f t ≡ addedNow
+      added-is = omega (arith, proved .records (sound .records) .added-more f t one tN)
 
       records : Records N (add f t (o .S)) (covered N wider)
       records = subst (Records N (add f t (o .S))) (sym wider-is) adds
@@ -137,12 +137,12 @@ module _ (N : ℕ) (wide : N + 1 ≡ 256 ^ 4) (run : List ℕ) (es : List Entry)
           }
 
           grants : Good N here given
-              (leaves (advanced (not (eqb (covered N wider .contiguous) (covered N o .contiguous))) more)
+              (leaves (advanced (not (eqb (covered N wider .contiguous) (covered N o .contiguous))) addedNow)
               (relisted (renumbered (o .n) (covered N wider .contiguous) (length (covered N wider .above)) (contactOf (current N o)))
               (aboveAs (stored (covered N wider .above) (length (covered N o .above)) (ls .above)) ls) given))
-              (record { answer = advanced (not (eqb (covered N wider .contiguous) (covered N o .contiguous))) more; state = opened run es wider; freed = freed; output = [] })
+              (record { answer = advanced (not (eqb (covered N wider .contiguous) (covered N o .contiguous))) addedNow; state = opened run es wider; freed = freed; output = [] })
           grants = record {
-            agrees = λ i. leaves (advanced (not (eqb (covered N wider .contiguous) (covered N o .contiguous))) more)
+            agrees = λ i. leaves (advanced (not (eqb (covered N wider .contiguous) (covered N o .contiguous))) addedNow)
                 (record { mark = Opened (record { 0 = o .id }); run = run; entries = es; contact = contactOf (current N wider); lists = lists-are i; out = out });
             next = (
               sound-wider,
@@ -159,15 +159,15 @@ module _ (N : ℕ) (wide : N + 1 ≡ 256 ^ 4) (run : List ℕ) (es : List Entry)
             );
           }
 
-      covers-now : fitting (current N o) (lentOf given) ≡ true → Good N here given (leftAs (covered N wider) more) (coverNow N f t (lentOf given) run es o)
+      covers-now : fitting (current N o) (lentOf given) ≡ true → Good N here given (leftAs (covered N wider) addedNow) (coverNow N f t (lentOf given) run es o)
       covers-now fit =
           either (leb (length (covered N wider .above)) (limitOf (length (ls .above))))
           (λ b. Good N here given
-          (cond b (leaves (advanced (not (eqb (covered N wider .contiguous) (covered N o .contiguous))) more)
+          (cond b (leaves (advanced (not (eqb (covered N wider .contiguous) (covered N o .contiguous))) addedNow)
           (relisted (renumbered (o .n) (covered N wider .contiguous) (length (covered N wider .above)) (contactOf (current N o)))
           (aboveAs (cond b (stored (covered N wider .above) (length (covered N o .above)) (ls .above)) (ls .above)) ls) given)) (no «RANGES_FIT» given))
           (cond b (record {
-            answer = advanced (not (eqb (covered N wider .contiguous) (covered N o .contiguous))) more;
+            answer = advanced (not (eqb (covered N wider .contiguous) (covered N o .contiguous))) addedNow;
             state = opened run es wider;
             freed = length (covered N o .above) - length (covered N wider .above);
             output = [];
@@ -179,7 +179,7 @@ module _ (N : ℕ) (wide : N + 1 ≡ 256 ^ 4) (run : List ℕ) (es : List Entry)
           → Good N here given (covering f t given (planOf (coveredIn given) (length (ls .above)) f t)) (coverNow N f t (lentOf given) run es o)
       planned-good fit =
           subst (λ (x : Left). Good N here given x (coverNow N f t (lentOf given) run es o))
-          (sym (plan-left ∙ ap leftOf (covered-now N run es o ls out sound same fit) ∙ left-as ∙ (λ i. leftAs (sym wider-is i) (more-is i))))
+          (sym (plan-left ∙ ap leftOf (covered-now N run es o ls out sound same fit) ∙ left-as ∙ (λ i. leftAs (sym wider-is i) (added-is i))))
           (covers-now fit)
 
     pub cover-good : t ≤ N → Good N here given (step N (cover f t) given) (ledger N (cover f t) (lentOf given) here)

@@ -21,14 +21,14 @@ use Rattle.received.specs.Lent as received
 use Rattle.contact_image.specs.Row as row
 use Rattle.store.specs.Line as lines
 use Rattle.store.specs.Line.{lineOf}
-use Rattle.ledger.specs.Call.{Call, restore, opens, cover, take, statement, Answer, granted, advanced, number, said}
+use Rattle.ledger.specs.Call.{Call, restore, opens, cover, take, statement, granted, advanced, number, said}
 use Rattle.ledger.specs.Ledger.{nothing}
 use Rattle.ledger.specs.Ledger as ledgers
 use Rattle.calls_step.specs.Input.{Input, lentOf}
 use Rattle.calls_step.specs.Step as steps
 use Rattle.calls_step.specs.Step.{lineIn}
-use Rattle.calls_step.specs.Replay.{answers, left, ledgerAnswers}
-use Rattle.calls_step.proofs.Answers.{N, numbered, runOf, entriesOf, freshWith}
+use Rattle.calls_step.specs.Replay.{left, ledgerAnswers}
+use Rattle.calls_step.proofs.Answers.{N, numbered, runOf, entriesOf, freshWith, Both}
 
 -- a contact with contiguous 2 and no range above is opened, and then these calls made
 abbrev calls : (sent acked : ℕ) → (expired : List Range) → List Call → List Call
@@ -38,13 +38,9 @@ calls sent acked expired cs = restore (runOf 0 (numbered 0 sent acked 2 [] expir
 abbrev before : (out : ℕ) → Input
 before out = freshWith (replicate 4 0) (replicate 4 0) out
 
--- both answer so
-abbrev Both : List Call → (out : ℕ) → List Answer → Type 0
-Both cs out due = (answers N cs (before out) ≡ due) × (ledgerAnswers 16 cs (lentOf (before out)) nothing ≡ due)
-
 -- the line of sent 9 has this last figure
 abbrev Expires : (acked : ℕ) → (expired : List Range) → (figure : ℕ) → Type 0
-Expires acked expired figure = Both (calls 9 acked expired (statement ∷ [])) 16 (granted ∷ granted ∷ said 16 (lineOf 1 9 acked 2 0 1 figure) ∷ [])
+Expires acked expired figure = Both (calls 9 acked expired (statement ∷ [])) (before 16) (granted ∷ granted ∷ said 16 (lineOf 1 9 acked 2 0 1 figure) ∷ [])
 
 samples :
     -- a range that straddles peer_acked, one that ends there, and all where nothing is acknowledged
@@ -56,7 +52,7 @@ samples :
     × Expires 8 (range 1 2 ∷ range 6 9 ∷ []) 1
     × Expires 9 (range 1 2 ∷ []) 0
     -- neither cover nor take changes the figure
-    × Both (calls 8 3 (range 1 5 ∷ []) (cover 3 5 ∷ take ∷ statement ∷ [])) 16
+    × Both (calls 8 3 (range 1 5 ∷ []) (cover 3 5 ∷ take ∷ statement ∷ [])) (before 16)
     (granted ∷ granted ∷ advanced true 3 ∷ number 9 ∷ said 16 (lineOf 1 9 3 5 0 1 2) ∷ [])
     -- all numbers of the ledger are acknowledged
     × (ledgerAnswers 16 (calls 16 16 (range 1 16 ∷ []) (statement ∷ [])) (lentOf (before 18)) nothing ≡ granted ∷ granted ∷ said 18 (lineOf 1 16 16 2 0 1 0) ∷ [])

@@ -71,13 +71,13 @@ unfoldable pub inserted : Received → ℕ → ℕ → Received
 inserted v f t = fromRanges (insert f t (allRanges v))
 
 -- ---- how many numbers an insert adds (document 02's A2)
--- how many of at..t lie in none of these ranges, from the first on: on rising ranges each number counts once, and on no list are they more than at..t
+-- how many of at..t lie in none of these ranges, where these rise. Ranges are passed in their order and numbers never again: so on any list no number counts twice
 unfoldable pub uncovered : (at t : ℕ) → List Range → ℕ
 uncovered at t [] = t + 1 - at
 uncovered at t (r ∷ rs) =
     let here = max at (min (t + 1) (r .from)) in
     here - at + uncovered (max here (r .to + 1)) t rs
 
--- 0 is no message number, and 0..contiguous holds it: so it never counts
+-- how many of f..t are not covered; 0 is no message number, and never counts, since 0..contiguous holds it
 abbrev pub added : Received → ℕ → ℕ → ℕ
 added v f t = uncovered f t (allRanges v)

@@ -25,7 +25,7 @@ use Rattle.numbers.proofs.Runs.{runs-canon, runs-from, runs-to, runs-size, all-
 use Rattle.received.proofs.Stored.{stored-is, pairs-stored}
 use Rattle.numbers.proofs.Sets.{records, contiguous-width, above-width, contiguous-in, contiguous-greatest, runs-above, beyond, covers-all, record-is, size-is, inserts, only-record, insert-is, has-record, canonical-unique}
 use Rattle.numbers.proofs.Sizes.{size-counts}
-use Rattle.numbers.proofs.Uncovered.{uncovered-most, uncovered-counts, alike, added-new, added-more}
+use Rattle.numbers.proofs.Uncovered.{uncovered-most, added-most, zero-never, uncovered-counts, same-count, add-more, added-new, added-more}
 use Rattle.received.proofs.Cases.{thirteen, proved-cases}
 
 scan-laws : (S : ℕ → Bool) (n k : ℕ) → ScanLaws S n k
@@ -119,7 +119,7 @@ all-counted p [] h = omega arith
 all-counted {N} {S} {v} p (r ∷ rs) h =
     let laws = record-laws p in
     let rest = all-counted (laws .insert-adds (r .from) (r .to) (h .0) (h .1) (h .2)) rs (h .3) in
-    let same = alike _ _ 1 N (λ n one. swap (inside n n r) (any (inside n n) rs) (S n)) in
+    let same = same-count _ _ 1 N (λ n one. swap (inside n n r) (any (inside n n) rs) (S n)) in
     omega (arith, laws .added-more (r .from) (r .to) (h .0) (h .2), rest, same)
 
 pub proved : Proved
@@ -131,6 +131,13 @@ proved = record {
   all-added = all-added;
   any-order = any-order;
   all-counted = all-counted;
-  ranges = record { only = canonical-unique; counted = size-counts; uncounted = uncovered-counts; most = uncovered-most };
+  ranges = record { only = canonical-unique; counted = size-counts };
+  new = record {
+    add-more = add-more;
+    uncovered-counted = uncovered-counts;
+    uncovered-most = uncovered-most;
+    added-most = added-most;
+    zero-never = zero-never;
+  };
   table = record { thirteen = thirteen; hold = proved-cases };
 }

@@ -7,10 +7,9 @@ use mathlib.Core.Path.{_≡_, sym, ap, _∙_}
 use native.Mathlib.Omega.{arith}
 use lib.ListN.{length, getD, drop}
 use borrow.Author.Tests.{lt-ltb, le-ltb, le-leb, lt-leb}
-use Rattle.rows.specs.Values.{Range}
 use Rattle.rows.specs.Checks.{any}
 use Rattle.numbers.specs.Ranges as ranges
-use Rattle.numbers.specs.Ranges.{received, range, inside, below, Merged, merged, uncovered, added}
+use Rattle.numbers.specs.Ranges.{range, inside, below, Merged, merged, uncovered}
 use Rattle.received.specs.Lent.{pairs}
 use Rattle.received.proofs.Pairs.{drop-pairs, drop-pairs-all}
 
@@ -67,10 +66,3 @@ module _ (l : List ℕ) (k i : ℕ) (h : k ≤ i) (fits : 2 * k ≤ length l) wh
   pub uncovered-end : (at t found n : ℕ) → found + uncovered at t (drop i (pairs k l)) ≡ n → found + (max at (t + 1) - at) ≡ n
   unfolding ranges.uncovered
   uncovered-end at t found n e = omega (arith, ap (uncovered at t) (drop-pairs-all l k i h fits))
-
--- none of 0..contiguous is new
-pub behind-contiguous : (c f t : ℕ) (rs : List Range) → uncovered (max f (c + 1)) t rs ≡ added (received c rs) f t
-unfolding ranges.uncovered
-behind-contiguous c f t rs =
-    let low : max f (min (t + 1) 0) ≡ f = omega arith in
-    rw low (omega arith)

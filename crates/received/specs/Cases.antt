@@ -14,7 +14,7 @@ use Rattle.received.specs.Lent.{pairs, planOf, listAfter}
 use Rattle.received.specs.declared.Planned.{Planned}
 use Rattle.received.specs.declared.Planned.the-variants.{Change, Refused}
 
--- what a cover leads to: a record, which the list then holds, and whether contiguous moved, and how many numbers are new (02, A2); or a refusal, and the list as it is then
+-- what a cover leads to: a record, which the list then holds, whether contiguous moved, and how many numbers are new (02, A2); or a refusal, and the list as it is then
 pub data Outcome : Type 0 where
   gives : Received → (moved : Bool) → (added : ℕ) → Outcome
   refuses : ℕ → List ℕ → Outcome

@@ -26,9 +26,9 @@ pub record ScanLaws (S : ℕ → Bool) (n k : ℕ) : Type 0 where
   pub runs-size : size (runs S n k) ≡ howMany S n k
 
 -- ---- a record v of S
--- what a cover leads to by the record w of the set after it, which has so many numbers more: 38 where w has more ranges than may be left in the list l
-abbrev pub leadsTo : (v w : Received) → (more : ℕ) → List ℕ → Outcome
-leadsTo v w more l = cond (leb (length (w .above)) (limitOf (length l))) (gives w (not (eqb (w .contiguous) (v .contiguous))) more) (refuses «RANGES_FIT» l)
+-- what a cover of so many new numbers leads to, by the record w of the set after it: 38 where w has more ranges than may be left in the list l
+abbrev pub leadsTo : (v w : Received) → (new : ℕ) → List ℕ → Outcome
+leadsTo v w new l = cond (leb (length (w .above)) (limitOf (length l))) (gives w (not (eqb (w .contiguous) (v .contiguous))) new) (refuses «RANGES_FIT» l)
 
 pub record RecordLaws (N : ℕ) (S : ℕ → Bool) (v : Received) : Type 0 where
   -- it is the only one, and the one that is found by scanning S
@@ -49,7 +49,7 @@ pub record RecordLaws (N : ℕ) (S : ℕ → Bool) (v : Received) : Type 0 where
   pub covers-all : (f t : ℕ) → 1 ≤ f → f ≤ t → covers v f t ≡ allOf S f (t + 1 - f)
   -- insert adds f..t
   pub insert-adds : (f t : ℕ) → 1 ≤ f → f ≤ t → t ≤ N → Records N (add f t S) (inserted v f t)
-  -- ... which are so many new numbers: as many of f..t as are not in S, and as many as S then has more
+  -- ... and counts the new numbers: as many of f..t as are not in S, and as many as S then has more
   pub added-new : (f t : ℕ) → 1 ≤ f → added v f t ≡ howMany (λ n. not (S n)) f (t + 1 - f)
   pub added-more : (f t : ℕ) → 1 ≤ f → t ≤ N → howMany S 1 N + added v f t ≡ howMany (add f t S) 1 N
   -- in a lent list l that holds the ranges above: what a cover leads to, by the set alone
@@ -70,9 +70,17 @@ pub record RangesLaws : Type 0 where
   -- ... and from `lowest` on they hold as many as counting up to their last number, or further, finds (the last figure of a statement, document 02's A5)
   pub counted : (N lowest k : ℕ) (rs : List Range) → canonical 1 rs ≡ true → noneAbove N rs ≡ true → N < lowest + k
       → sizeFrom lowest rs ≡ howMany (λ n. any (inside n n) rs) lowest k
-  -- ... and of at..t as many lie in none of them as counting finds; on any list they are no more than at..t
-  pub uncounted : (from at t : ℕ) (rs : List Range) → canonical from rs ≡ true → uncovered at t rs ≡ howMany (λ n. not (any (inside n n) rs)) at (t + 1 - at)
-  pub most : (at t : ℕ) (rs : List Range) → uncovered at t rs ≤ t + 1 - at
+
+-- ---- how many numbers are new (02, A2), apart from any record
+pub record NewLaws : Type 0 where
+  -- of any set: with f..t added it has as many numbers more as of f..t are not in it
+  pub add-more : (S : ℕ → Bool) (f t N : ℕ) → 1 ≤ f → t ≤ N → howMany S 1 N + howMany (λ n. not (S n)) f (t + 1 - f) ≡ howMany (add f t S) 1 N
+  -- of canonical ranges: of at..t as many lie in none of them as counting finds
+  pub uncovered-counted : (from at t : ℕ) (rs : List Range) → canonical from rs ≡ true → uncovered at t rs ≡ howMany (λ n. not (any (inside n n) rs)) at (t + 1 - at)
+  -- of any ranges: no more than there are; and 0 is never new
+  pub uncovered-most : (at t : ℕ) (rs : List Range) → uncovered at t rs ≤ t + 1 - at
+  pub added-most : (v : Received) (f t : ℕ) → added v f t ≤ t
+  pub zero-never : (v : Received) (t : ℕ) → added v 0 t ≡ added v 1 t
 
 -- ---- 01's (p) cases: all of the table hold, and none of 01's is left out
 pub record CaseLaws : Type 0 where
@@ -89,8 +97,9 @@ pub record Proved : Type 0 where
   pub all-added : {N : ℕ} {S : ℕ → Bool} {v : Received} → Records N S v → (rs : List Range) → Coverable N rs → Records N (λ n. any (inside n n) rs || S n) (insertAll rs v)
   pub any-order : {N : ℕ} {S : ℕ → Bool} {v : Received} → Records N S v → (rs ss : List Range) → Coverable N rs → Coverable N ss
       → ((n : ℕ) → any (inside n n) rs ≡ any (inside n n) ss) → insertAll rs v ≡ insertAll ss v
-  -- ... and so many new numbers, counted at each of them, are as many as the set has more at the end
+  -- ... and what they count as new, each its own, adds up to what the set has more at the end
   pub all-counted : {N : ℕ} {S : ℕ → Bool} {v : Received} → Records N S v → (rs : List Range) → Coverable N rs
       → howMany S 1 N + addedByAll rs v ≡ howMany (λ n. any (inside n n) rs || S n) 1 N
   pub ranges : RangesLaws
+  pub new : NewLaws
   pub table : CaseLaws

@@ -18,7 +18,7 @@ is-false a z = rw (eq-eqb a 0 z)
 pub is-true : (a : ℕ) → (a ≡ 0 → ⊥) → trueText ≡ truthText a
 is-true a z = rw (ne-eqb a 0 z)
 
--- ... and a number behind it
+-- ... and how many numbers are new
 pub with-added : {text : List ℕ} (a n : ℕ) → text ≡ truthText a → text ++ (SPACE ∷ decimal n) ≡ addedText a n
 with-added a n e = ap (λ (t : List ℕ). t ++ (SPACE ∷ decimal n)) e
 

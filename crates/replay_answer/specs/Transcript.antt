@@ -1,4 +1,4 @@
--- The lines that `replay` prints: `= `, a text, LF. The text of the answer to a call: an answer is six numbers (call_code/specs/Encoding.antt), and what
+-- The lines that `replay` prints: `= `, a text, LF. The text of the answer to a call: an answer is six numbers (calls_code/specs/Encoding.antt), and what
 -- the call wrote stands at the front of the output. The text of the state of an open contact.
 -- Assumes nothing.
 use Prim.Native.Nat.{ℕ, _-_}
@@ -35,7 +35,7 @@ falseText = 0x66 ∷ 0x61 ∷ 0x6C ∷ 0x73 ∷ 0x65 ∷ []
 abbrev pub truthText : ℕ → List ℕ
 truthText a = cond (eqb a 0) falseText trueText
 
--- a truth as a number, and a number behind it
+-- of a cover: a truth as a number, and how many numbers are new
 abbrev pub addedText : (truth added : ℕ) → List ℕ
 addedText a added = truthText a ++ (SPACE ∷ decimal added)
 

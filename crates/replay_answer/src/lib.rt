@@ -129,7 +129,7 @@ fn truth_line(a: u64, out: &mut [u8]) -> Written
     text_line(b"true", out)
 }
 
-// ... and a number behind it.
+// The answer of a cover: a truth as a number, and how many numbers are new.
 fn added_line(a: u64, added: u64, out: &mut [u8]) -> Written
     ensures { λ r. ⌜ leaves r (now (out .exit)) ≡ stored (lineOf (addedText a added)) (now (out .entry)) ⌝ }
 {

@@ -1,4 +1,4 @@
-// Numbers in a wider type, with what their own type says of them; and the lower and the higher of two.
+// Numbers in a wider type, with what their own type says of them; and the lower and the higher of two numbers of 64 bits.
 ghost use mathlib.Core.Path.{_≡_};
 ghost use Prim.Native.Nat.{_^_, _<_, min, max};
 

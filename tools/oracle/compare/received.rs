@@ -4,6 +4,7 @@
 use crate::covered::Covered;
 use crate::inputs::Random;
 use crate::model::Range;
+use crate::number_set::numbers_in;
 use crate::state::Received;
 use crate::tally::Tally;
 use crate::{questions, rattle};
@@ -80,9 +81,7 @@ impl Record {
 
     /// How many numbers it has.
     fn size(&self) -> u64 {
-        let above = self.above.iter();
-        let sizes = above.map(|(from, to)| u64::from(*to) - u64::from(*from) + 1);
-        u64::from(self.contiguous) + sizes.sum::<u64>()
+        u64::from(self.contiguous) + numbers_in(&self.above)
     }
 
     /// The lent list: the ranges, and places that hold none.

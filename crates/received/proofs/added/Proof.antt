@@ -4,8 +4,8 @@ use mathlib.Core.Path.{_≡_, ap, _∙_}
 use Prim.Native.Nat.{ℕ, _+_, max}
 use borrow.Author.Needs.{needs}
 use Rattle.numbers.specs.Ranges.{uncovered}
+use Rattle.numbers.proofs.Uncovered.{behind-contiguous}
 use Rattle.received.specs.Lent.{pairs}
-use Rattle.received.proofs.Turns.{behind-contiguous}
 use Rattle.received.proofs.added.Statement.{statement}
 use Rattle.received.proofs.added.Tie as tie
 

@@ -33,18 +33,19 @@ to l = l .before .before .before .args .to
 abbrev answer : tie.At-loop Inv-loop μ-loop → ℕ
 answer l = uncovered (l .before .before .before .args .at) (to l) (pairs (held l) (list l))
 
--- a turn in which the i-th range is passed, from the number where what is found ends
-abbrev at : tie.After-higher Inv-loop μ-loop → tie.At-loop Inv-loop μ-loop
-at w = w .before .before .before .before .before .before .before .before
+-- the turn that a range's start stands in
+abbrev turn-of : tie.After-higher Inv-loop μ-loop → tie.At-loop Inv-loop μ-loop
+turn-of w = w .before .before .before .before .before .before .before .before
 
-turn : (w : tie.After-higher Inv-loop μ-loop) → let l = at w in
+-- the i-th range is passed
+passed : (w : tie.After-higher Inv-loop μ-loop) → let l = turn-of w in
     l .loop .found + (w .higher .result - l .loop .here) + uncovered (max (w .higher .result) (getD (list l) (2 * l .loop .i + 1) 0 + 1)) (to l) (drop (l .loop .i + 1) (pairs (held l) (list l)))
     ≡ answer l
-turn w =
-    let l = at w in
+passed w =
+    let l = turn-of w in
     uncovered-on (list l) (held l) (l .loop .i) (omega arith) (omega arith) (l .loop .here) (to l) (l .loop .found) (answer l) (w .higher .result) (l .loop .inv .1) (omega arith)
 
--- the answer is no wider than u32
+-- the answer is at most one more than a number of 32 bits, so that 64 bits hold every sum
 most : (l : tie.At-loop Inv-loop μ-loop) → answer l ≤ to l + 1
 most l = omega (arith, uncovered-most (l .before .before .before .args .at) (to l) (pairs (held l) (list l)))
 
@@ -109,7 +110,7 @@ sub-found : tie.Need-sub-found Inv-loop μ-loop
 sub-found c = search needs
 
 add-found : tie.Need-add-found Inv-loop μ-loop
-add-found c = omega (arith, turn c, most (at c))
+add-found c = omega (arith, passed c, most (turn-of c))
 
 higher-requires-2 : tie.Need-higher-requires-2 Inv-loop μ-loop
 higher-requires-2 c κs = search needs
@@ -121,7 +122,10 @@ loop-less : tie.Need-loop-less Inv-loop μ-loop
 loop-less c = search needs
 
 loop-again : tie.Need-loop-again Inv-loop μ-loop
-loop-again c = (omega arith, rw (c .higher2 .ensures, c .before .before .before .wide3 .ensures .0) (turn (c .before)))
+loop-again c =
+    let l = turn-of (c .before) in
+    let next : c .higher2 .result ≡ max (c .before .higher .result) (getD (list l) (2 * l .loop .i + 1) 0 + 1) = omega arith in
+    (omega arith, rw next (passed (c .before)))
 
 higher-requires-3 : tie.Need-higher-requires-3 Inv-loop μ-loop
 higher-requires-3 c κs = search needs
