@@ -1,4 +1,4 @@
--- What the definition of a cover for Rust and C gives, once it is known what `plan` answers.
+-- What the definition of a cover for Rust and C gives, once it is known what `plan` or `insert` answers.
 -- Assumes nothing.
 use Prim.Native.Nat.{ℕ, _<_}
 use mathlib.Core.List.{List}
@@ -9,11 +9,12 @@ use Rattle.layout.specs.Questions.{OUTPUT}
 use Rattle.layout.specs.Write.{Left, wrote, refuses}
 use Rattle.received.specs.Lent.{receivedIn, planOf, listAfter}
 use Rattle.received.specs.declared.Change as declared
+use Rattle.received.proofs.Changes as changes
 use Rattle.received.specs.declared.Planned.{Planned}
 use Rattle.received.specs.declared.Planned.the-variants.{Change, Refused}
 use Rattle.c_rows.specs.Faces.{covered, answered, coveredBy, insertRange}
 
--- r is what `plan` answered
+-- r is what was answered
 module _ (contiguous count from to : ℕ) (above answer : List ℕ) {r : Planned} (is : r ≡ planOf (receivedIn contiguous count above) (length above) from to) where
   abbrev after : List ℕ
   after = listAfter (receivedIn contiguous count above) above from to
@@ -24,6 +25,10 @@ module _ (contiguous count from to : ℕ) (above answer : List ℕ) {r : Planned
 
   pub refused : {q : ℕ} → r ≡ Refused q → covered q above answer ≡ insertRange contiguous count from to above answer
   refused e = planned e
+
+  -- ... and so of `insert`, which has left the list as it was
+  pub kept : {q : ℕ} → r ≡ Refused q → covered q after answer ≡ insertRange contiguous count from to above answer
+  kept {q} e = ap (λ (l : List ℕ). covered q l answer) (sym (changes.kept contiguous count above from to q (sym e ∙ is))) ∙ refused e
 
   module _ {change : declared.Change} (known : r ≡ Change change) where
     no-room : length answer < 4 → answered (Change change) answer ≡ record { answer = refuses OUTPUT; out = answer }

@@ -98,13 +98,15 @@ pub extern "C" fn sicklestar_insert(
 ) -> u32
     ensures { λ r. ⌜ covered r (now (above .exit)) (now (answer .exit)) ≡ insertRange contiguous count from to (now (above .entry)) (now (answer .entry)) ⌝ }
 {
-    match received::plan(contiguous, above, count, from, to) {
+    if answer.len() < 4 {
+        match received::plan(contiguous, above, count, from, to) {
+            Planned::Refused(number) => return number as u32,
+            Planned::Change(_) => return question::OUTPUT as u32,
+        }
+    }
+    match received::insert(contiguous, above, count, from, to) {
         Planned::Refused(number) => return number as u32,
         Planned::Change(change) => {
-            if answer.len() < 4 {
-                return question::OUTPUT as u32;
-            }
-            received::insert(contiguous, above, count, from, to);
             put_change(answer, change);
             return 0;
         }
