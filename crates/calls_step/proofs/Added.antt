@@ -1,7 +1,7 @@
 -- How many numbers a cover adds, document 02's A2: those of from..to that were not covered. Computed for `step` and for the ledger, whose numbers go up to 16 here.
 -- Assumes nothing.
 use Prim.Native.Nat.{ℕ, _+_, _*_}
-use mathlib.Core.List.{List, [], _∷_}
+use mathlib.Core.List.{List, [], _∷_, map}
 use mathlib.Core.Bool.{Bool, true, false}
 use mathlib.Core.Path.{_≡_, refl}
 use lib.ListN.{length, replicate}
@@ -18,80 +18,69 @@ use Rattle.numbers.specs.Sets as sets
 use Rattle.received.specs.Change as changes
 use Rattle.received.specs.Lent as received
 use Rattle.contact_image.specs.Row as row
-use Rattle.ledger.specs.Call.{Call, restore, opens, cover, granted, advanced}
+use Rattle.ledger.specs.Call.{Call, restore, opens, cover, Answer, granted, advanced}
+use Rattle.ledger.specs.Ledger.{nothing}
 use Rattle.ledger.specs.Ledger as ledgers
-use Rattle.calls_step.specs.Input.{Input}
+use Rattle.calls_step.specs.Input.{Input, lentOf}
 use Rattle.calls_step.specs.Step as steps
-use Rattle.calls_step.specs.Replay.{answers}
+use Rattle.calls_step.specs.Replay.{answers, ledgerAnswers}
 use Rattle.calls_step.proofs.Answers.{N, fieldsOf, runOf, entriesOf, four, fresh, Both}
 
--- a contact of which these numbers are covered is opened, and then these calls made
-abbrev calls : (contiguous : ℕ) → (above : List Range) → List Call → List Call
-calls contiguous above cs = restore (runOf 0 (fieldsOf 3 contiguous above)) (entriesOf (303 + 8 * length above)) ∷ opens 1 ∷ cs
+-- a cover of from..to where these numbers are covered, and what it answers: whether contiguous moved, and how many are new
+pub data Case : Type 0 where
+  case : (contiguous : ℕ) → (above : List Range) → (from to : ℕ) → (moved : Bool) → (added : ℕ) → Case
+
+-- the contact is opened, and then these calls made
+abbrev opened : (contiguous : ℕ) → (above : List Range) → List Call → List Call
+opened contiguous above cs = restore (runOf 0 (fieldsOf 3 contiguous above)) (entriesOf (303 + 8 * length above)) ∷ opens 1 ∷ cs
+
+abbrev calls : Case → List Call
+calls (case contiguous above f t moved added) = opened contiguous above (cover f t ∷ [])
+
+abbrev due : Case → List Answer
+due (case contiguous above f t moved added) = granted ∷ granted ∷ advanced moved added ∷ []
 
 -- three pairs lent for `above`
 abbrev before : Input
 before = fresh (replicate 6 0) 0
 
--- a cover answers whether contiguous moved, and so many
-abbrev Adds : (contiguous : ℕ) → (above : List Range) → (from to : ℕ) → (moved : Bool) → (added : ℕ) → Type 0
-Adds contiguous above f t moved added = Both (calls contiguous above (cover f t ∷ [])) before (granted ∷ granted ∷ advanced moved added ∷ [])
+abbrev Answered : List Case → Type 0
+Answered cs = map (λ c. answers N (calls c) before) cs ≡ map due cs
+
+abbrev cases : List Case
+cases =
+    -- from contiguous 2 and above 4..4: covered before, up to contiguous and above it
+    case 2 four 1 2 false 0
+    ∷ case 2 four 4 4 false 0
+    -- contiguous moves by two, and one number is new; part of from..to is covered, at its start and within, or at its end
+    ∷ case 2 four 3 3 true 1
+    ∷ case 2 four 1 6 true 3
+    ∷ case 2 four 3 4 true 1
+    -- not the width of the range that is left: 4..9
+    ∷ case 2 four 5 9 false 5
+    ∷ case 2 four 4 9 false 5
+    -- the hole between two ranges, and what lies before, between and behind two
+    ∷ case 2 (range 4 4 ∷ range 6 6 ∷ []) 5 5 false 1
+    ∷ case 1 (range 4 5 ∷ range 8 9 ∷ []) 5 8 false 2
+    ∷ case 1 (range 4 5 ∷ range 8 9 ∷ []) 3 12 false 6
+    -- number 0 never counts
+    ∷ case 0 [] 1 1 true 1
+    ∷ case 0 (range 2 2 ∷ []) 1 16 true 15
+    ∷ case 0 [] 1 16 true 16
+    ∷ []
 
 samples :
-    -- from contiguous 2 and above 4..4: covered before, up to contiguous and above it
-    Adds 2 four 1 2 false 0
-    × Adds 2 four 4 4 false 0
-    -- contiguous moves by two, and one number is new; part of from..to is covered, at its start, within, at its end
-    × Adds 2 four 3 3 true 1
-    × Adds 2 four 1 6 true 3
-    × Adds 2 four 3 4 true 1
-    -- not the width of the range that is left: 4..9
-    × Adds 2 four 5 9 false 5
-    × Adds 2 four 4 9 false 5
-    -- the hole between two ranges, and what lies before, between and behind two
-    × Adds 2 (range 4 4 ∷ range 6 6 ∷ []) 5 5 false 1
-    × Adds 1 (range 4 5 ∷ range 8 9 ∷ []) 5 8 false 2
-    × Adds 1 (range 4 5 ∷ range 8 9 ∷ []) 3 12 false 6
-    -- number 0 never counts
-    × Adds 0 [] 1 1 true 1
-    × Adds 0 (range 2 2 ∷ []) 1 16 true 15
-    × Adds 0 [] 1 16 true 16
+    Answered cases
+    × (map (λ c. ledgerAnswers 16 (calls c) (lentOf before) nothing) cases ≡ map due cases)
     -- what several add one after the other is what they add at once
-    × Both (calls 2 four (cover 6 9 ∷ cover 5 5 ∷ cover 3 3 ∷ cover 1 9 ∷ [])) before
+    × Both (opened 2 four (cover 6 9 ∷ cover 5 5 ∷ cover 3 3 ∷ cover 1 9 ∷ [])) before
     (granted ∷ granted ∷ advanced false 4 ∷ advanced false 1 ∷ advanced true 1 ∷ advanced false 0 ∷ [])
-    × Adds 2 four 1 9 true 6
+    × Both (opened 2 four (cover 1 9 ∷ [])) before (granted ∷ granted ∷ advanced true 6 ∷ [])
+    -- up to the last number, which the ledger is not asked about here: all numbers are new, all but one, the first alone, and none
+    × Answered
+    (case 0 [] 1 N true N ∷ case 0 (range 2 2 ∷ []) 1 N true 4294967294 ∷ case 0 (range N N ∷ []) 2 N false 4294967293
+    ∷ case 0 (range 2 N ∷ []) 1 N true 1 ∷ case N [] 1 N false 0 ∷ [])
 unfolding steps.step ledgers.ledger sets.recordOf layout.parse layout.print form.bigEndian form.bytesOf form.readMany form.printMany form.lebRead utf.completes
     puts.put places.printPlaces places.placesOf places.readPlaces lents.placesBytes ranges.insert ranges.inserted ranges.uncovered changes.changeOf
     received.pairs received.stored row.counted row.image row.chainedImage
-samples = (
-  (refl, refl),
-  (refl, refl),
-  (refl, refl),
-  (refl, refl),
-  (refl, refl),
-  (refl, refl),
-  (refl, refl),
-  (refl, refl),
-  (refl, refl),
-  (refl, refl),
-  (refl, refl),
-  (refl, refl),
-  (refl, refl),
-  (refl, refl),
-  (refl, refl),
-)
-
--- `step` alone, up to the last number: all numbers are new, all but one that is covered, the first alone, and none
-abbrev AddsUp : (contiguous : ℕ) → (above : List Range) → (from : ℕ) → (moved : Bool) → (added : ℕ) → Type 0
-AddsUp contiguous above f moved added = answers N (calls contiguous above (cover f N ∷ [])) before ≡ granted ∷ granted ∷ advanced moved added ∷ []
-
-last-number :
-    AddsUp 0 [] 1 true N
-    × AddsUp 0 (range 2 2 ∷ []) 1 true 4294967294
-    × AddsUp 0 (range N N ∷ []) 2 false 4294967293
-    × AddsUp 0 (range 2 N ∷ []) 1 true 1
-    × AddsUp N [] 1 false 0
-unfolding steps.step layout.parse layout.print form.bigEndian form.bytesOf form.readMany form.printMany form.lebRead utf.completes
-    puts.put places.printPlaces places.placesOf places.readPlaces lents.placesBytes ranges.insert ranges.inserted ranges.uncovered changes.changeOf
-    received.pairs received.stored row.counted row.image row.chainedImage
-last-number = (refl, refl, refl, refl, refl)
+samples = (refl, refl, (refl, refl), (refl, refl), refl)

@@ -71,7 +71,7 @@ unfoldable pub inserted : Received → ℕ → ℕ → Received
 inserted v f t = fromRanges (insert f t (allRanges v))
 
 -- ---- how many numbers an insert adds (document 02's A2)
--- how many of at..t lie in none of these ranges, where these rise. Ranges are passed in their order and numbers never again: so on any list no number counts twice
+-- how many of at..t lie in none of these ranges, if these rise. The list is gone through once, and `at` only moves up: so on any list no number counts twice
 unfoldable pub uncovered : (at t : ℕ) → List Range → ℕ
 uncovered at t [] = t + 1 - at
 uncovered at t (r ∷ rs) =

@@ -148,7 +148,7 @@ fn merge(above: &[u32], held: usize, i: usize, from: u32, to: u32) -> Merged
     }
 }
 
-// How many of at..to lie in none of the ranges, where these rise; each is passed once, and past to there is nothing left to count.
+// How many of at..to lie in none of the ranges, if these rise. Past to there is nothing left to count.
 fn uncovered(above: &[u32], held: usize, at: u64, to: u32) -> u64
     requires { ⌜ 2 * held ≤ length (now above) ⌝ }
     ensures { λ r. ⌜ r ≡ uncovered at to (pairs held (now (above .entry))) ⌝ }
