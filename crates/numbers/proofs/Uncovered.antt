@@ -62,19 +62,22 @@ one-more : (g n t : ℕ) (rs : List Range) → Canon g rs → n ≤ t
 unfolding ranges.uncovered
 one-more g n t [] c h = omega arith
 one-more g n t (r ∷ rs) c h =
-    let past : ℕ → ℕ = λ at. max (max at (min (t + 1) (r .from))) (r .to + 1) in
-    let same : (at next : ℕ) → past at ≡ next → uncovered (past at) t rs ≡ uncovered next t rs = λ at next e. ap (λ (x : ℕ). uncovered x t rs) e in
+    -- from a number behind the range's start on, none lies before the range
+    let here : (at : ℕ) → r .from ≤ at → max at (min (t + 1) (r .from)) ≡ at = λ at from. omega arith in
     order (r .from) n
     (λ from. order n (r .to)
-    (λ to. rw (le-leb (r .from) n from, le-leb n (r .to) to) (omega (arith, same n (r .to + 1) (omega arith), same (suc n) (r .to + 1) (omega arith))))
-    (λ behind. rw (le-leb (r .from) n from, lt-leb n (r .to) behind)
+    (λ to. let past : max n (r .to + 1) ≡ r .to + 1 = omega arith in
+    let past-next : max (suc n) (r .to + 1) ≡ r .to + 1 = omega arith in
+    rw (le-leb (r .from) n from, le-leb n (r .to) to, here n from, here (suc n) (omega arith), past, past-next) (omega arith))
+    (λ behind. let past : max n (r .to + 1) ≡ n = omega arith in
+    let past-next : max (suc n) (r .to + 1) ≡ suc n = omega arith in
+    rw (le-leb (r .from) n from, lt-leb n (r .to) behind, here n from, here (suc n) (omega arith), past, past-next)
     (either (any (inside n n) rs)
     (λ b. uncovered n t rs ≡ cond b (uncovered (suc n) t rs) (suc (uncovered (suc n) t rs))
-    → uncovered n t (r ∷ rs) ≡ cond b (uncovered (suc n) t (r ∷ rs)) (suc (uncovered (suc n) t (r ∷ rs))))
-    (λ e rest. omega (arith, same n n (omega arith), same (suc n) (suc n) (omega arith)))
-    (λ e rest. omega (arith, same n n (omega arith), same (suc n) (suc n) (omega arith)))
-    (one-more (r .to + 2) n t rs (c .2) h))))
-    (λ before. rw (outside (r .from) n (r ∷ rs) (omega arith, c .1, c .2) before) (omega (arith, same n (past (suc n)) (omega arith))))
+    → n - n + uncovered n t rs ≡ cond b (suc n - suc n + uncovered (suc n) t rs) (suc (suc n - suc n + uncovered (suc n) t rs)))
+    (λ e rest. omega arith) (λ e rest. omega arith) (one-more (r .to + 2) n t rs (c .2) h))))
+    (λ before. let same : max n (min (t + 1) (r .from)) ≡ max (suc n) (min (t + 1) (r .from)) = omega arith in
+    rw (outside (r .from) n (r ∷ rs) (omega arith, c .1, c .2) before, same) (omega arith))
 
 -- as many as are counted up to t
 counts : (k g n t : ℕ) (rs : List Range) → Canon g rs → n + k ≡ t + 1 → uncovered n t rs ≡ howMany (λ m. not (any (inside m m) rs)) n k
