@@ -15,6 +15,9 @@ ghost use Rattle.received.specs.declared.Planned.the-variants as planned;
 ghost use Rattle.c_card.specs.Faces.{leaves, shown, zeroOr};
 ghost use Rattle.c_rows.specs.Faces.{covered, answered, insertRange};
 
+// How many places of its answer a cover fills.
+const PLACES: usize = 4;
+
 // Reads a device row, and writes it again to the front of the output.
 #[no_mangle]
 pub extern "C" fn sicklestar_device(version: u32, row: &[u8], out: &mut [u8]) -> u32
@@ -98,7 +101,8 @@ pub extern "C" fn sicklestar_insert(
 ) -> u32
     ensures { λ r. ⌜ covered r (now (above .exit)) (now (answer .exit)) ≡ insertRange contiguous count from to (now (above .entry)) (now (answer .entry)) ⌝ }
 {
-    if answer.len() < 4 {
+    // without room for the answer nothing is covered, and 38 is asked first
+    if answer.len() < PLACES {
         match received::plan(contiguous, above, count, from, to) {
             Planned::Refused(number) => return number as u32,
             Planned::Change(_) => return question::OUTPUT as u32,
