@@ -12,6 +12,7 @@ use lib.Seq.{take-length}
 use lib.Dec.{ltb, leb·suc-suc}
 use borrow.Author.Tests.{lt-ltb}
 use Rattle.rows.specs.Checks.{any}
+use Rattle.rows.proofs.Tests.{or-swap}
 use Rattle.store.specs.declared.Entry.{Entry}
 use Rattle.store.specs.declared.Wanted.{Wanted}
 use Rattle.store.specs.Kinds.{CONTACT, QUEUED}
@@ -62,13 +63,7 @@ sought-is k n p w es e r is-n is-w is-p is-e is-r =
 -- found is whether an entry of the contact is among them
 any-front : (n : ℕ) (p : ℕ → Bool) → anyBelow (suc n) p ≡ (p 0 || anyBelow n (λ j. p (suc j)))
 any-front zero p = refl
-any-front (suc n) p = ap (λ b. p (suc n) || b) (any-front n p) ∙ swapped (p (suc n)) (p 0) (anyBelow n (λ j. p (suc j)))
-  where
-    swapped : (a b c : Bool) → (a || (b || c)) ≡ (b || (a || c))
-    swapped true true c = refl
-    swapped true false c = refl
-    swapped false true c = refl
-    swapped false false c = refl
+any-front (suc n) p = ap (λ b. p (suc n) || b) (any-front n p) ∙ or-swap (p (suc n)) (p 0) (anyBelow n (λ j. p (suc j)))
 
 pub found-is : (k : ℕ) (es : List Entry) → soughtIn es k .found ≡ before es (length es) CONTACT k
 found-is k [] = refl

@@ -2,7 +2,7 @@
 -- Assumes nothing.
 use Prim.Native.Nat.{ℕ, zero, suc, _+_, _-_, _*_, _≤_}
 use mathlib.Core.List.{List, [], _∷_}
-use mathlib.Core.Bool.{Bool, true, false, cond, _||_, not}
+use mathlib.Core.Bool.{Bool, true, cond, _||_, not}
 use mathlib.Core.Path.{_≡_, refl, subst, sym, ap, _∙_}
 use native.Mathlib.Omega.{arith}
 use lib.ListN.{length}
@@ -19,7 +19,7 @@ use Rattle.numbers.specs.Sets.{add, howMany, runs, Records, Coverable, insertAl
 use Rattle.received.specs.Cases.{outcome, gives, refuses}
 use Rattle.received.specs.Proved.{ScanLaws, leadsTo, RecordLaws, Proved}
 use Rattle.received.specs.declared.Planned.the-variants as planned
-use Rattle.rows.proofs.Tests.{either}
+use Rattle.rows.proofs.Tests.{either, or-joined}
 use Rattle.numbers.proofs.Canon.{to-in, from-in, from-canon}
 use Rattle.numbers.proofs.Runs.{runs-canon, runs-from, runs-to, runs-size, all-each, each-all}
 use Rattle.received.proofs.Stored.{stored-is, pairs-stored}
@@ -96,16 +96,10 @@ record-laws {N} {S} {v} p = record {
 same-set : {N : ℕ} {S S′ : ℕ → Bool} {v : Received} → ((n : ℕ) → S n ≡ S′ n) → Records N S v → Records N S′ v
 same-set e p = record { is-canonical = p .is-canonical; in-width = λ n t. p .in-width n (e n ∙ t); same-numbers = λ n. p .same-numbers n ∙ e n }
 
-swap : (a b c : Bool) → b || (a || c) ≡ a || b || c
-swap true true c = refl
-swap true false c = refl
-swap false true c = refl
-swap false false c = refl
-
 all-added : {N : ℕ} {S : ℕ → Bool} {v : Received} → Records N S v → (rs : List Range) → Coverable N rs → Records N (λ n. any (inside n n) rs || S n) (insertAll rs v)
 all-added p [] h = p
 all-added {N} {S} {v} p (r ∷ rs) h =
-    same-set (λ n. swap (inside n n r) (any (inside n n) rs) (S n)) (all-added (record-laws p .insert-adds (r .from) (r .to) (h .0) (h .1) (h .2)) rs (h .3))
+    same-set (λ n. or-joined (inside n n r) (any (inside n n) rs) (S n)) (all-added (record-laws p .insert-adds (r .from) (r .to) (h .0) (h .1) (h .2)) rs (h .3))
 
 any-order : {N : ℕ} {S : ℕ → Bool} {v : Received} → Records N S v → (rs ss : List Range) → Coverable N rs → Coverable N ss
     → ((n : ℕ) → any (inside n n) rs ≡ any (inside n n) ss) → insertAll rs v ≡ insertAll ss v
@@ -119,7 +113,7 @@ all-counted p [] h = omega arith
 all-counted {N} {S} {v} p (r ∷ rs) h =
     let laws = record-laws p in
     let rest = all-counted (laws .insert-adds (r .from) (r .to) (h .0) (h .1) (h .2)) rs (h .3) in
-    let same = same-count _ _ 1 N (λ n one. swap (inside n n r) (any (inside n n) rs) (S n)) in
+    let same = same-count _ _ 1 N (λ n one. or-joined (inside n n r) (any (inside n n) rs) (S n)) in
     omega (arith, laws .added-more (r .from) (r .to) (h .0) (h .2), rest, same)
 
 pub proved : Proved
