@@ -14,13 +14,22 @@ use Rattle.store.specs.Store.{storeOf, asked, found, outcome}
 use Rattle.ledger.specs.Call.{Answer, isGranted, refused, refusedAt}
 use Rattle.calls_step.specs.Input.{Input, Left, leaves, no}
 use Rattle.calls_step.specs.Step.{restoring}
-use Rattle.ledger.specs.Ledger.{Ledger, Account, plain, refuse, restores}
+use Rattle.ledger.specs.Ledger.{Ledger, nothing, restored, opened, Account, plain, refuse, restores}
 use Rattle.calls_step.specs.Agree.{standing, shown}
 use Rattle.calls_step.specs.Stands.{SoundLedger, StandsFor, LastLeft}
 
 module _ (N : ℕ) where
   abbrev pub after : Account → Input → Input
   after a h = standing N (a .state) (a .freed) (a .output ++ drop (length (a .output)) (h .out)) h
+
+  -- the output then: what is written, and behind it what stood there
+  pub shown-out : (a : Account) (h : Input) → shown N a h .after .out ≡ a .output ++ drop (length (a .output)) (h .out)
+  shown-out a h = go (a .state)
+    where
+      go : (l : Ledger) → standing N l (a .freed) (a .output ++ drop (length (a .output)) (h .out)) h .out ≡ a .output ++ drop (length (a .output)) (h .out)
+      go nothing = refl
+      go (restored run es) = refl
+      go (opened run es o) = refl
 
   -- granted: the state is sound, and what is left is its. Refused: the state stays
   abbrev pub Next : Bool → Ledger → Input → Account → Type 0

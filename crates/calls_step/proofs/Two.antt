@@ -4,7 +4,6 @@ use Prim.Native.Nat.{ℕ, _+_, _^_}
 use mathlib.Core.List.{List, [], _∷_, _++_}
 use mathlib.Core.Bool.{Bool, true, false}
 use mathlib.Core.Path.{_≡_, refl, sym, ap, _∙_, subst, subst₂}
-use lib.ListN.{length, drop}
 use lib.Seq.{take-at}
 use Rattle.store.specs.declared.Entry.{Entry}
 use Rattle.calls_step.specs.declared.Mark.{Mark}
@@ -12,14 +11,14 @@ use Rattle.calls_step.specs.declared.Mark.the-variants.{Fresh, Opened}
 use Rattle.ledger.specs.Call.{Call, Answer, granted, advanced, truth, number, wrote, said, refused, refusedAt, isGranted, Lent}
 use Rattle.calls_step.specs.Input.{Input, Left, lentOf}
 use Rattle.calls_step.specs.Step.{step}
-use Rattle.ledger.specs.Ledger.{Open, Ledger, nothing, restored, opened, Account, current, ledger}
+use Rattle.ledger.specs.Ledger.{Open, Ledger, nothing, opened, Account, current, ledger}
 use Rattle.calls_step.specs.Legal.{Turn, Legal}
 use Rattle.calls_step.specs.Agree.{standing, shown}
 use Rattle.calls_step.specs.Two.{CallsAlike, Paired, RowsAlike, WrittenAlike, FieldsOf, OpenedAlike, LeftsAlike, AlikeAll, LedgersAlike, nothings, restoreds, openeds}
 use Rattle.calls_step.proofs.Again.{continued-again}
 use Rattle.calls_step.specs.Stands.{SoundLedger, StandsFor}
 use Rattle.calls_step.proofs.Stands.{continued-stands}
-use Rattle.calls_step.proofs.Good.{after, Next, Good}
+use Rattle.calls_step.proofs.Good.{after, shown-out, Next, Good}
 use Rattle.calls_step.proofs.Refused.{step-keeps}
 use Rattle.calls_step.proofs.Every.{Kept, begun, call-good, kept-next}
 use Rattle.calls_step.proofs.Accounts.{OutputsAlike, AccountsAlike}
@@ -69,22 +68,7 @@ module _ (N : ℕ) (wide : N + 1 ≡ 256 ^ 4) where
   outs-alike : (a a′ : Account) → AccountsAlike N a a′ → (h h′ : Input) (s s′ : Left) → s ≡ shown N a h → s′ ≡ shown N a′ h′ → WrittenAlike (s .answer) (s .after .out) (s′ .after .out)
   outs-alike a a′ k h h′ s s′ e e′ =
       subst₂ (λ (x y : Left). WrittenAlike (x .answer) (x .after .out) (y .after .out)) (sym e) (sym e′)
-      (shown-alike (a .state) (a′ .state))
-    where
-      rows : WrittenAlike (a .answer) (a .output ++ drop (length (a .output)) (h .out)) (a′ .output ++ drop (length (a′ .output)) (h′ .out))
-      rows = written (a .answer) (a .output) (a′ .output) _ _ (k .output)
-
-      shown-alike : (l l′ : Ledger) → WrittenAlike (a .answer)
-          (standing N l (a .freed) (a .output ++ drop (length (a .output)) (h .out)) h .out) (standing N l′ (a′ .freed) (a′ .output ++ drop (length (a′ .output)) (h′ .out)) h′ .out)
-      shown-alike nothing nothing = rows
-      shown-alike nothing (restored run es) = rows
-      shown-alike nothing (opened run es o) = rows
-      shown-alike (restored run es) nothing = rows
-      shown-alike (restored run es) (restored run′ es′) = rows
-      shown-alike (restored run es) (opened run′ es′ o) = rows
-      shown-alike (opened run es o) nothing = rows
-      shown-alike (opened run es o) (restored run′ es′) = rows
-      shown-alike (opened run es o) (opened run′ es′ o′) = rows
+      (subst₂ (WrittenAlike (a .answer)) (sym (shown-out N a h)) (sym (shown-out N a′ h′)) (written (a .answer) (a .output) (a′ .output) _ _ (k .output)))
 
   -- ---- one turn of both: the calls agree with ledgers that are alike
   pub turns-alike : (c d : Call) (h i : Input) (l m : Ledger) (a b : Account) → StandsFor N l h → StandsFor N m i → Good N l h (step N c h) a → Good N m i (step N d i) b → AccountsAlike N a b
