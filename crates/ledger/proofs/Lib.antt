@@ -1,0 +1,3 @@
+pub mod Granted
+pub mod Reordering
+pub mod Orders
