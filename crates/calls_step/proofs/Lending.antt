@@ -35,10 +35,10 @@ use Rattle.calls_step.proofs.Occurs.{serving, served, serving-legal}
 use Rattle.calls_step.proofs.Answers.{N, run, entries, fresh, line}
 
 -- a call, with so many numbers lent for `above`, `unacked` and expired ranges, and so many bytes of output
-abbrev with : (above unacked expired out : ℕ) → Call → Request
+abbrev pub with : (above unacked expired out : ℕ) → Call → Request
 with above unacked expired out c = record { call = c; lent = record { chains = 0; skipped = 0; above = above; unacked = unacked; expired = expired; out = out } }
 
-abbrev before : Input
+abbrev pub before : Input
 before = fresh [] 0
 
 abbrev answersOf : List Turn → List Answer
@@ -50,7 +50,7 @@ abbrev ledgerSays : List Request → Ledger → List Answer
 ledgerSays [] l = []
 ledgerSays (w ∷ ws) l = let a = ledger 16 (w .call) (w .lent) l in a .answer ∷ ledgerSays ws (a .state)
 
-abbrev sample : Request
+abbrev pub sample : Request
 sample = with 0 0 0 0 (restore (run 3) entries)
 
 -- ---- longer, and shorter again
@@ -101,7 +101,7 @@ both-served : Serves longer (turns longer) × Serves short (turns short)
 both-served = (served N refl longer before, served N refl short before)
 
 -- ---- both lists are legal, so the laws speak of them
-run-bytes : Bytes (run 3)
+pub run-bytes : Bytes (run 3)
 unfolding layout.print form.bytesOf form.printMany
 run-bytes = bytes-tested (run 3) refl
 

@@ -21,6 +21,7 @@ pub mod AlikeCalls
 pub mod AlikeLedgers
 pub mod Two
 pub mod Blank
+pub mod Orders
 pub mod Omitted
 pub mod Output
 pub mod Contracts
@@ -32,3 +33,4 @@ pub mod TwoContacts
 pub mod TwoStores
 pub mod Lending
 pub mod Proved
+pub mod TwoOrders

@@ -8,6 +8,7 @@ use Rattle.calls_step.proofs.Lengths.{lent-keeps}
 use Rattle.calls_step.proofs.Output.{output-omitted}
 use Rattle.calls_step.proofs.Omitted.{passes-in-parts}
 use Rattle.numbers.proofs.Decimal.{decimal-laws}
+use Rattle.ledger.proofs.Orders.{order-laws}
 use Rattle.calls_step.proofs.Every.{every-list}
 use Rattle.calls_step.proofs.Two.{two-runs}
 use Rattle.calls_step.proofs.Occurs.{occurs}
@@ -15,6 +16,7 @@ use Rattle.calls_step.proofs.Stuck.{never-stuck}
 use Rattle.calls_step.proofs.Stands.{continued-stands}
 use Rattle.calls_step.proofs.Replay.{fresh-stands, replayed, replay-answers, two-replays}
 use Rattle.calls_step.proofs.Blank.{blanked-list}
+use Rattle.calls_step.proofs.Orders.{one-state, same-state, any-order}
 
 -- numbers of four bytes
 laws : (N : ℕ) → N + 1 ≡ 256 ^ 4 → LedgerLaws N
@@ -23,6 +25,9 @@ laws N wide = record {
   two-runs = two-runs N wide;
   occurs = occurs N wide;
   never-stuck = never-stuck N wide;
+  any-order = any-order N wide;
+  same-state = same-state N wide;
+  one-state = one-state N;
   blanked-list = blanked-list N wide;
   begins = fresh-stands N;
   goes-on = continued-stands N;
@@ -41,4 +46,4 @@ step-laws N = record {
 }
 
 pub proved : Proved
-proved = record { lists = laws HIGHEST refl; calls = step-laws HIGHEST; decimals = decimal-laws }
+proved = record { lists = laws HIGHEST refl; calls = step-laws HIGHEST; orders = order-laws HIGHEST; decimals = decimal-laws }

@@ -9,4 +9,5 @@ pub mod Request
 pub mod Two
 pub mod Replay
 pub mod Blank
+pub mod Orders
 pub mod Proved

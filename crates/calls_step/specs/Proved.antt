@@ -1,9 +1,10 @@
 -- What is proved of the calls (proofs/Proved.antt): demand 3 of document 01, as claims about lists of calls as a whole.
 -- Assumes nothing.
 use Prim.Native.Nat.{ℕ}
-use mathlib.Core.List.{List}
+use mathlib.Core.List.{List, _++_, Perm}
 use mathlib.Core.Bool.{false}
 use mathlib.Core.Path.{_≡_}
+use Rattle.rows.specs.Values.{Range}
 use Rattle.contact_image.specs.Row.{ContactTyped, ListsTyped}
 use Rattle.store.specs.declared.Entry.{Entry}
 use Rattle.calls_step.specs.declared.Mark.the-variants.{Fresh}
@@ -13,14 +14,16 @@ use Rattle.numbers.specs.Decimal.{DecimalLaws}
 use Rattle.calls_step.specs.Step.{output, passes, step}
 use Rattle.calls_step.specs.Omitted.{passesInParts}
 use Rattle.ledger.specs.Ledger.{Ledger, nothing}
+use Rattle.ledger.specs.Orders.{OrderLaws}
 use Rattle.calls_step.specs.Legal.{Turn, Each, Continues, Legal}
 use Rattle.calls_step.specs.Agree.{AgreesAll}
 use Rattle.calls_step.specs.Stands.{SoundLedger, StandsFor, LastLeft}
 use Rattle.calls_step.specs.Two.{Paired, AlikeAll, LedgersAlike}
-use Rattle.calls_step.specs.Replay.{answers, ledgerAnswers, AllAlike, AllTyped, Agreed, AgreedAlike}
-use Rattle.calls_step.specs.Request.{Request, RequestsTyped, Served}
+use Rattle.calls_step.specs.Replay.{closing, answers, ledgerAnswers, AllAlike, AllTyped, Agreed, AgreedAlike}
+use Rattle.calls_step.specs.Request.{Request, Serves, RequestsTyped, Served}
 use Rattle.calls_step.specs.Stuck.{Unstuck}
 use Rattle.calls_step.specs.Blank.{Blankable, Blanks}
+use Rattle.calls_step.specs.Orders.{CoverTurns, CoversThenWrite}
 
 -- fields, lists and output are as they were
 pub record NothingWritten (h after : Input) : Type 0 where
@@ -39,6 +42,15 @@ pub record LedgerLaws (N : ℕ) : Type 0 where
   pub occurs : (g : Input) → g .mark ≡ Fresh → (ws : List Request) → RequestsTyped N ws → Served N g ws
   -- in a legal list 34 comes only from no store, no open contact, or a list lent too short
   pub never-stuck : (g : Input) → g .mark ≡ Fresh → (ts : List Turn) → Legal N g ts → Each (Unstuck N) ts
+  -- covers of the same ranges in two orders, from one state, no cover and no write refused (02, A11): the row that is written is the same bytes, and the counts of new
+  -- numbers have the same total. `Perm` and what the ledger says of it: ledger's Orders.antt
+  pub any-order : (g : Input) → g .mark ≡ Fresh → (ps qs : List Turn) → closing N nothing ps ≡ closing N nothing qs → (rs ss : List Range) (x y : ℕ) (row other : List ℕ)
+      → CoversThenWrite N g ps rs x row → CoversThenWrite N g qs ss y other → Perm rs ss → (row ≡ other) × (x ≡ y)
+  -- ... and without a write: the ledger comes to one state
+  pub same-state : (g : Input) → g .mark ≡ Fresh → (ps qs : List Turn) → closing N nothing ps ≡ closing N nothing qs → (ts us : List Turn) → Legal N g (ps ++ ts) → Legal N g (qs ++ us)
+      → (rs ss : List Range) (x y : ℕ) → CoverTurns N ts rs x → CoverTurns N us ss y → Perm rs ss → (closing N nothing (ps ++ ts) ≡ closing N nothing (qs ++ us)) × (x ≡ y)
+  -- from one state: so it is behind the same turns, and behind the same calls with the same lent lengths, whatever else these are handed
+  pub one-state : (l : Ledger) (ws : List Request) (ps qs : List Turn) → Serves ws ps → Serves ws qs → closing N l ps ≡ closing N l qs
   -- the same calls on blanked stores can be made, and give every answer that the list gave
   pub blanked-list : (g : Input) → g .mark ≡ Fresh → (ts : List Turn) → Legal N g ts → Each (λ t. Blankable (t .call)) ts → Blanks N g ts
   -- memory stands for the empty ledger while nothing is restored, and for the next state if it is handed as much as is lent of what was left last
@@ -72,4 +84,5 @@ HIGHEST = 4294967295
 pub record Proved : Type 0 where
   pub lists : LedgerLaws HIGHEST
   pub calls : StepLaws HIGHEST
+  pub orders : OrderLaws HIGHEST
   pub decimals : DecimalLaws
