@@ -20,6 +20,7 @@ mod model;
 mod names;
 mod names_speed;
 mod number_set;
+mod orders;
 mod original;
 mod original_store;
 mod program;
@@ -136,7 +137,7 @@ const USAGE: &str =
        oracle program-samples DIR
        oracle speed|names-speed|insert-speed|restore-speed [large]
        oracle scripts|transcript|scripts-rust|sheets|sheets-rust SEED TIMES
-       oracle scripts-check|sheets-check SEED TIMES PROGRAM [WORD..]
+       oracle scripts-check|orders-check|sheets-check SEED TIMES PROGRAM [WORD..]
        oracle sheets-speed|calls-speed PROGRAM [WORD..]
        oracle replay|statement|statement-model (from standard input)";
 

@@ -1,7 +1,7 @@
 //! The commands about lists of calls and about sheets.
 
 use crate::program::Program;
-use crate::{call_samples, calls_speed, script_cases, script_run, scripts};
+use crate::{call_samples, calls_speed, orders, script_cases, script_run, scripts};
 use crate::{sheet_cases, sheet_model, sheet_samples, sheets, sheets_speed};
 use std::error::Error;
 use std::io::Read;
@@ -72,6 +72,7 @@ fn printed_or_compared(mode: &str, seed: &str, times: &str) -> Option<Done> {
 fn checked(mode: &str, seed: &str, times: &str, program: Program) -> Option<Done> {
     let check: fn(u64, u64, Program) -> bool = match mode {
         "scripts-check" => scripts::check,
+        "orders-check" => orders::check,
         "sheets-check" => sheets::check,
         _ => return None,
     };

@@ -3,7 +3,7 @@
 
 use crate::calls_model::Call;
 use crate::inputs::Random;
-use crate::model::Contact;
+use crate::model::{Contact, Range};
 use crate::script_run::{HAS, Runner};
 use crate::script_stores;
 use crate::script_text::{Lengths, Step};
@@ -47,6 +47,36 @@ pub fn script(random: &mut Random, number: u64) -> Vec<Step> {
         }
     }
     builder.steps
+}
+
+/// A number near an end of these ranges, near the first or the last, or any.
+fn number_near(random: &mut Random, runs: &[Range]) -> u32 {
+    let near = match random.below(8) {
+        0 => 1,
+        1 => u32::MAX,
+        2 => random.number(),
+        _ if runs.is_empty() => 4,
+        _ => {
+            let (from, to) = random.pick(runs);
+            if random.flag() { from } else { to }
+        }
+    };
+    let number = i64::from(near) + random.below(7) as i64 - 3;
+    number.clamp(0, u32::MAX.into()) as u32
+}
+
+/// Mostly 1 <= from <= to: two such numbers, or one and a few behind it.
+pub fn range_near(random: &mut Random, runs: &[Range]) -> Range {
+    let (one, other) = (number_near(random, runs), number_near(random, runs));
+    match random.below(20) {
+        0 => (one, other),
+        1 => (0, other),
+        2..11 => {
+            let from = one.max(1);
+            (from, from.saturating_add(random.below(3) as u32))
+        }
+        _ => (one.min(other).max(1), one.max(other).max(1)),
+    }
 }
 
 impl Builder<'_> {
@@ -140,36 +170,17 @@ impl Builder<'_> {
         model::contact(3, store.row(at)?).answer.ok()
     }
 
-    /// A number near an end of what is covered, near the first or the last, or any.
-    fn number(&mut self) -> u32 {
+    fn runs(&self) -> Vec<Range> {
         let opened = self.runner.ledger.opened();
-        let runs = opened.map_or(Vec::new(), |opened| opened.covered().runs());
-        let near = match self.random.below(8) {
-            0 => 1,
-            1 => u32::MAX,
-            2 => self.random.number(),
-            _ if runs.is_empty() => 4,
-            _ => {
-                let (from, to) = self.random.pick(&runs);
-                if self.random.flag() { from } else { to }
-            }
-        };
-        let number = i64::from(near) + self.random.below(7) as i64 - 3;
-        number.clamp(0, u32::MAX.into()) as u32
+        opened.map_or(Vec::new(), |opened| opened.covered().runs())
     }
 
-    /// Mostly 1 <= from <= to: two such numbers, or one and a few behind it.
+    fn number(&mut self) -> u32 {
+        number_near(self.random, &self.runs())
+    }
+
     fn range(&mut self) -> (u32, u32) {
-        let (one, other) = (self.number(), self.number());
-        match self.random.below(20) {
-            0 => (one, other),
-            1 => (0, other),
-            2..11 => {
-                let from = one.max(1);
-                (from, from.saturating_add(self.random.below(3) as u32))
-            }
-            _ => (one.min(other).max(1), one.max(other).max(1)),
-        }
+        range_near(self.random, &self.runs())
     }
 
     fn lengths(&mut self) -> Lengths {

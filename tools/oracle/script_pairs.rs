@@ -3,7 +3,7 @@
 use crate::calls_model::Call;
 use crate::inputs::Random;
 use crate::model;
-use crate::script_text::Step;
+use crate::script_text::{self, Step};
 use crate::sheet_model;
 use crate::store_model::Store;
 
@@ -40,7 +40,7 @@ pub fn alike(step: &Step, one: &str, other: &str) -> bool {
 
 /// The answer with the veiled bytes of its row, the longest word, zero.
 fn blanked(answer: &str) -> Vec<String> {
-    let blank = |word: &str| match bytes(word) {
+    let blank = |word: &str| match script_text::bytes(word) {
         Some(row) if row.len() > 100 => {
             let veiled = model::contact(3, &row).veiled;
             format!("{:?}", model::blanked(&row, &veiled))
@@ -48,10 +48,4 @@ fn blanked(answer: &str) -> Vec<String> {
         _ => word.into(),
     };
     answer.split(' ').map(blank).collect()
-}
-
-fn bytes(word: &str) -> Option<Vec<u8>> {
-    let line = format!("D,3,{word}\n");
-    let lines = sheet_model::read(line.as_bytes()).ok()?;
-    Some(lines[0].blob.clone())
 }

@@ -243,7 +243,7 @@ fn numbers<const COUNT: usize>(words: &[&str]) -> Option<[usize; COUNT]> {
 }
 
 /// Lowercase hexadecimal, `-` for nothing; no more than a run may have.
-fn bytes(word: &str) -> Option<Vec<u8>> {
+pub fn bytes(word: &str) -> Option<Vec<u8>> {
     let word = match word {
         "" => return None,
         "-" => "",
