@@ -5,6 +5,7 @@ use mathlib.Core.List.{List, [], _∷_, _++_, map, Perm, Perm·nil, Perm·cons, 
 use mathlib.Core.Bool.{Bool, true, false}
 use mathlib.Core.Path.{_≡_, refl, ap, subst}
 use native.Mathlib.Omega.{arith}
+use lib.ListN.{length, take}
 use Rattle.layout.specs.Questions.{«RANGES_FIT»}
 use Rattle.layout.specs.Form as form
 use Rattle.layout.specs.Layout.{print}
@@ -20,13 +21,13 @@ use Rattle.numbers.specs.Ranges.{range}
 use Rattle.received.specs.Change as changes
 use Rattle.received.specs.Lent as received
 use Rattle.contact_image.specs.Row as row
-use Rattle.ledger.specs.Call.{opens, cover, write, advanced, refused}
+use Rattle.ledger.specs.Call.{opens, cover, write, advanced, wrote, refused}
 use Rattle.calls_step.specs.Input.{Input}
 use Rattle.calls_step.specs.Step as steps
 use Rattle.calls_step.specs.Legal.{Turn, made, lastLeft, Legal}
 use Rattle.calls_step.specs.Replay.{turn, lastOf}
 use Rattle.calls_step.specs.Request.{Request, RequestsTyped}
-use Rattle.calls_step.specs.Orders.{CoverTurns, none, more, Writes, CoversThenWrite}
+use Rattle.calls_step.specs.Orders.{CoverTurns, none, more, CoversThenWrite}
 use Rattle.calls_step.proofs.Occurs as occurs
 use Rattle.calls_step.proofs.Occurs.{again, serving, serving-legal}
 use Rattle.calls_step.proofs.Answers.{N, fieldsOf, four}
@@ -80,25 +81,29 @@ ps = serving N refl begun before
 abbrev here : Input
 here = lastOf N before ps
 
--- what the covers leave, and the write
+-- what the covers leave, and the write behind them
 abbrev after : List Cover → Input
 after cs = lastOf N here (serving N refl (map asks cs) here)
 
 abbrev writes : (out : ℕ) → Request
 writes out = with 4 1 2 out write
 
+abbrev writing : List Cover → (out : ℕ) → Turn
+writing cs out = turnOf (after cs) (writes out)
+
 record Computed (cs : List Cover) (out : ℕ) (row : List ℕ) : Type 0 where
   answered : Answered cs here
-  written : Writes N (turnOf (after cs) (writes out)) row
+  length-is : made N (writing cs out) .answer ≡ wrote (length row)
+  row-is : take (length row) (made N (writing cs out) .after .out) ≡ row
 
 ends : (cs : List Cover) (out : ℕ) (row : List ℕ) → RequestsTyped N (map asks cs ++ writes out ∷ []) → Computed cs out row → CoversThenWrite N before ps (rangesOf cs) (totalOf cs) row
 ends cs out row typed computed = record {
   turns = serving N refl (map asks cs) here;
-  last = turnOf (after cs) (writes out);
+  last = writing cs out;
   legal = subst (λ (ts : List Turn). Legal N before (ps ++ ts)) (served-behind (map asks cs) (writes out ∷ []) here)
       (serving-legal N refl before refl (begun ++ (map asks cs ++ writes out ∷ [])) (run-bytes, (tt, typed)));
   covers = answered-covers cs here (computed .answered);
-  writes = computed .written;
+  writes = record { call = refl; answer = computed .length-is; front = computed .row-is };
 }
 
 -- ---- the orders
@@ -122,7 +127,8 @@ sharing = case 5 9 2 false 5 ∷ case 3 5 2 true 1 ∷ case 3 3 2 false 0 ∷ ca
 abbrev row9 : List ℕ
 row9 = print (contact 3) (fieldsOf 3 9 [])
 
--- above 4..7, with one pair lent; the other way round two pairs are needed, one of which is free at the end. With one pair it is 38, and so would be the orders between the two
+-- above 4..7. Upwards one pair is enough; downwards it takes two, and one of them is free at the end. With one pair 7..7 and 6..6 are 38 at first, and
+-- with them every other order that starts there: the law needs none of these, though `Perm` goes from the one order to the other by way of them
 abbrev upwards : List Cover
 upwards = case 5 5 2 false 1 ∷ case 6 6 2 false 1 ∷ case 7 7 2 false 1 ∷ []
 
@@ -147,17 +153,19 @@ computed :
     × (after upwards .lists .above ≡ 4 ∷ 7 ∷ [])
     × (after downwards .lists .above ≡ 4 ∷ 7 ∷ 0 ∷ 0 ∷ [])
     × (made N (turnOf here (asks (case 7 7 2 false 1))) .answer ≡ refused «RANGES_FIT»)
+    × (made N (turnOf here (asks (case 6 6 2 false 1))) .answer ≡ refused «RANGES_FIT»)
 unfolding occurs.again occurs.fitted steps.step layout.parse layout.print form.bigEndian form.bytesOf form.readMany form.printMany form.lebRead utf.completes
     puts.put places.printPlaces places.placesOf places.readPlaces lents.placesBytes ranges.insert ranges.inserted ranges.uncovered changes.changeOf
     received.pairs received.stored row.counted row.image row.chainedImage
 computed = (
-  record { answered = (refl, (refl, tt)); written = record { call = refl; answer = refl; front = refl } },
-  record { answered = (refl, (refl, tt)); written = record { call = refl; answer = refl; front = refl } },
-  record { answered = (refl, (refl, (refl, (refl, tt)))); written = record { call = refl; answer = refl; front = refl } },
-  record { answered = (refl, (refl, (refl, (refl, tt)))); written = record { call = refl; answer = refl; front = refl } },
-  record { answered = (refl, (refl, (refl, tt))); written = record { call = refl; answer = refl; front = refl } },
-  record { answered = (refl, (refl, (refl, tt))); written = record { call = refl; answer = refl; front = refl } },
-  record { answered = tt; written = record { call = refl; answer = refl; front = refl } },
+  record { answered = (refl, (refl, tt)); length-is = refl; row-is = refl },
+  record { answered = (refl, (refl, tt)); length-is = refl; row-is = refl },
+  record { answered = (refl, (refl, (refl, (refl, tt)))); length-is = refl; row-is = refl },
+  record { answered = (refl, (refl, (refl, (refl, tt)))); length-is = refl; row-is = refl },
+  record { answered = (refl, (refl, (refl, tt))); length-is = refl; row-is = refl },
+  record { answered = (refl, (refl, (refl, tt))); length-is = refl; row-is = refl },
+  record { answered = tt; length-is = refl; row-is = refl },
+  refl,
   refl,
   refl,
   refl,

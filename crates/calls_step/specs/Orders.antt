@@ -23,8 +23,8 @@ module _ (N : ℕ) where
     pub answer : made N t .answer ≡ wrote (length row)
     pub front : take (length row) (made N t .after .out) ≡ row
 
-  -- a legal list: the turns ps, directly behind them covers of these ranges, and directly behind these a write of this row, all of them granted but for ps.
-  -- What is lent to the covers and to the write is free
+  -- a legal list: the turns ps, directly behind them covers of these ranges, and directly behind these a write of this row. The covers and the write are granted,
+  -- whatever is lent to each; turns of ps may be refused
   pub record CoversThenWrite (g : Input) (ps : List Turn) (rs : List Range) (total : ℕ) (row : List ℕ) : Type 0 where
     pub turns : List Turn
     pub last : Turn

@@ -1,4 +1,4 @@
--- What is proved of the calls (proofs/Proved.antt): demand 3 of document 01, as claims about lists of calls as a whole.
+-- What is proved of the calls (proofs/Proved.antt): demand 3 of document 01, and 02's A11, as claims about lists of calls as a whole.
 -- Assumes nothing.
 use Prim.Native.Nat.{ℕ}
 use mathlib.Core.List.{List, _++_, Perm}
@@ -49,7 +49,7 @@ pub record LedgerLaws (N : ℕ) : Type 0 where
   -- ... and without a write: the ledger comes to one state
   pub same-state : (g : Input) → g .mark ≡ Fresh → (ps qs : List Turn) → closing N nothing ps ≡ closing N nothing qs → (ts us : List Turn) → Legal N g (ps ++ ts) → Legal N g (qs ++ us)
       → (rs ss : List Range) (x y : ℕ) → CoverTurns N ts rs x → CoverTurns N us ss y → Perm rs ss → (closing N nothing (ps ++ ts) ≡ closing N nothing (qs ++ us)) × (x ≡ y)
-  -- from one state: so it is behind the same turns, and behind the same calls with the same lent lengths, whatever else these are handed
+  -- two beginnings come to one state if they are the same calls with the same lent lengths, whatever else they are handed
   pub one-state : (l : Ledger) (ws : List Request) (ps qs : List Turn) → Serves ws ps → Serves ws qs → closing N l ps ≡ closing N l qs
   -- the same calls on blanked stores can be made, and give every answer that the list gave
   pub blanked-list : (g : Input) → g .mark ≡ Fresh → (ts : List Turn) → Legal N g ts → Each (λ t. Blankable (t .call)) ts → Blanks N g ts
