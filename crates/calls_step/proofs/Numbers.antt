@@ -29,6 +29,7 @@ meets-with v n r more canon m =
     record {
       card = m .card;
       consistent = record {
+        chains-count = c .chains-count;
         chains-current = c .chains-current;
         chains-gens = c .chains-gens;
         skipped-keys = c .skipped-keys;

@@ -107,12 +107,15 @@ impl ContactCheck {
     }
 }
 
-// Questions 17 to 20, of chains and skipped keys that were read.
+// Questions 54 and 17 to 20, of chains and skipped keys that were read.
 fn chains_consistent(row: &[u8], at: ChainedAt) -> Verdict
     requires { ⌜ ChainedLists (now row) at ⌝ }
     ensures { λ r. ⌜ refusalIn r ≡ chainsRefusal (chainedFrom (now (row .entry)) at .chains) (chainedFrom (now (row .entry)) at .skipped) ⌝ }
 {
     let chains = at.chains;
+    if rows::MAX_CHAINS < chains.count {
+        return Verdict::Refused(question::CHAINS_COUNT);
+    }
     let asked = contact_checks::chains_in_row(row, chains.first, chains.count);
     if !asked.one_current {
         return Verdict::Refused(question::CHAINS_CURRENT);
@@ -154,7 +157,7 @@ fn numbers_consistent(row: &[u8], sent: u32, at: NumbersAt) -> Verdict
     Verdict::Accepted
 }
 
-// 17 to 24, of parts that were read.
+// 54 and 17 to 24, of parts that were read.
 fn consistent_in_row(row: &[u8], sent: u32, chained: ChainedAt, numbers: NumbersAt) -> Verdict
     requires { ⌜ ChainedLists (now row) chained × NumbersLists (now row) numbers ⌝ }
     ensures { λ r. ⌜ refusalIn r ≡ first (chainsRefusal (chainedFrom (now (row .entry)) chained .chains) (chainedFrom (now (row .entry)) chained .skipped)) (numbersRefusal sent (numbers .«peer_acked») (numbers .contiguous) (numbersFrom (now (row .entry)) numbers .above) (numbersFrom (now (row .entry)) numbers .unacked) (numbersFrom (now (row .entry)) numbers .expired)) ⌝ }

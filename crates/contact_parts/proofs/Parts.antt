@@ -5,14 +5,14 @@ use mathlib.Core.List.{List, _++_, append-assoc, append-nil}
 use mathlib.Core.Bool.{true, false, _&&_}
 use mathlib.Core.Path.{_≡_, refl, sym, ap, _∙_}
 use lib.ListN.{drop}
-use Rattle.layout.specs.Questions.{VERSION, «ROW_END», «CHAINS_CURRENT», «CHAINS_GENS», «SKIPPED_KEYS», «SKIPPED_COUNT», «PEER_ACKED», UNACKED, ABOVE, EXPIRED}
+use Rattle.layout.specs.Questions.{VERSION, «ROW_END», «CHAINS_COUNT», «CHAINS_CURRENT», «CHAINS_GENS», «SKIPPED_KEYS», «SKIPPED_COUNT», «PEER_ACKED», UNACKED, ABOVE, EXPIRED}
 use Rattle.layout.specs.Read.{Read, value, refused, andThen}
 use Rattle.layout.specs.Layout.{Layout, done, field, ask, end, parse, print, group, _>>=_, _>>_}
 use Rattle.layout.specs.Layout as layout
 use Rattle.layout.proofs.At.{Took}
 use Rattle.layout.proofs.Steps.{Came, ask-is}
 use Rattle.rows.specs.Values.{Contact}
-use Rattle.rows.specs.Checks.{versionKnown, oneChainAtMost, gensDistinct, keysDistinct, fewSkipped, ackedSent, rising, canonical, noneAbove}
+use Rattle.rows.specs.Checks.{versionKnown, fewChains, oneChainAtMost, gensDistinct, keysDistinct, fewSkipped, ackedSent, rising, canonical, noneAbove}
 use Rattle.rows.specs.Rows.{contact}
 use Rattle.contact_parts.specs.Parts.{Paired, paired, Keys, keys, Chained, chained, Numbers, numbers, pairedOf, keysOf, chainedOf, numbersOf, joined}
 
@@ -34,10 +34,11 @@ embed-parse {A} {C} (field {B} f g l) get k row = go (f .read row) (λ b rest. e
 embed-parse (ask q true l) get k row = embed-parse l get k row
 embed-parse (ask q false l) get k row = refl
 
--- ---- the questions 17 to 24, and the row's end before them
+-- ---- the questions 54 and 17 to 24, and the row's end before them
 abbrev pub consistent : Paired → Keys → Chained → Numbers → Layout Contact
 consistent p k c n = do
   end «ROW_END»
+  ask «CHAINS_COUNT» (fewChains (c .chains))
   ask «CHAINS_CURRENT» (oneChainAtMost (c .chains))
   ask «CHAINS_GENS» (gensDistinct (c .chains))
   ask «SKIPPED_KEYS» (keysDistinct (c .skipped))

@@ -57,11 +57,14 @@ fn counts_fit(
     within(contact.expired, expired / 2)
 }
 
-// Questions 17 to 20, of lent chains and skipped keys that no question refused.
+// Questions 54 and 17 to 20, of lent chains and skipped keys that no question refused.
 fn chains_consistent(contact: Contact, chains: &[u8], skipped: &[u8]) -> Verdict
     requires { ⌜ ChainsLent contact (lists (now chains) (now skipped) [] [] []) ⌝ }
     ensures { λ r. ⌜ refusalIn r ≡ chainsRefusal (chainsOf (contact .chains) (now (chains .entry))) (skippedOf (contact .skipped) (now (skipped .entry))) ⌝ }
 {
+    if rows::MAX_CHAINS < contact.chains {
+        return Verdict::Refused(question::CHAINS_COUNT);
+    }
     let asked = contact_checks::chains_lent(chains, contact.chains);
     if !asked.one_current {
         return Verdict::Refused(question::CHAINS_CURRENT);
@@ -129,7 +132,7 @@ fn row_size(contact: Contact, card: usize, chains: usize, skipped: usize) -> usi
     fixed + 1 + numbers
 }
 
-// 17 to 24.
+// 54 and 17 to 24.
 fn consistent_lent(
     contact: Contact,
     chains: &[u8],

@@ -1,11 +1,11 @@
--- Contact rows at the edges of questions 4 to 10 and 17 to 24, and the bytes that they veil: what the definitions answer. By computation.
+-- Contact rows at the edges of questions 4 to 10, 54 and 17 to 24, and the bytes that they veil: what the definitions answer. By computation.
 -- Assumes nothing.
-use Prim.Native.Nat.{ℕ}
+use Prim.Native.Nat.{ℕ, zero, suc}
 use mathlib.Core.List.{List, [], _∷_, _++_}
 use mathlib.Core.Option.{Option, none, some}
 use mathlib.Core.Path.{_≡_, refl}
-use lib.ListN.{replicate}
-use Rattle.layout.specs.Questions.{ABOVE, CAPS, CODE, EXPIRED, FIELD, FLAG, UNACKED, «CARD_END», «CHAINS_CURRENT», «CHAINS_GENS», «NAME_LENGTH», «PEER_ACKED», «SKIPPED_KEYS»}
+use lib.ListN.{replicate, take}
+use Rattle.layout.specs.Questions.{ABOVE, CAPS, CODE, EXPIRED, FIELD, FLAG, UNACKED, «CARD_END», «CHAINS_COUNT», «CHAINS_CURRENT», «CHAINS_GENS», «NAME_LENGTH», «PEER_ACKED», «ROW_END», «SKIPPED_KEYS»}
 use Rattle.layout.specs.Veil.{zeros, veil}
 use Rattle.layout.specs.Form as form
 use Rattle.layout.specs.Form.{bytesOf}
@@ -96,6 +96,30 @@ consistent :
     × (answered (rowOf 3 [] [] 3 2 [] [] (aRange 1 1 ∷ aRange 3 3 ∷ [])) ≡ none)
 unfolding rowOf layout.parse layout.print form.bigEndian form.bytesOf form.readMany form.printMany utf.completes utf.following
 consistent = (refl, refl, refl, refl, refl, refl, refl, refl, refl, refl, refl, refl, refl, refl, refl, refl, refl, refl, refl)
+
+-- 54, by the row alone: n superseded chains, and then others
+abbrev superseded : ℕ → List Chain → List Chain
+superseded zero chains = chains
+superseded (suc n) chains = aChain n I (some 1) ∷ superseded n chains
+
+chainsRow : List Chain → List ℕ
+chainsRow chains = rowOf 3 chains [] 3 2 [] [] []
+
+eight-chains :
+    (answered (chainsRow (superseded 8 [])) ≡ none)
+    × (answered (chainsRow (superseded 7 (aChain 255 R none ∷ []))) ≡ none)
+    × (answered (chainsRow (superseded 9 [])) ≡ some «CHAINS_COUNT»)
+    × (answered (chainsRow (superseded 8 (aChain 255 R none ∷ []))) ≡ some «CHAINS_COUNT»)
+    -- before 17, and so before 18 to 24; eight such chains are 17 and 18
+    × (answered (chainsRow (superseded 7 (aChain 254 I none ∷ aChain 255 R none ∷ []))) ≡ some «CHAINS_COUNT»)
+    × (answered (chainsRow (superseded 6 (aChain 254 I none ∷ aChain 255 R none ∷ []))) ≡ some «CHAINS_CURRENT»)
+    × (answered (chainsRow (superseded 8 (superseded 1 []))) ≡ some «CHAINS_COUNT»)
+    × (answered (chainsRow (superseded 7 (superseded 1 []))) ≡ some «CHAINS_GENS»)
+    -- after 4 and 16: nine chains in a row that is a byte short, or has one over
+    × (answered (take 749 (chainsRow (superseded 9 []))) ≡ some FIELD)
+    × (answered (chainsRow (superseded 9 []) ++ 0 ∷ []) ≡ some «ROW_END»)
+unfolding chainsRow rowOf layout.parse layout.print form.bigEndian form.bytesOf form.readMany form.printMany utf.completes utf.following
+eight-chains = (refl, refl, refl, refl, refl, refl, refl, refl, refl, refl)
 
 -- ---- cards within the row
 abbrev front : List ℕ

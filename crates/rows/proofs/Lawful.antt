@@ -208,6 +208,7 @@ contact-blind version lv =
     b-plain (list-lawful u32 (number-lawful 4)) (list-plain u32 lv (λ n. refl)) (λ unacked.
     b-plain (list-lawful (group range) range-lawful) (ranges-plain lv) (λ expired.
     fin «ROW_END»
+    (b-ask (ap (λ (n : ℕ). leb n 8) (list-as-long (group chain) lv cs cs′ e8))
     (b-ask (ap (λ l. leb (count not l) 1) (list-unseen (group chain) lv (λ c. present (c .«superseded_s»)) (λ c. present-map (λ n. n) (c .«superseded_s»)) cs cs′ e8))
     (b-ask (ap (distinct eqb) (list-unseen (group chain) lv (λ c. c .gen) (λ c. refl) cs cs′ e8))
     (b-ask (ap (distinct sameKey) (list-unseen (group skipped) lv keyOf (λ k. refl) ks ks′ e9))
@@ -236,7 +237,7 @@ contact-blind version lv =
       above = (list (group range)) .blank lv above;
       unacked = (list u32) .blank lv unacked;
       expired = (list (group range)) .blank lv expired;
-    })))))))))))))))))))))))))))))))))))
+    }))))))))))))))))))))))))))))))))))))
 
 pub contact-lawful : (version : ℕ) → Lawful (group (contact version))
 contact-lawful version =
@@ -250,9 +251,9 @@ contact-lawful version =
     s-any (list-lawful (group chain) chain-lawful) (λ cs. s-any (list-lawful (group skipped) skipped-lawful) (λ ks.
     s-any (number-lawful 4) (λ acked. s-any (number-lawful 4) (λ read. s-any (number-lawful 4) (λ marked. s-any (number-lawful 4) (λ contiguous.
     s-any (list-lawful (group range) range-lawful) (λ above. s-any (list-lawful u32 (number-lawful 4)) (λ unacked. s-any (list-lawful (group range) range-lawful) (λ expired.
-    s-any (noMore-lawful «ROW_END») (λ end. s-ask (s-ask (s-ask (s-ask (s-ask (s-ask (s-ask (s-ask (s-done
+    s-any (noMore-lawful «ROW_END») (λ end. s-ask (s-ask (s-ask (s-ask (s-ask (s-ask (s-ask (s-ask (s-ask (s-done
     (((((((((((((((((((((((((tt, refl), refl), refl), refl), refl), refl), refl), refl), refl), refl), refl), refl), refl), refl), refl), refl), refl), refl), refl), refl), refl), refl), refl), refl), refl)
-    )))))))))))))))))))))))))))))))))))
+    ))))))))))))))))))))))))))))))))))))
     (contact-blind version)
 
 -- ---- queued

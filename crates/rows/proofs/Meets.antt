@@ -11,7 +11,7 @@ use lib.ListN.{length, getD, length-map, List·getD-map}
 use lib.Dec.{leb, eqb}
 use borrow.Author.Tests.{leb-true, le-leb, ltb-true, lt-ltb, eqb-true, eq-eqb, eqb-false, ne-eqb, not-true}
 use Rattle.layout.specs.Questions.{VERSION, CAPS, «NAME_LENGTH», «NAME_UTF8», «COURIER_CONFIG», «SEALED_LENGTH», «CARRIED_COPIES», «CARRIED_EXPIRY»}
-use Rattle.layout.specs.Questions.{«CHAINS_CURRENT», «CHAINS_GENS», «SKIPPED_KEYS», «SKIPPED_COUNT», «PEER_ACKED», UNACKED, ABOVE, EXPIRED}
+use Rattle.layout.specs.Questions.{«CHAINS_COUNT», «CHAINS_CURRENT», «CHAINS_GENS», «SKIPPED_KEYS», «SKIPPED_COUNT», «PEER_ACKED», UNACKED, ABOVE, EXPIRED}
 use Rattle.layout.specs.Read.{first}
 use Rattle.layout.specs.Veil.{plain}
 use Rattle.layout.specs.Form.{bytes, u32, u64, refusalIf, refusalMany}
@@ -21,7 +21,7 @@ use Rattle.layout.specs.Layout as layout
 use Rattle.rows.specs.Utf8.{utf8}
 use Rattle.rows.specs.Values.{Device, Card, Chain, Skipped, Range, Contact, Queued, Carried, Courier}
 use Rattle.rows.specs.Checks.{any, count, distinct, versionKnown, capsKnown, nameShort, courierAllowed, sealedQueued, sealedCarried, notZero}
-use Rattle.rows.specs.Checks.{oneChainAtMost, gensDistinct, ChainKey, keyOf, sameKey, keysDistinct, fewSkipped, ackedSent, rising, canonical, noneAbove}
+use Rattle.rows.specs.Checks.{fewChains, oneChainAtMost, gensDistinct, ChainKey, keyOf, sameKey, keysDistinct, fewSkipped, ackedSent, rising, canonical, noneAbove}
 use Rattle.rows.specs.Rows.{device, card, cardRow, pending, send, chain, skipped, range, contact, ownEnvelope, queued, carried, courier}
 use Rattle.rows.proofs.Tests.{either, or-left, or-right, and-both, both-and}
 use Rattle.rows.specs.Meets.{chainAt, skippedAt, msgnoAt, rangeAt, MeetsCard, MeetsDevice, MeetsQueued, MeetsCarried, MeetsCourier, OneChainAtMost, GensDistinct, KeysDistinct, Rising, Canonical, NoneAbove, Consistent, MeetsContact, MeetsLaws}
@@ -341,10 +341,11 @@ module _ (version : ℕ) where
   )
   held-asks (inr t) = ((λ e. (version-three version _ .0 e .0, tt)), (λ m. version-three version _ .1 (m .0, refl)))
 
-  -- a contact: its card's questions, then 17 to 24
+  -- a contact: its card's questions, then 54 and 17 to 24
   abbrev asks : Contact → Option ℕ
   asks c =
-      cond (oneChainAtMost (c .chains))
+      cond (fewChains (c .chains))
+      (cond (oneChainAtMost (c .chains))
       (cond (gensDistinct (c .chains))
       (cond (keysDistinct (c .skipped))
       (cond (fewSkipped (c .skipped))
@@ -352,7 +353,7 @@ module _ (version : ℕ) where
       (cond (rising 1 (c .«sent_msgno») (c .unacked))
       (cond (canonical (c .contiguous + 2) (c .above))
       (cond (canonical 1 (c .expired) && noneAbove (c .«sent_msgno») (c .expired)) none (some EXPIRED))
-      (some ABOVE)) (some UNACKED)) (some «PEER_ACKED»)) (some «SKIPPED_COUNT»)) (some «SKIPPED_KEYS»)) (some «CHAINS_GENS»)) (some «CHAINS_CURRENT»)
+      (some ABOVE)) (some UNACKED)) (some «PEER_ACKED»)) (some «SKIPPED_COUNT»)) (some «SKIPPED_KEYS»)) (some «CHAINS_GENS»)) (some «CHAINS_CURRENT»)) (some «CHAINS_COUNT»)
 
   contact-refusal : (c : Contact) → refusalOf (contact version) c ≡ cond (versionKnown version) (first (refusalOf card (c .card)) (asks c)) (some VERSION)
   unfolding layout.refusalOf
@@ -369,7 +370,8 @@ module _ (version : ℕ) where
 
   asks-consistent : (c : Contact) → asks c ≡ none → Consistent c
   asks-consistent c e =
-      let current = asked-yes «CHAINS_CURRENT» (oneChainAtMost (c .chains)) _ e in
+      let eight = asked-yes «CHAINS_COUNT» (fewChains (c .chains)) _ e in
+      let current = asked-yes «CHAINS_CURRENT» (oneChainAtMost (c .chains)) _ (eight .1) in
       let gens = asked-yes «CHAINS_GENS» (gensDistinct (c .chains)) _ (current .1) in
       let keys = asked-yes «SKIPPED_KEYS» (keysDistinct (c .skipped)) _ (gens .1) in
       let few = asked-yes «SKIPPED_COUNT» (fewSkipped (c .skipped)) _ (keys .1) in
@@ -378,6 +380,7 @@ module _ (version : ℕ) where
       let apart = asked-yes ABOVE (canonical (c .contiguous + 2) (c .above)) _ (rises .1) in
       let within = asked-yes EXPIRED (canonical 1 (c .expired) && noneAbove (c .«sent_msgno») (c .expired)) _ (apart .1) in
       record {
+        chains-count = leb-true _ 8 (eight .0);
         chains-current = chains-current (c .chains) .0 (current .0);
         chains-gens = chains-gens (c .chains) .0 (gens .0);
         skipped-keys = skipped-keys (c .skipped) .0 (keys .0);
@@ -390,6 +393,7 @@ module _ (version : ℕ) where
 
   consistent-asks : (c : Contact) → Consistent c → asks c ≡ none
   consistent-asks c m = rw (
+    le-leb (length (c .chains)) 8 (m .chains-count),
     chains-current (c .chains) .1 (m .chains-current),
     chains-gens (c .chains) .1 (m .chains-gens),
     skipped-keys (c .skipped) .1 (m .skipped-keys),
@@ -415,6 +419,7 @@ card-row-asks c = ((λ e. card-asks c .0 (sym (first-last (refusalOf card c)) �
 
 pub meets-laws : MeetsLaws
 meets-laws = record {
+  chains-count = λ chains. at-most (length chains) 8;
   chains-current = chains-current;
   chains-gens = chains-gens;
   skipped-keys = skipped-keys;

@@ -1,4 +1,5 @@
--- The questions that are asked of values: what is a yes. Each has document 01's number before it. `leb` is at most, `ltb` below, `eqb` equal.
+-- The questions that are asked of values, in the order in which they are asked: what is a yes. Each has its number before it, document 01's or (54) document 02's. `leb` is at most, `ltb` below,
+-- `eqb` equal.
 -- Assumes nothing.
 use Prim.Native.Nat.{ℕ, suc, _+_, _/_, _%_}
 use mathlib.Core.List.{List, [], _∷_, map}
@@ -59,6 +60,10 @@ sealedCarried n = any (λ bucket. leb bucket 2048 && eqb n (bucket + 16)) «INNE
 -- 14, 15
 abbrev pub notZero : ℕ → Bool
 notZero n = not (eqb n 0)
+
+-- 54 (02, A10)
+abbrev pub fewChains : List Chain → Bool
+fewChains chains = leb (length chains) 8
 
 -- 17
 abbrev pub oneChainAtMost : List Chain → Bool

@@ -11,7 +11,7 @@ use lib.ListN.{length, getD}
 use Rattle.layout.specs.Layout.{refusalOf}
 use Rattle.rows.specs.Utf8.{utf8}
 use Rattle.rows.specs.Values.{Device, Card, Chain, Skipped, Range, Contact, Queued, Carried, Courier}
-use Rattle.rows.specs.Checks.{sealedQueued, sealedCarried, oneChainAtMost, gensDistinct, keysDistinct, fewSkipped, ackedSent, rising, canonical, noneAbove}
+use Rattle.rows.specs.Checks.{sealedQueued, sealedCarried, fewChains, oneChainAtMost, gensDistinct, keysDistinct, fewSkipped, ackedSent, rising, canonical, noneAbove}
 use Rattle.rows.specs.Rows.{device, cardRow, contact, queued, courier}
 use Rattle.rows.specs.declared.Dir.the-variants.{I}
 
@@ -93,6 +93,8 @@ abbrev pub NoneAbove : ℕ → List Range → Type 0
 NoneAbove n ranges = (i : ℕ) → i < length ranges → rangeAt ranges i .to ≤ n
 
 pub record Consistent (c : Contact) : Type 0 where
+  -- 54. At most eight chains?
+  pub chains-count : length (c .chains) ≤ 8
   -- 17
   pub chains-current : OneChainAtMost (c .chains)
   -- 18
@@ -117,6 +119,8 @@ pub record MeetsContact (c : Contact) : Type 0 where
 -- ---- what is proved of them (proofs/Meets.antt)
 pub record MeetsLaws : Type 0 where
   -- each statement is the question of Checks.antt that has its number
+  -- 54
+  pub chains-count : (chains : List Chain) → (fewChains chains ≡ true) ↔ (length chains ≤ 8)
   -- 17
   pub chains-current : (chains : List Chain) → (oneChainAtMost chains ≡ true) ↔ OneChainAtMost chains
   -- 18

@@ -6,14 +6,14 @@ use mathlib.Core.Option.{Option, none, some}
 use lib.ListN.{length}
 use lib.Dec.{eqb}
 use Rattle.layout.specs.Questions.{VERSION, CODE, CAPS, «NAME_LENGTH», «NAME_UTF8», «CARD_END», «COURIER_CONFIG», «SEALED_LENGTH», «CARRIED_COPIES», «CARRIED_EXPIRY», «ROW_END»}
-use Rattle.layout.specs.Questions.{«CHAINS_CURRENT», «CHAINS_GENS», «SKIPPED_KEYS», «SKIPPED_COUNT», «PEER_ACKED», UNACKED, ABOVE, EXPIRED}
+use Rattle.layout.specs.Questions.{«CHAINS_COUNT», «CHAINS_CURRENT», «CHAINS_GENS», «SKIPPED_KEYS», «SKIPPED_COUNT», «PEER_ACKED», UNACKED, ABOVE, EXPIRED}
 use Rattle.layout.specs.Veil.{plain, veiled}
 use Rattle.layout.specs.Form.{Form, bytes, letter, u8, u16, u32, u64, flag, leb128, toEnd, onlyIf, either}
 use Rattle.layout.specs.Layout.{Layout, done, field, ask, end, group, optional, list, sized, _>>=_, _>>_}
 use Rattle.rows.specs.Utf8.{utf8}
 use Rattle.rows.specs.Values.{Device, Card, Pending, Send, Chain, Skipped, Range, Contact, OwnEnvelope, Queued, Carried, Tombstone, Courier}
 use Rattle.rows.specs.Checks.{versionKnown, capsKnown, kci, nameShort, courierAllowed, sealedQueued, sealedCarried, notZero}
-use Rattle.rows.specs.Checks.{oneChainAtMost, gensDistinct, keysDistinct, fewSkipped, ackedSent, rising, canonical, noneAbove}
+use Rattle.rows.specs.Checks.{fewChains, oneChainAtMost, gensDistinct, keysDistinct, fewSkipped, ackedSent, rising, canonical, noneAbove}
 use Rattle.rows.specs.declared.PairingRole.{PairingRole}
 use Rattle.rows.specs.declared.PairingRole.the-variants.{A, B}
 use Rattle.rows.specs.declared.Verification.{Verification}
@@ -174,6 +174,7 @@ contact version = do
   unacked ← field (list u32) (λ c. c .unacked)
   expired ← field (list (group range)) (λ c. c .expired)
   end «ROW_END»
+  ask «CHAINS_COUNT» (fewChains chains)
   ask «CHAINS_CURRENT» (oneChainAtMost chains)
   ask «CHAINS_GENS» (gensDistinct chains)
   ask «SKIPPED_KEYS» (keysDistinct skips)

@@ -41,4 +41,6 @@ pub const MAX_NAME_LEN: usize = 48;
 
 pub const MLKEM768_ENCAPSULATION_KEY_LEN: usize = 1184;
 
+pub const MAX_CHAINS: usize = 8;
+
 pub const MAX_SKIPPED: usize = 500;
