@@ -22,6 +22,7 @@ pub mod AlikeLedgers
 pub mod Two
 pub mod Blank
 pub mod Orders
+pub mod Chains
 pub mod Omitted
 pub mod Output
 pub mod Contracts

@@ -9,6 +9,7 @@ use Rattle.calls_step.proofs.Output.{output-omitted}
 use Rattle.calls_step.proofs.Omitted.{passes-in-parts}
 use Rattle.numbers.proofs.Decimal.{decimal-laws}
 use Rattle.ledger.proofs.Orders.{order-laws}
+use Rattle.ledger.proofs.Chains.{chain-laws}
 use Rattle.calls_step.proofs.Every.{every-list}
 use Rattle.calls_step.proofs.Two.{two-runs}
 use Rattle.calls_step.proofs.Occurs.{occurs}
@@ -17,6 +18,7 @@ use Rattle.calls_step.proofs.Stands.{continued-stands}
 use Rattle.calls_step.proofs.Replay.{fresh-stands, replayed, replay-answers, two-replays}
 use Rattle.calls_step.proofs.Blank.{blanked-list}
 use Rattle.calls_step.proofs.Orders.{one-state, same-state, any-order}
+use Rattle.calls_step.proofs.Chains.{eight-enough}
 
 -- numbers of four bytes
 laws : (N : ℕ) → N + 1 ≡ 256 ^ 4 → LedgerLaws N
@@ -28,6 +30,7 @@ laws N wide = record {
   any-order = any-order N wide;
   same-state = same-state N wide;
   one-state = one-state N;
+  eight-enough = eight-enough N wide;
   blanked-list = blanked-list N wide;
   begins = fresh-stands N;
   goes-on = continued-stands N;
@@ -46,4 +49,4 @@ step-laws N = record {
 }
 
 pub proved : Proved
-proved = record { lists = laws HIGHEST refl; calls = step-laws HIGHEST; orders = order-laws HIGHEST; decimals = decimal-laws }
+proved = record { lists = laws HIGHEST refl; calls = step-laws HIGHEST; orders = order-laws HIGHEST; chains = chain-laws HIGHEST; decimals = decimal-laws }

@@ -10,4 +10,5 @@ pub mod Two
 pub mod Replay
 pub mod Blank
 pub mod Orders
+pub mod Chains
 pub mod Proved

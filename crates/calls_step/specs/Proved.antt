@@ -1,4 +1,4 @@
--- What is proved of the calls (proofs/Proved.antt): demand 3 of document 01, and 02's A11, as claims about lists of calls as a whole.
+-- What is proved of the calls (proofs/Proved.antt): demand 3 of document 01, and 02's A10 and A11, as claims about lists of calls as a whole.
 -- Assumes nothing.
 use Prim.Native.Nat.{ℕ}
 use mathlib.Core.List.{List, _++_, Perm}
@@ -15,6 +15,7 @@ use Rattle.calls_step.specs.Step.{output, passes, step}
 use Rattle.calls_step.specs.Omitted.{passesInParts}
 use Rattle.ledger.specs.Ledger.{Ledger, nothing}
 use Rattle.ledger.specs.Orders.{OrderLaws}
+use Rattle.ledger.specs.Chains.{ChainLaws}
 use Rattle.calls_step.specs.Legal.{Turn, Each, Continues, Legal}
 use Rattle.calls_step.specs.Agree.{AgreesAll}
 use Rattle.calls_step.specs.Stands.{SoundLedger, StandsFor, LastLeft}
@@ -24,6 +25,7 @@ use Rattle.calls_step.specs.Request.{Request, Serves, RequestsTyped, Ser
 use Rattle.calls_step.specs.Stuck.{Unstuck}
 use Rattle.calls_step.specs.Blank.{Blankable, Blanks}
 use Rattle.calls_step.specs.Orders.{CoverTurns, CoversThenWrite}
+use Rattle.calls_step.specs.Chains.{AllButChains, SameAnswers}
 
 -- fields, lists and output are as they were
 pub record NothingWritten (h after : Input) : Type 0 where
@@ -51,6 +53,8 @@ pub record LedgerLaws (N : ℕ) : Type 0 where
       → (rs ss : List Range) (x y : ℕ) → CoverTurns N ts rs x → CoverTurns N us ss y → Perm rs ss → (closing N nothing (ps ++ ts) ≡ closing N nothing (qs ++ us)) × (x ≡ y)
   -- two beginnings come to one state if they are the same calls with the same lent lengths, whatever else they are handed
   pub one-state : (l : Ledger) (ws : List Request) (ps qs : List Turn) → Serves ws ps → Serves ws qs → closing N l ps ≡ closing N l qs
+  -- eight places for chains are enough (02, A10): the same calls answer the same, whatever more is lent for chains
+  pub eight-enough : (g g′ : Input) → g .mark ≡ Fresh → g′ .mark ≡ Fresh → (ts us : List Turn) → AllButChains ts us → Legal N g ts → Legal N g′ us → SameAnswers N ts us
   -- the same calls on blanked stores can be made, and give every answer that the list gave
   pub blanked-list : (g : Input) → g .mark ≡ Fresh → (ts : List Turn) → Legal N g ts → Each (λ t. Blankable (t .call)) ts → Blanks N g ts
   -- memory stands for the empty ledger while nothing is restored, and for the next state if it is handed as much as is lent of what was left last
@@ -85,4 +89,5 @@ pub record Proved : Type 0 where
   pub lists : LedgerLaws HIGHEST
   pub calls : StepLaws HIGHEST
   pub orders : OrderLaws HIGHEST
+  pub chains : ChainLaws HIGHEST
   pub decimals : DecimalLaws

@@ -1,3 +1,4 @@
 pub mod Granted
 pub mod Reordering
 pub mod Orders
+pub mod Chains

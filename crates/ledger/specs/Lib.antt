@@ -1,3 +1,4 @@
 pub mod Call
 pub mod Ledger
 pub mod Orders
+pub mod Chains
