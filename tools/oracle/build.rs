@@ -147,7 +147,7 @@ fn send(random: &mut Random) -> Send {
 }
 
 /// Of different gens, the last one current.
-fn chains(random: &mut Random, count: usize) -> Vec<Chain> {
+pub fn chains(random: &mut Random, count: usize) -> Vec<Chain> {
     let first = random.byte();
     (0..count)
         .map(|index| Chain {

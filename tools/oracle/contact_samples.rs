@@ -77,7 +77,7 @@ fn cards(empty: &Contact) -> Rows {
     ]
 }
 
-/// 17 and 18: which chains are current, and their gens.
+/// 54, 17 and 18: how many chains there are, which of them are current, and their gens.
 fn chains(empty: &Contact, full: &Contact) -> Vec<Contact> {
     let chain = |gen_, superseded_s| Chain {
         gen_,
@@ -88,11 +88,22 @@ fn chains(empty: &Contact, full: &Contact) -> Vec<Contact> {
         chains: chains.to_vec(),
         ..empty.clone()
     };
+    // So many superseded chains, of gens from 0 on, and others.
+    let older = |count: u8, others: &[Chain]| {
+        let older: Vec<Chain> = (0..count).map(|gen_| chain(gen_, Some(1))).collect();
+        [&older, others].concat()
+    };
     vec![
         with(&[chain(7, Some(1))]),
         with(&[chain(7, None), chain(8, None)]),
         with(&[chain(7, None), chain(7, None)]),
         with(&[chain(7, None), chain(7, Some(0))]),
+        with(&older(8, &[])),
+        with(&older(7, &[chain(8, None)])),
+        with(&older(9, &[])),
+        with(&older(7, &[chain(8, None), chain(9, None)])),
+        with(&older(6, &[chain(8, None), chain(9, None)])),
+        with(&older(8, &[chain(7, Some(1))])),
     ]
 }
 

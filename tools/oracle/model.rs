@@ -1,4 +1,4 @@
-//! A model of the four rows: questions 3 to 24 with their numbers, every field's value, and the veiled bytes.
+//! A model of the four rows: questions 3 to 24 and 54 with their numbers, every field's value, and the veiled bytes.
 //!
 //! How it was made: from document 01 (its layouts, questions and words on veiled bytes, read twice) and from two lists of
 //! how its open points are read, before its author had read the Rust's rows or any Rattle definition of one. It shares no
@@ -435,8 +435,9 @@ pub fn canonical(first: u64, ranges: &[Range]) -> bool {
 }
 
 impl Contact {
-    /// 17 to 24.
+    /// 54, and 17 to 24.
     fn consistent(&self) -> Result<(), u32> {
+        ask(questions::CHAIN_COUNT, self.chains.len() <= 8)?;
         let sent = self.sent_msgno;
         let current = self
             .chains

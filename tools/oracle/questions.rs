@@ -2,6 +2,14 @@
 //! DWARF 5. It shares no code with the Rust or the Rattle, and says which number a refusal has where the Rust only
 //! refuses. The rows themselves are in model.rs.
 
+/// What restore can answer, in the order of its questions.
+pub const OF_RESTORE: [u32; 34] = [
+    1, 2, 3, 4, 5, 6, 7, 8, 9, 10, 11, 12, 13, 14, 15, 16, 54, 17, 18, 19, 20, 21, 22, 23, 24, 25,
+    26, 27, 28, 29, 30, 31, 32, 33,
+];
+/// Refusals to which the Rust is not held: it has no limit of chains (02, A10), and overflows where 33 is a no.
+pub const NOT_IN_RUST: [u32; 2] = [CHAIN_COUNT, SLOT_BELOW];
+
 /// Is entry 0 a device, and every later kind 1 to 3 and not below the one before?
 pub const KINDS: u32 = 1;
 /// Does start + length stay within the run?
@@ -34,6 +42,8 @@ pub const CARRIED_COPIES: u32 = 14;
 pub const CARRIED_EXPIRY: u32 = 15;
 /// Nothing after the last field?
 pub const END: u32 = 16;
+/// At most eight chains? Asked between 16 and 17 (02, A10).
+pub const CHAIN_COUNT: u32 = 54;
 /// At most one chain not superseded?
 pub const ONE_CHAIN: u32 = 17;
 /// Chain gens distinct?

@@ -62,7 +62,7 @@ impl Row for model::Device {
 impl Row for model::Contact {
     const NAME: &'static str = "contact";
     const ANSWERS: &'static [u32] = &[
-        0, 3, 4, 5, 6, 7, 8, 9, 10, 16, 17, 18, 19, 20, 21, 22, 23, 24,
+        0, 3, 4, 5, 6, 7, 8, 9, 10, 16, 17, 18, 19, 20, 21, 22, 23, 24, 54,
     ];
 
     fn model(version: u32, row: &[u8]) -> Reading<Self> {

@@ -1,6 +1,7 @@
 //! Random lists of calls, made with the model's state in view, so that ranges meet what is covered, lent lengths are just
 //! long enough or one too short, and every refusal comes.
 
+use crate::build::{SMALL, Size};
 use crate::calls_model::Call;
 use crate::inputs::Random;
 use crate::model::{Contact, Range};
@@ -264,6 +265,9 @@ impl Builder<'_> {
     }
 
     fn some_row(&mut self) -> Line {
+        if self.one_in(12) {
+            return self.chained_row();
+        }
         let lines = self.runner.ledger.store().and_then(sheet_model::lines_of);
         match lines {
             Some(lines) if !lines.is_empty() => lines[self.random.below(lines.len())].clone(),
@@ -274,6 +278,19 @@ impl Builder<'_> {
                 version: 3,
                 blob: build::device(self.random).row(),
             },
+        }
+    }
+
+    /// A contact's row with as many chains as there may be, or one more.
+    fn chained_row(&mut self) -> Line {
+        let chains = self.random.pick(&[8, 9]);
+        let contact = build::contact(self.random, Size { chains, ..SMALL });
+        Line {
+            kind: CONTACT,
+            id: 1,
+            msgno: 0,
+            version: 3,
+            blob: contact.row(),
         }
     }
 }

@@ -1,6 +1,6 @@
 //! The unchanged Rust beside the model: what of a list of calls it has too.
 //!
-//! Granted or refused with 3 to 32, a store is one that `Device::restore` accepts or refuses. Of an open contact there are
+//! Granted or refused with 3 to 32, but for 54, a store is one that `Device::restore` accepts or refuses. Of an open contact there are
 //! `Received::contains`, `covers` and `insert`, `next_msgno` with 39, `row`, and the fields that the `S` line counts. The
 //! Rust has neither lent lengths nor a mark: where the model refuses by 34, 36, 37, 38 or 40 it is not asked.
 
@@ -55,8 +55,8 @@ impl Shadow {
     fn restore(&mut self, store: &Store) -> Vec<String> {
         let answer = store.restore();
         let number = store_model::number(&answer);
-        let left_aside = [questions::KINDS, questions::IN_RUN, questions::SLOT_BELOW];
-        if left_aside.contains(&number) {
+        let not_asked = [questions::KINDS, questions::IN_RUN];
+        if not_asked.contains(&number) || questions::NOT_IN_RUST.contains(&number) {
             return Vec::new();
         }
         if answer.is_ok() {

@@ -19,8 +19,6 @@ const LONG: Size = Size {
     skipped: 300,
     ..LARGE
 };
-/// The highest number that restore can answer.
-const NUMBERS: usize = 33;
 
 /// A granted store; one in so many is long, or as large as a program surely has room for.
 pub fn granted(random: &mut Random) -> Step {
@@ -56,7 +54,7 @@ pub fn refused(random: &mut Random) -> Step {
                 store
             }
             _ => {
-                let number = 1 + random.below(NUMBERS) as u32;
+                let number = random.pick(&questions::OF_RESTORE);
                 let seldom = number == questions::SKIPPED_COUNT && random.below(10) > 0;
                 let number = if seldom { questions::SKIPPED } else { number };
                 let plan = store_build::rich(random);
@@ -94,7 +92,9 @@ fn plan(random: &mut Random, long: bool) -> Plan {
         _ if long => LONG,
         0..16 => EMPTY,
         16..24 => SMALL,
-        24..39 => FULL,
+        24..36 => FULL,
+        // As many chains as there may be.
+        36..39 => Size { chains: 8, ..FULL },
         _ => MIDDLE,
     };
     let counts = Counts {

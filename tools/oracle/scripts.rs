@@ -152,8 +152,8 @@ const MUST: [(&str, &[&str]); 12] = [
     ("take", &["number", "no 34", "no 39"]),
     ("statement", &["S", "no 34", "no 40"]),
     ("write", &["row", "no 34", "no 40"]),
-    ("veil", &["row", "no 3", "no 4", "no 6", "no 40"]),
-    ("read", &["row", "no 3", "no 4", "no 36"]),
+    ("veil", &["row", "no 3", "no 4", "no 6", "no 40", "no 54"]),
+    ("read", &["row", "no 3", "no 4", "no 36", "no 54"]),
     ("state", &["none", "row"]),
 ];
 

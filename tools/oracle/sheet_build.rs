@@ -17,13 +17,13 @@ fn made(sheet: Vec<u8>, due: Option<String>) -> Made {
     Made { sheet, due }
 }
 
-/// Of a hundred, 28 are of granted stores, 32 of stores with one question broken, 26 with a line broken, 8 damaged, 2 with
+/// Of a hundred, 28 are of granted stores, 33 of stores with one question broken, 25 with a line broken, 8 damaged, 2 with
 /// the highest number of its width, and 4 at the limits.
 pub fn sheet(random: &mut Random, index: usize) -> Made {
     match index % 100 {
         0..28 => made(text(&granted(random)), None),
-        28..60 => refused(random, (index % 100 - 28) as u32 + 2),
-        60..86 => broken(random),
+        28..61 => refused(random, questions::OF_RESTORE[index % 100 - 27]),
+        61..86 => broken(random),
         86 | 87 => made(widest(random), None),
         88..96 => {
             let mut sheet = text(&granted(random));
@@ -47,7 +47,7 @@ fn granted(random: &mut Random) -> Vec<Line> {
     }
 }
 
-/// 1 and 3 to 33, each broken alone; a sheet cannot have 2. In the place of 2 stands 1.
+/// What restore can answer, each broken alone; a sheet cannot have 2. In the place of 2 stands 1.
 fn refused(random: &mut Random, number: u32) -> Made {
     let number = if number == questions::IN_RUN {
         questions::KINDS

@@ -2,11 +2,11 @@
 
 use crate::build::{self, EMPTY, FULL, Size};
 use crate::inputs::Random;
-use crate::model::{Contact, Device, Queued, Range};
+use crate::model::{self, Chain, Contact, Device, I, Queued, Range};
 use crate::sheet_model::{self, Line};
 use crate::store_build::{self, item};
 use crate::store_model::{CONTACT, COURIER, DEVICE, QUEUED};
-use crate::{cards, statement};
+use crate::{cards, sheets, statement};
 
 /// Fixed: the same keys every time.
 const SEED: u64 = 8;
@@ -197,6 +197,22 @@ pub fn port() -> Vec<Line> {
     lines(2, &[peer], &[(1, 2, false)], &[(7, None)])
 }
 
+/// The port's contact with so many chains of different gens, the last `current` of them not superseded.
+pub fn chained(count: usize, current: usize) -> Contact {
+    let row = &port()[1].blob;
+    let chain = |index: usize| Chain {
+        gen_: index as u8,
+        dir: I,
+        next: 1,
+        key: [7; 32],
+        superseded_s: (index + current < count).then_some(1),
+    };
+    Contact {
+        chains: (0..count).map(chain).collect(),
+        ..model::contact(3, row).answer.expect("the port's contact")
+    }
+}
+
 /// A contact that has sent and received nearly all numbers.
 pub fn last_numbers() -> Vec<Line> {
     let peer = Peer {
@@ -315,7 +331,7 @@ pub fn sheets() -> Vec<Named> {
 /// The port's store with one thing changed, which restore refuses.
 fn refused() -> impl Iterator<Item = (&'static str, Vec<Line>)> {
     type Change = fn(&mut Vec<Line>);
-    let changes: [(&str, Change); 8] = [
+    let changes: [(&str, Change); 9] = [
         ("refused-order", |lines| lines.swap(1, 2)),
         ("refused-version", |lines| lines[1].version = 2),
         ("refused-cut", |lines| lines[1].blob.truncate(100)),
@@ -327,6 +343,9 @@ fn refused() -> impl Iterator<Item = (&'static str, Vec<Line>)> {
             // A surrogate, where the name begins.
             let at = 3 + 16 + 48 + 16 + 2 + cards::NAME_LENGTH_AT + 1;
             lines[1].blob[at..at + 3].copy_from_slice(&[0xed, 0xa0, 0x80]);
+        }),
+        ("refused-chains", |lines| {
+            lines[1].blob = chained(9, 1).row()
         }),
         ("refused-unacked", |lines| lines[2].msgno = 3),
         ("refused-no-contact", |lines| lines[2].id = 0),
@@ -365,8 +384,7 @@ pub fn write(folder: &std::path::Path) -> std::io::Result<()> {
     for (name, sheet) in sheets() {
         let due = sheet_model::statement(sheet.as_bytes());
         let rust = statement::statement(sheet.as_bytes());
-        let same = due == rust || rust == "R,?,?\n" || due.starts_with("R,33,");
-        assert!(same, "{name}: {due} and {rust}");
+        assert!(sheets::same(&due, &rust), "{name}: {due} and {rust}");
         print!("{name}.sheet: {} bytes: {due}", sheet.len());
         std::fs::write(folder.join(format!("{name}.sheet")), &sheet)?;
         std::fs::write(folder.join(format!("{name}.statement")), due)?;

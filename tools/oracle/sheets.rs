@@ -3,6 +3,7 @@
 use crate::expired::Ways;
 use crate::inputs::Random;
 use crate::program::Program;
+use crate::questions;
 use crate::script_shrink;
 use crate::sheet_build::{self, Made};
 use crate::sheet_model;
@@ -77,13 +78,14 @@ impl Due {
         }
     }
 
-    /// Whether every answer came: granted, R with 1 and 3 to 33, X with 41 to 44.
+    /// Whether every answer came: granted, R with each number of restore but 2, X with 41 to 44.
     fn print(&self) -> bool {
         println!(
             "{} sheets, {} S lines: {:?}",
             self.sheets, self.lines, self.answers
         );
-        let refusals = (1..=33).filter(|number| *number != 2);
+        let refusals = questions::OF_RESTORE.into_iter();
+        let refusals = refusals.filter(|number| *number != questions::IN_RUN);
         let mut all: Vec<String> = refusals.map(|number| format!("R {number}")).collect();
         all.extend((41..=44).map(|number| format!("X {number}")));
         all.push("granted".into());
@@ -127,10 +129,11 @@ pub fn compare_rust(seed: u64, times: u64) -> bool {
     faults.is_empty() && all
 }
 
-/// The Rust refuses without number and place, and 33 is left out.
-fn same(model: &str, rust: &str) -> bool {
+/// The Rust refuses without number and place, and some refusals it is not held to.
+pub fn same(model: &str, rust: &str) -> bool {
     let unnumbered = model.starts_with("R,") && rust == "R,?,?\n";
-    model == rust || unnumbered || model.starts_with("R,33,")
+    let aside = |number: u32| model.starts_with(&format!("R,{number},"));
+    model == rust || unnumbered || questions::NOT_IN_RUST.into_iter().any(aside)
 }
 
 /// A sheet in some pieces, of a byte up to all of it.

@@ -1,14 +1,14 @@
 //! Stores in which a question is broken on purpose, and the place of the no that this makes.
 //!
 //! A plan must be one in which every question can be broken: see `store_build::rich`.
-//! Values are broken in the plan (17 to 33), rows and kinds in the items (1, 3 to 16), places in the laid store (2); so
+//! Values are broken in the plan (17 to 33, and 54), rows and kinds in the items (1, 3 to 16), places in the laid store (2); so
 //! several breaks are made in this order.
 
-use crate::build;
 use crate::inputs::Random;
 use crate::model::{Chain, Contact, Courier, I, R, Range, Skipped};
 use crate::store_build::{self, Item, Plan};
 use crate::store_model::{CONTACT, COURIER, DEVICE, Entry, QUEUED, Refusal, Store};
+use crate::{build, questions};
 
 /// Where the card's length stands in a contact row, and the card; in the card, the name's length and the name.
 const CARD_LENGTH_AT: usize = 3 + 16 + 48 + 16;
@@ -44,10 +44,10 @@ pub fn broken(random: &mut Random, mut plan: Plan, numbers: &[u32]) -> (Store, V
     (store, places)
 }
 
-/// 17 to 33.
+/// 17 to 33, and 54.
 fn in_plan(random: &mut Random, plan: &mut Plan, number: u32) -> usize {
     match number {
-        17..25 => {
+        17..25 | questions::CHAIN_COUNT => {
             let at = random.below(plan.contacts.len());
             in_contact(random, &mut plan.contacts[at].1, number);
             1 + at
@@ -58,10 +58,18 @@ fn in_plan(random: &mut Random, plan: &mut Plan, number: u32) -> usize {
     }
 }
 
-/// 17 to 24: of a contact in which all before holds.
+/// 17 to 24, and 54: of a contact in which all before holds.
 fn in_contact(random: &mut Random, contact: &mut Contact, number: u32) {
     let sent = contact.sent_msgno;
     match number {
+        questions::CHAIN_COUNT => {
+            let count = random.pick(&[9, 10]);
+            contact.chains = build::chains(random, count);
+            if random.flag() {
+                // What is asked later is broken too.
+                contact.chains[0].superseded_s = None;
+            }
+        }
         17 => contact.chains = [None, None].map(|at| chain(random, at)).to_vec(),
         18 => {
             let current = random.flag().then(|| random.next());

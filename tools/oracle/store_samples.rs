@@ -448,7 +448,7 @@ fn contact_rows(shelf: &Shelf) -> Vec<Store> {
     rows.map(|row| with(&[shelf.device(1), row])).to_vec()
 }
 
-/// 17 to 24, but for 20.
+/// 54, and 17 to 24 but for 20.
 fn consistent(shelf: &Shelf) -> Vec<Store> {
     let contact = || shelf.contact.clone();
     let chain = |gen_, superseded_s| Chain {
@@ -465,7 +465,7 @@ fn consistent(shelf: &Shelf) -> Vec<Store> {
         key: [8; 32],
         created_s: 5,
     };
-    let mut broken: [Contact; 10] = std::array::from_fn(|_| contact());
+    let mut broken: [Contact; 11] = std::array::from_fn(|_| contact());
     broken[0].chains = vec![chain(3, None), chain(3, None)];
     broken[1].chains = vec![chain(3, None), chain(3, Some(1))];
     broken[2].skipped = vec![skipped(I), skipped(R)];
@@ -476,6 +476,7 @@ fn consistent(shelf: &Shelf) -> Vec<Store> {
     broken[7].above = vec![(4, 4), (5, 5)];
     broken[8].expired = vec![(1, 5)];
     broken[9].expired = vec![(1, 1), (2, 2)];
+    broken[10].chains = (0..9).map(|gen_| chain(gen_, None)).collect();
     broken.map(|contact| shelf.of_contact(&contact)).to_vec()
 }
 

@@ -47,14 +47,14 @@ entry kind id msgno start len = record { id = id; start = start; len = len; msgn
 abbrev pub deviceOf : (d next : ℕ) → List ℕ
 deviceOf d next = replicate 4 0 ++ replicate 32 d ++ (replicate 7 0 ++ (next ∷ 0 ∷ 1 ∷ 1 ∷ 0 ∷ 60 ∷ []))
 
-abbrev pub numbered : (d sent acked contiguous : ℕ) → (above expired : List value.Range) → value.Contact
-numbered d sent acked contiguous above expired = record {
+abbrev pub holding : (name : List ℕ) → (chains : List value.Chain) → (d sent acked contiguous : ℕ) → (above expired : List value.Range) → value.Contact
+holding name chains d sent acked contiguous above expired = record {
   role = A;
   verification = Verified;
   «pair_id» = replicate 16 1;
   th = replicate 48 2;
   «nonce_b» = replicate 16 3;
-  card = record { caps = 1; «beacon_day» = 7; «beacon_key» = replicate 32 (4 + d); name = []; «static_ek» = none };
+  card = record { caps = 1; «beacon_day» = 7; «beacon_key» = replicate 32 (4 + d); name = name; «static_ek» = none };
   «door_a_to_b» = replicate 32 (5 + d);
   «door_b_to_a» = replicate 32 (6 + d);
   «route_key» = replicate 32 (7 + d);
@@ -63,7 +63,7 @@ numbered d sent acked contiguous above expired = record {
   «sent_msgno» = sent;
   pending = none;
   send = none;
-  chains = [];
+  chains = chains;
   skipped = [];
   «peer_acked» = acked;
   «peer_read» = 0;
@@ -73,6 +73,10 @@ numbered d sent acked contiguous above expired = record {
   unacked = 3 ∷ [];
   expired = expired;
 }
+
+-- without a name and chains
+abbrev pub numbered : (d sent acked contiguous : ℕ) → (above expired : List value.Range) → value.Contact
+numbered = holding [] []
 
 -- acked 1, expired 1..1
 abbrev pub veiledBy : (d sent contiguous : ℕ) → (above : List value.Range) → value.Contact

@@ -30,6 +30,7 @@ pub mod Replay
 pub mod Answers
 pub mod Expired
 pub mod Added
+pub mod EightChains
 pub mod TwoContacts
 pub mod TwoStores
 pub mod Lending

@@ -1,4 +1,4 @@
--- A contact row, part by part: what the answers of the parts' readers say of the whole row, up to the questions 17 to 24. Every function that reads a row so cites this.
+-- A contact row, part by part: what the answers of the parts' readers say of the whole row, up to the questions 54 and 17 to 24. Every function that reads a row so cites this.
 -- Assumes nothing.
 use Prim.Native.Nat.{ℕ, _+_, _<_, _≤_}
 use mathlib.Core.List.{List}
@@ -193,7 +193,7 @@ module _ {version : ℕ} {row : List ℕ} where
         says = ap (λ (x : Read value.Contact). answer x) (all-asked (pairedFrom row p) (keysFrom row k) (chainedFrom row c) (numbersFrom row n) (after-numbers all) past);
       }
 
--- ---- the answer to 17 to 24 is the row's
+-- ---- the answer to 54 and 17 to 24 is the row's
 module _ {version : ℕ} {row : List ℕ} {at : ContactAt} (w : Whole version row at) (r : Verdict) (asked : refusalIn r ≡ inconsistency (contactFrom row at)) where
   pub asked-last : {known : Verdict} → r ≡ known → readRow (contact version) row ≡ answer (said (refusalIn known) (contactFrom row at) (drop (w .end) row))
   asked-last {known} e =

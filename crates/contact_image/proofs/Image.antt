@@ -1,4 +1,4 @@
--- Reading the row that would be written: part by part, to its first refusal or to the questions 17 to 24.
+-- Reading the row that would be written: part by part, to its first refusal or to the questions 54 and 17 to 24.
 -- Assumes nothing.
 use Prim.Native.Nat.{ℕ, _^_, _<_}
 use mathlib.Core.List.{List, [], _++_, append-assoc, append-nil}

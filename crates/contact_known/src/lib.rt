@@ -1,5 +1,5 @@
 // What a queued row is asked about, taken from the row of its contact once that row is known to be accepted. Card, skipped keys and ranges are stepped over by
-// their lengths; chains are read one by one, since each has a flag. Neither the card's questions nor 17 to 24 are asked again.
+// their lengths; chains are read one by one, since each has a flag. Neither the card's questions nor 54 and 17 to 24 are asked again.
 use contact_lists::ListAt;
 use contact_lists::ListField;
 use contact_lists::SKIPPED_BYTES;

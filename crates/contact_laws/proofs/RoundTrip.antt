@@ -107,7 +107,7 @@ module _ (c : Contact) (l : Lists) (ty : ContactTyped c) (lt : ListsTyped l) whe
     refused-not : {q : ℕ} → parse (contact 3) (image c l) ≡ refused q → ⊥
     refused-not r = accepted≢ (sym e ∙ ap layout.answer r)
 
-    -- ... and none of 17 to 24 is a no
+    -- ... and none of 54 and 17 to 24 is a no
     abbrev Granted : Type 0
     Granted = (readRow (contact 3) (image c l) ≡ accepted (contactIn c l)) × (inconsistency (contactIn c l) ≡ none)
 

@@ -136,7 +136,7 @@ module _ (c : Contact) (ty : ContactTyped c) (l : Lists) (lt : ListsTyped l) whe
         pub bad-skipped : {q : ℕ} → sizeOf (times (group skipped) (c .skipped)) (readPlaces 46 (group skipped) (c .skipped) (l .skipped)) ≡ refuses q → askedContact c l ≡ refuses q
         bad-skipped {q} e = asks-row ∙ asked-no (contact 3) (image c l) (skipped-refused c ty l all lt granted _ _ (chains .reads) q (size-refused (times (group skipped) (c .skipped)) _ e))
 
-        -- ---- 17 to 24
+        -- ---- 54 and 17 to 24
         module _ (skips : Granted 46 (group skipped) (c .skipped) (l .skipped)) where
           row-read : parse (contact 3) (image c l) ≡ said (inconsistency (contactIn c l)) (contactIn c l) []
           row-read = all-read c ty l all lt granted _ _ (chains .reads) _ _ (skips .reads) (contactIn c l) refl

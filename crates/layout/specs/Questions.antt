@@ -1,4 +1,5 @@
 -- The numbers of the questions of documents 01 (1 to 44) and 02 (45 to 58), by name: what is answered where the answer to the question is no.
+-- 54 is asked between 16 and 17, so it belongs to every range of numbers that spans this place: 3 to 24, 17 to 24, 1 to 33.
 -- `src/question.rt` has the same names for code. Assumes nothing.
 use Prim.Native.Nat.{ℕ}
 
@@ -214,7 +215,7 @@ abbrev pub «SLOT_LOST» : ℕ
 abbrev pub WINDOW : ℕ
 WINDOW = 53
 
--- at most eight chains
+-- at most eight chains; asked before 17
 abbrev pub «CHAINS_COUNT» : ℕ
 «CHAINS_COUNT» = 54
 

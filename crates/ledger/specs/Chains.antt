@@ -1,7 +1,6 @@
 -- Eight chains, document 02's A10, by the ledger alone: what the limit is for. A list with eight places for chains always does, so handsets can lend one of fixed length.
 -- N is the highest message number. Assumes nothing.
 use Prim.Native.Nat.{ℕ, _*_, _/_, _≤_}
-use mathlib.Core.List.{List}
 use mathlib.Core.Bool.{true}
 use mathlib.Core.Path.{_≡_}
 use lib.ListN.{length}

@@ -1,4 +1,4 @@
-// Restore: questions 1 to 33 of a run of bytes and an entry for each row. It writes to nothing.
+// Restore: questions 1 to 33 and 54 of a run of bytes and an entry for each row. It writes to nothing.
 use layout::question;
 use restore_across::Across;
 use store::Asked;
@@ -339,7 +339,7 @@ fn most_if(
     after
 }
 
-// Questions 1 to 33, with the row of a contact left out, or with none.
+// Questions 1 to 33 and 54, with the row of a contact left out, or with none.
 pub fn questions(run: &[u8], entries: &[Entry], omitted: Omitted) -> Restored
     ensures { λ r. ⌜ r ≡ questioned (now (run .entry)) (now (entries .entry)) omitted ⌝ }
 {

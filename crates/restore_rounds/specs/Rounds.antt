@@ -26,7 +26,7 @@ abbrev pub follows : (i before kind : ℕ) → Bool
 follows zero before kind = eqb kind DEVICE
 follows (suc i) before kind = leb CONTACT kind && leb kind COURIER && leb before kind
 
--- a round goes by its first question: 1, 2, or 3 for 3 to 24
+-- a round goes by its first question: 1, 2, or 3 for 3 to 24 and 54
 abbrev pub roundOf : ℕ → (run : List ℕ) → List Entry → Omitted → Round
 roundOf q run es omitted = cond (eqb q ORDER) (order (storeOf run es)) (cond (eqb q BOUNDS) (bounds (storeOf run es)) (readOmitted run es (isOmitted omitted)))
 

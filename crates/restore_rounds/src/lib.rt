@@ -1,4 +1,4 @@
-// One turn of the rounds that ask each entry by itself: 1, 2, and 3 to 24.
+// One turn of the rounds that ask each entry by itself: 1, 2, and 3 to 24 and 54.
 use courier::CourierCheck;
 use device::DeviceCheck;
 use layout::question;
@@ -50,7 +50,7 @@ fn courier_verdict(version: u32, row: &[u8]) -> Verdict
     Verdict::Refused(q)
 }
 
-// 3 to 24, of a row of this kind.
+// 3 to 24 and 54, of a row of this kind.
 fn row_verdict(kind: u32, version: u32, row: &[u8]) -> Verdict
     ensures { λ r. ⌜ verdictIn r ≡ refusalIn (readRow (layoutOf (kindOf kind) version) (now (row .entry))) ⌝ }
 {

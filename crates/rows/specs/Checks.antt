@@ -1,5 +1,4 @@
--- The questions that are asked of values, in the order in which they are asked: what is a yes. Each has its number before it, document 01's or (54) document 02's. `leb` is at most, `ltb` below,
--- `eqb` equal.
+-- The questions that are asked of values: what is a yes. Each has its number before it, document 01's, or 02's for 54. `leb` is at most, `ltb` below, `eqb` equal.
 -- Assumes nothing.
 use Prim.Native.Nat.{ℕ, suc, _+_, _/_, _%_}
 use mathlib.Core.List.{List, [], _∷_, map}

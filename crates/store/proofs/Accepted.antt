@@ -58,7 +58,7 @@ module _ (es : List Entry) (kinds : (i : ℕ) → suc i < length es → Follows 
           absurd (omega (arith, l, ki, kj, ap (λ (m : ℕ). entryAt es m .kind) x))
       go (no a) = omega arith
 
--- ---- 3 to 24
+-- ---- 3 to 24 and 54
 read-value : (k : Kind) (a : Answer (ValueOf k)) → refusalIn a ≡ none → (v : ValueOf k) × (a ≡ accepted v)
 read-value k (accepted v) e = (v, refl)
 read-value k (refusedBy q) e = absurd (some≢none e)

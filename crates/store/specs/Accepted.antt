@@ -46,8 +46,8 @@ module _ (es : List Entry) (look : Entry → Seen) where
     pub slots-new : (i j : ℕ) → i < length es → j < i → Twice es COURIER j i → ⊥
     pub below-last : (i : ℕ) → i < length es → entryAt es i .kind ≡ COURIER → entryAt es i .id < lastSlot
 
--- ---- 3 to 24: the entry's row is the print of a value that has its fields' widths and meets its kind's questions, and x is what is seen of it
--- 7 to 9, 11, 13 to 15 and 17 to 24 (rows/specs/Meets.antt); of an unknown kind there is no row (6)
+-- ---- 3 to 24 and 54: the entry's row is the print of a value that has its fields' widths and meets its kind's questions, and x is what is seen of it
+-- 7 to 9, 11, 13 to 15, 54 and 17 to 24 (rows/specs/Meets.antt); of an unknown kind there is no row (6)
 abbrev pub MeetsOf : (k : Kind) → ValueOf k → Type 0
 MeetsOf device d = MeetsDevice d
 MeetsOf contact c = MeetsContact c

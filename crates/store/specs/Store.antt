@@ -1,4 +1,4 @@
--- Restore: the questions of document 01 from 1 to 33, in its order, and what a granted restore finds.
+-- Restore: the questions of document 01 from 1 to 33, with 54 of document 02, in their order, and what a granted restore finds.
 -- The RUN is document 01's one run of bytes; a store is the run and its entries. Assumes nothing.
 use Prim.Native.Nat.{ℕ, zero, suc, _+_}
 use mathlib.Core.List.{List, [], _∷_}
@@ -134,7 +134,7 @@ module _ (s : Store) where
   abbrev pub bounds : Round
   bounds i = firstNo (ask BOUNDS (within (s .size) (entryAt (s .entries) i)) ∷ [])
 
-  -- 3 to 24, row by row
+  -- 3 to 24 and 54, row by row
   abbrev pub read : Round
   read i = refusalIn (answerOf s (entryAt (s .entries) i))
 

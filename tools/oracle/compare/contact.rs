@@ -29,6 +29,7 @@ pub fn run(seed: u64, times: usize) -> bool {
     cards(&mut random, &mut compare);
     counts(&mut random, &mut compare);
     chains(&mut random, &mut compare);
+    many_chains(&mut random, &mut compare);
     skipped(&mut random, &mut compare);
     numbers(&mut random, &mut compare);
     above(&mut random, &mut compare);
@@ -148,6 +149,35 @@ fn chains(random: &mut Random, compare: &mut Compare<Contact>) {
             ..contact.clone()
         };
         compare.visit(&contact.row());
+    }
+}
+
+/// 54, before 17 and 18: seven to ten chains, the last one current, none, the last two, or with one gen twice; each row cut at
+/// every length behind the count, longer by a byte, and with a flag that is none in a chain.
+fn many_chains(random: &mut Random, compare: &mut Compare<Contact>) {
+    for size in [SMALL, FULL] {
+        for count in 7..=10 {
+            let contact = build::contact(
+                random,
+                Size {
+                    chains: count,
+                    ..size
+                },
+            );
+            let mut variants = vec![contact.clone(); 4];
+            variants[1].chains[count - 1].superseded_s = Some(random.next());
+            variants[2].chains[count - 2].superseded_s = None;
+            variants[3].chains[count - 1].gen_ = contact.chains[0].gen_;
+            for contact in variants {
+                let row = contact.row();
+                let at = count_places(&contact)[0];
+                compare.visit(&row);
+                compare.visit(&[&row[..], &[0]].concat());
+                (at..row.len()).for_each(|size| compare.visit(&row[..size]));
+                let flags = at + 2 + 42;
+                compare.set(&row, flags..flags + 1, &[2]);
+            }
+        }
     }
 }
 
@@ -296,7 +326,10 @@ fn generated(random: &mut Random) -> Vec<u8> {
         name: random.below(49),
         pending: random.flag(),
         send: random.flag(),
-        chains: random.below(4),
+        chains: match random.below(8) {
+            0 => 7 + random.below(3),
+            _ => random.below(4),
+        },
         skipped: random.below(6),
         above: random.below(5),
         unacked: random.below(5),
@@ -313,7 +346,7 @@ fn generated(random: &mut Random) -> Vec<u8> {
     row
 }
 
-/// Something that one of 17 to 24 may mind.
+/// Something that one of 17 to 24 may mind; 54 is left to how many chains there are.
 fn broken(random: &mut Random, contact: &mut Contact) {
     match random.below(8) {
         0 => contact.chains.iter_mut().for_each(|chain| {

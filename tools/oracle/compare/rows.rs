@@ -18,6 +18,9 @@ const SHOWN: usize = 1600;
 pub struct Compare<T> {
     store: Store,
     tally: Tally,
+    /// Rows that the Rust is not held to, and how many of these it accepts.
+    aside: u64,
+    aside_accepted: u64,
     kind: PhantomData<T>,
 }
 
@@ -26,6 +29,8 @@ impl<T: Row> Compare<T> {
         Self {
             store: rows::store(random),
             tally: Tally::new(T::NAME, "rows"),
+            aside: 0,
+            aside_accepted: 0,
             kind: PhantomData,
         }
     }
@@ -39,7 +44,13 @@ impl<T: Row> Compare<T> {
     pub fn versioned(&mut self, version: u32, row: &[u8]) {
         let reading = T::model(version, row);
         let due = number(&reading);
-        let mut faults = self.rust_faults(version, row, &reading);
+        let mut faults = model_faults(version, row, &reading);
+        if questions::NOT_IN_RUST.contains(&due) {
+            self.aside += 1;
+            self.aside_accepted += u64::from(T::rust(&self.store, version, row).is_some());
+        } else {
+            faults.extend(self.rust_faults(version, row, &reading));
+        }
         faults.extend(rattle_faults("row", T::rattle, version, row, row, due));
         let veiled = model::blanked(row, &reading.veiled);
         faults.extend(rattle_faults(
@@ -58,7 +69,7 @@ impl<T: Row> Compare<T> {
         });
     }
 
-    /// The Rust accepts what the model does, with the same value, and writes the same row; and neither tells a row
+    /// The Rust accepts what the model does, with the same value, and writes the same row; and it does not tell a row
     /// from the one with its veiled bytes zero.
     fn rust_faults(&self, version: u32, row: &[u8], reading: &Reading<T>) -> Vec<String> {
         let mut faults = Vec::new();
@@ -75,25 +86,26 @@ impl<T: Row> Compare<T> {
                 faults.push("Rust writes another row".into());
             }
         }
-        if let Ok(value) = &reading.answer
-            && value.written() != row
-        {
-            faults.push("the model writes another row".into());
-        }
         let blanked = model::blanked(row, &reading.veiled);
-        let blind = T::model(version, &blanked);
-        if number(&blind) != number(reading) || blind.veiled != reading.veiled {
-            faults.push("the model minds a veiled byte".into());
-        }
         if T::rust(&self.store, version, &blanked).is_some() != rust.is_some() {
             faults.push("Rust minds a veiled byte".into());
         }
         faults
     }
 
-    /// Prints what was counted; whether nothing differed and every answer was due at least once.
+    /// Prints what was counted; whether nothing differed, every answer was due at least once, and the Rust accepts some of the
+    /// rows that it is not held to.
     pub fn finish(self) -> bool {
-        self.tally.print_all(T::ANSWERS)
+        let same = self.tally.print_all(T::ANSWERS);
+        if self.aside > 0 {
+            println!(
+                "{}: {} rows that the Rust is not held to, of which it accepts {}",
+                T::NAME,
+                self.aside,
+                self.aside_accepted
+            );
+        }
+        same && (self.aside == 0 || self.aside_accepted > 0)
     }
 
     /// The row, longer by a byte or two, of other versions, and cut at every length.
@@ -133,6 +145,21 @@ impl<T: Row> Compare<T> {
             self.set(row, at..at + 1, &values);
         }
     }
+}
+
+/// The model writes an accepted row again, and does not tell a row from the one with its veiled bytes zero.
+fn model_faults<T: Row>(version: u32, row: &[u8], reading: &Reading<T>) -> Vec<String> {
+    let mut faults = Vec::new();
+    if let Ok(value) = &reading.answer
+        && value.written() != row
+    {
+        faults.push("the model writes another row".into());
+    }
+    let blind = T::model(version, &model::blanked(row, &reading.veiled));
+    if number(&blind) != number(reading) || blind.veiled != reading.veiled {
+        faults.push("the model minds a veiled byte".into());
+    }
+    faults
 }
 
 type Copy = fn(u32, &[u8], &mut [u8]) -> u32;

@@ -14,8 +14,8 @@ use crate::{questions, rattle, store_break, store_damage};
 /// Random stores for each of `times`.
 const GENERATED: usize = 60_000;
 const HUNDRED: usize = 100;
-/// The highest number that restore can answer.
-const NUMBERS: u32 = 33;
+/// How many numbers restore can answer.
+const NUMBERS: usize = questions::OF_RESTORE.len();
 /// Every so many random stores one is large.
 const LARGE_EVERY: usize = 500;
 const LARGE: Counts = Counts {
@@ -46,19 +46,20 @@ pub fn run(seed: u64, times: usize) -> bool {
     compare.finish()
 }
 
-/// Of a hundred, 33 have one question broken on purpose, each another, and 25 several; 21 are valid, and 21 damaged.
+/// Of a hundred, 34 have one question broken on purpose, each another, and 25 several; 20 are valid, and 21 damaged.
 fn generated(random: &mut Random, index: usize) -> (Store, Option<Refusal>) {
     if index % LARGE_EVERY == LARGE_EVERY - 1 {
         return large(random);
     }
-    let number = (index % HUNDRED) as u32 + 1;
-    match number {
-        1..=NUMBERS => {
+    let place = index % HUNDRED;
+    match place {
+        0..NUMBERS => {
+            let number = questions::OF_RESTORE[place];
             let plan = store_build::rich(random);
             let (store, refusal) = store_break::aimed(random, plan, number);
             (store, Some(refusal))
         }
-        34..59 => {
+        NUMBERS..59 => {
             let count = 2 + random.below(3);
             let numbers: Vec<u32> = (0..count).map(|_| several(random)).collect();
             let plan = store_build::rich(random);
@@ -72,7 +73,7 @@ fn generated(random: &mut Random, index: usize) -> (Store, Option<Refusal>) {
             let plan = store_build::any(random);
             let items = plan.items(random);
             let mut store = store_build::laid(random, items);
-            if number >= 80 {
+            if place >= 79 {
                 store_damage::damaged(random, &mut store);
             }
             (store, None)
@@ -80,12 +81,12 @@ fn generated(random: &mut Random, index: usize) -> (Store, Option<Refusal>) {
     }
 }
 
-/// A number to break beside others: those that are asked late more often, and 20, which is long, seldom.
+/// A number to break beside others: those that are asked late more often, and 20, which is long, never.
 fn several(random: &mut Random) -> u32 {
     let number = match random.below(3) {
-        0 => 1 + random.below(24),
-        _ => 25 + random.below(9),
-    } as u32;
+        0 => questions::OF_RESTORE[random.below(25)],
+        _ => 25 + random.below(9) as u32,
+    };
     if number == questions::SKIPPED_COUNT {
         questions::SKIPPED
     } else {
@@ -157,7 +158,9 @@ impl Compare {
 
     /// Prints what was counted; whether nothing differed and every answer was due at least once.
     fn finish(self) -> bool {
-        let all: Vec<u32> = (0..=NUMBERS).collect();
+        let mut all = questions::OF_RESTORE.to_vec();
+        all.push(0);
+        all.sort();
         let same = self.tally.print_all(&all);
         println!(
             "stores: {} accepted; {} with a refusal known beforehand; the Rust was asked about {} and accepts {}",
@@ -214,7 +217,7 @@ fn rattle_faults(store: &Store, due: &Answer) -> Vec<String> {
 }
 
 /// Whether the Rust accepts what it can be asked about, and what differs: acceptance, and on acceptance every row written
-/// again, next_contact and next_slot. 33 is left out.
+/// again, next_contact and next_slot. 33 and 54 are left out.
 fn rust_faults(store: &Store, due: &Answer) -> (Option<bool>, Vec<String>) {
     let mut fit = None;
     let mut due = *due;
@@ -225,7 +228,7 @@ fn rust_faults(store: &Store, due: &Answer) -> (Option<bool>, Vec<String>) {
             None => return (None, Vec::new()),
         }
     }
-    if store_model::number(&due) == questions::SLOT_BELOW {
+    if questions::NOT_IN_RUST.contains(&store_model::number(&due)) {
         return (None, Vec::new());
     }
     let rows = Rows::of(fit.as_ref().unwrap_or(store));

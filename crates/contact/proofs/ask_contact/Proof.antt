@@ -1,4 +1,4 @@
--- `contact::ask_contact` meets its contract: the parts' answers, the row's end and the questions 17 to 24, as in check_contact.
+-- `contact::ask_contact` meets its contract: the parts' answers, the row's end and the questions 54 and 17 to 24, as in check_contact.
 use Prim.Native.Nat.{ℕ}
 use mathlib.Core.List.{List}
 use mathlib.Core.Path.{_≡_, refl, sym, ap, _∙_}
@@ -20,7 +20,7 @@ use Rattle.contact.proofs.ask_contact.Tie as tie
 abbrev says : Answer Contact → Verdict
 says x = verdictOf x
 
--- where the questions 17 to 24 are the last, their verdict is the row's
+-- where the questions 54 and 17 to 24 are the last, their verdict is the row's
 last : (r : Verdict) (v : Contact) (behind : List ℕ) → r ≡ says (answer (said (refusalIn r) v behind))
 last Accepted v behind = refl
 last (Refused q) v behind = refl

@@ -1,4 +1,4 @@
--- `contact::check_contact` meets its contract: the parts' answers, the row's end and the questions 17 to 24.
+-- `contact::check_contact` meets its contract: the parts' answers, the row's end and the questions 54 and 17 to 24.
 use mathlib.Core.Path.{sym, ap, _∙_}
 use borrow.Author.Needs.{needs}
 use borrow.Author.Tests.{eq-eqb, ne-eqb}

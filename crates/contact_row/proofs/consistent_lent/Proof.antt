@@ -1,4 +1,4 @@
--- `contact_row::consistent_lent` meets its contract: 17 to 20, and then 21 to 24.
+-- `contact_row::consistent_lent` meets its contract: 54 and 17 to 20, and then 21 to 24.
 use borrow.Author.Needs.{needs}
 use Rattle.layout.proofs.At.{learn}
 use Rattle.contact.specs.Consistent.{refusalIn}

@@ -1,4 +1,4 @@
--- `contact_row::contact_size` meets its contract: 36, the card, the places, 17 to 24, and then the length.
+-- `contact_row::contact_size` meets its contract: 36, the card, the places, 54 and 17 to 24, and then the length.
 use Prim.Native.Nat.{ℕ}
 use mathlib.Core.Bool.{true}
 use mathlib.Core.Path.{_≡_, sym, ap, _∙_}
