@@ -1,4 +1,4 @@
-// One turn of the rounds that ask each entry by itself: 1, 2, and 3 to 24 and 54.
+// One turn of the rounds that ask each entry by itself: 1, 2, and the round of 3 to 24 and 54.
 use courier::CourierCheck;
 use device::DeviceCheck;
 use layout::question;
