@@ -1,5 +1,5 @@
--- What the values of a row have to meet, as statements in which no question comes first: 7 to 9, 11, 13 to 15 and 17 to 24 of document 01, and 54 of 02 before 17, in their order
--- and with its numbers; hold them beside it. (3 is the version's; the others are asked of bytes, and the bytes of a printed value pass them.)
+-- What the values of a row have to meet, as statements in which no question comes first: 7 to 9, 11, 13 to 15 and 17 to 24 of document 01, with 54 of document 02 before 17. They stand in the
+-- order of the questions and have their numbers: hold them beside the documents. (3 is the version's; the others are asked of bytes, and the bytes of a printed value pass them.)
 -- They are proved to be the questions that a layout asks one after the other, which code is held to (`MeetsLaws`, both directions). Assumes nothing.
 use Prim.Native.Nat.{ℕ, suc, _+_, _≤_, _<_}
 use mathlib.Core.List.{List, []}
