@@ -3,21 +3,20 @@
 use Prim.Native.Nat.{ℕ}
 use mathlib.Core.List.{List}
 use mathlib.Core.Bool.{Bool, true, false, _&&_}
-use mathlib.Core.Option.{none}
 use lib.ListN.{length, take}
 use Rattle.layout.specs.Write.{Written, wrote, refuses}
 use Rattle.contact.specs.Contact.{Lists}
 use Rattle.contact.specs.declared.Contact.{Contact}
 use Rattle.contact_image.specs.Row.{askedContact}
 use Rattle.store.specs.declared.Entry.{Entry}
-use Rattle.store.specs.Kinds.{CONTACT, Seen}
+use Rattle.store.specs.Kinds.{CONTACT, Seen, contactSight}
 use Rattle.store.specs.Store.{isOf, before, going}
 use Rattle.store.specs.Omitted.{askedOmitted}
 use Rattle.calls_step.specs.Input.{Input}
 
 -- what the questions across rows look at in an opened contact
 abbrev pub sightOf : Contact → Lists → Seen
-sightOf c l = record { «next_contact» = 0; «sent_msgno» = c .«sent_msgno»; unacked = take (c .unacked) (l .unacked); depositor = none }
+sightOf c l = contactSight (c .«sent_msgno») (take (c .unacked) (l .unacked))
 
 -- contact k is in the store, and with its row left out and x seen of it every question is a yes
 abbrev pub passesOmitted : (run : List ℕ) → List Entry → (contact : ℕ) → Seen → Bool

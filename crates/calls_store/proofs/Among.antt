@@ -14,7 +14,7 @@ use Rattle.store.specs.declared.Entry.{Entry}
 use Rattle.store.specs.declared.Asked.{Asked}
 use Rattle.store.specs.declared.Asked.the-variants.{Going, Refused}
 use Rattle.store.specs.Rounds.{ask, firstNo, Round, turns, rounds}
-use Rattle.store.specs.Kinds.{CONTACT, QUEUED, COURIER, Kind, device, contact, queued, courier, unknown, kindOf, Seen}
+use Rattle.store.specs.Kinds.{CONTACT, QUEUED, COURIER, Kind, device, contact, queued, courier, unknown, kindOf, Seen, contactSight}
 use Rattle.store.specs.Store.{storeOf, entryAt, isOf, seen, before, contactBefore, nextIn, lastSlot, lowDepositor, acrossAs, order, bounds, begun, going}
 use Rattle.store.specs.Omitted.{readOmitted, seenOmitted, acrossOmitted, askedOmitted}
 use Rattle.store.proofs.Rounds.{turns-refused, granted-quiet, quiet-granted}
@@ -51,7 +51,7 @@ going-is a e = subst (λ (x : Asked). T (going x)) (sym e) tt
 module _ (run : List ℕ) (es : List Entry) (k sent : ℕ) where
   -- what is seen of contact k, with these unacked numbers; and of any entry
   abbrev pub sight : List ℕ → Seen
-  sight ns = record { «next_contact» = 0; «sent_msgno» = sent; unacked = ns; depositor = none }
+  sight ns = contactSight sent ns
 
   abbrev look : List ℕ → Entry → Seen
   look ns = seenOmitted run es (isOf CONTACT k) (sight ns)

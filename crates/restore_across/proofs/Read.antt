@@ -19,7 +19,7 @@ use Rattle.rows.specs.Rows as rows
 use Rattle.rows.proofs.Proved.{proved}
 use Rattle.contact_lists.specs.Lists as lists
 use Rattle.contact_lists.proofs.Ends.{none-left}
-use Rattle.store.specs.Kinds.{contact, seenOf, refusalIn}
+use Rattle.store.specs.Kinds.{contact, contactSight, seenOf, refusalIn}
 use Rattle.store.proofs.Rounds.{some≢none}
 use Rattle.contact.specs.Check.{contactAt, checked, contactFrom, Offsets}
 use Rattle.contact.specs.declared.ContactAt.{ContactAt}
@@ -75,7 +75,7 @@ found version row at by e p = (
 )
 
 -- ---- no unacked numbers
-pub bare : (row : List ℕ) (sent : ℕ) → OwnerStands (record { «next_contact» = 0; «sent_msgno» = sent; unacked = []; depositor = none }) row (record { unacked = 0; count = 0; «sent_msgno» = sent })
+pub bare : (row : List ℕ) (sent : ℕ) → OwnerStands (contactSight sent []) row (record { unacked = 0; count = 0; «sent_msgno» = sent })
 unfolding lists.items form.readMany
 bare row sent = (
   refl,

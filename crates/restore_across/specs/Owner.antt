@@ -17,7 +17,7 @@ use Rattle.contact.specs.Check.{contactAt}
 use Rattle.contact.specs.declared.ContactAt.{ContactAt}
 use Rattle.store.specs.declared.Entry.{Entry}
 use Rattle.store.specs.declared.Omitted.{Omitted}
-use Rattle.store.specs.Kinds.{contact, Seen, nothing, seenOf, refusalIn}
+use Rattle.store.specs.Kinds.{contact, Seen, nothing, contactSight, seenOf, refusalIn}
 use Rattle.store.specs.Store.{partOf}
 use Rattle.store.specs.Omitted.{isOmitted, omittedSeen}
 use Rattle.restore_across.specs.declared.Owner.{Owner}
@@ -41,7 +41,7 @@ pub record Searchable (row : List ℕ) (o : Owner) : Type 0 where
 
 -- what is said of a contact with this row
 abbrev pub ownerSays : (row : List ℕ) → Owner → Seen
-ownerSays row o = record { «next_contact» = 0; «sent_msgno» = o .«sent_msgno»; unacked = unackedAt row o; depositor = none }
+ownerSays row o = contactSight (o .«sent_msgno») (unackedAt row o)
 
 -- ... is what is seen of it, and its numbers can be searched
 abbrev pub OwnerStands : Seen → (row : List ℕ) → Owner → Type 0

@@ -58,13 +58,17 @@ pub record Seen : Type 0 where
 abbrev pub nothing : Seen
 nothing = record { «next_contact» = 0; «sent_msgno» = 0; unacked = []; depositor = none }
 
+-- what is seen of a contact
+abbrev pub contactSight : (sent : ℕ) → (unacked : List ℕ) → Seen
+contactSight sent unacked = record { «next_contact» = 0; «sent_msgno» = sent; unacked = unacked; depositor = none }
+
 abbrev pub depositorOf : Courier → Option ℕ
 depositorOf (inl c) = some (c .depositor)
 depositorOf (inr t) = none
 
 abbrev pub seenIn : (k : Kind) → ValueOf k → Seen
 seenIn device d = record { «next_contact» = d .«next_contact»; «sent_msgno» = 0; unacked = []; depositor = none }
-seenIn contact c = record { «next_contact» = 0; «sent_msgno» = c .«sent_msgno»; unacked = c .unacked; depositor = none }
+seenIn contact c = contactSight (c .«sent_msgno») (c .unacked)
 seenIn queued q = nothing
 seenIn courier h = record { «next_contact» = 0; «sent_msgno» = 0; unacked = []; depositor = depositorOf h }
 seenIn unknown v = nothing

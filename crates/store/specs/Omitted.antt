@@ -3,7 +3,6 @@
 use Prim.Native.Nat.{ℕ}
 use mathlib.Core.List.{List, [], _∷_}
 use mathlib.Core.Bool.{Bool, false, cond}
-use mathlib.Core.Option.{none}
 use lib.ListN.{length}
 use lib.Dec.{eqb}
 use Rattle.layout.specs.Questions.{VERSION}
@@ -12,7 +11,7 @@ use Rattle.store.specs.declared.Asked.{Asked}
 use Rattle.store.specs.declared.Omitted.{Omitted}
 use Rattle.store.specs.declared.Omitted.the-variants.{Nothing, Contact}
 use Rattle.store.specs.Rounds.{ask, firstNo, Round, rounds}
-use Rattle.store.specs.Kinds.{CONTACT, kindOf, Seen, nothing, refusalIn}
+use Rattle.store.specs.Kinds.{CONTACT, kindOf, Seen, nothing, contactSight, refusalIn}
 use Rattle.store.specs.Store.{storeOf, entryAt, isOf, answerOf, seen, order, bounds, acrossAs, begun}
 
 -- ---- of the code's contact left out
@@ -23,7 +22,7 @@ isOmitted (Contact id sent) e = isOf CONTACT (id .0) e
 -- what is seen of it: its sent_msgno, and no unacked numbers
 abbrev pub omittedSeen : Omitted → Seen
 omittedSeen Nothing = nothing
-omittedSeen (Contact id sent) = record { «next_contact» = 0; «sent_msgno» = sent; unacked = []; depositor = none }
+omittedSeen (Contact id sent) = contactSight sent []
 
 -- ---- of any entries whose rows are left out
 module _ (run : List ℕ) (es : List Entry) (isLeft : Entry → Bool) where
