@@ -27,7 +27,7 @@ use Rattle.store.specs.Store.{Store, storeOf, replacedIn, entryAt, isOf, partOf
 use Rattle.store.specs.Omitted.{readOmitted, seenOmitted, acrossOmitted, askedOmitted}
 use Rattle.store.proofs.Rounds.{turns-refused, rounds-quiet, rounds-same, some≢none}
 use Rattle.store.proofs.Tests.{truth, holds, all-yes, is-of, any-found}
-use Rattle.store.proofs.Same.{across-same}
+use Rattle.store.proofs.Same.{own-use, across-same}
 use Rattle.store.proofs.Accepted.{going-quiet}
 use Rattle.store.proofs.Opened.{other-version}
 use Rattle.rows.proofs.Tests.{either}
@@ -90,8 +90,8 @@ module _ (run : List ℕ) (es : List Entry) (k : ℕ) (bytes : List ℕ) (v : Co
   across-so asks.Going e =
       let quiet = rounds-quiet (order s ∷ bounds s ∷ readOmitted run es isLeft ∷ []) (length es) (begun s) e .1 .1 .0 in
       rounds-same (across s ∷ []) (acrossOmitted run es isLeft (seenIn contact v) ∷ []) (length es) asks.Going (
-        (λ j h. ap firstNo (across-same es (seen s) (seenOmitted run es isLeft (seenIn contact v))
-            (λ i b. let x = entryAt es i in seen-same x (isLeft x) (refusalIn (answerOf (storeOf run es) x)) refl (quiet i (omega arith) b)) (kindOf (entryAt es j .kind)) j h)),
+        (λ j h. ap firstNo (across-same es es refl (λ i b. own-use (entryAt es i)) (seen s) (seenOmitted run es isLeft (seenIn contact v))
+            (λ i b. let x = entryAt es i in seen-same x (isLeft x) (refusalIn (answerOf (storeOf run es) x)) refl (quiet i (omega arith) b)) j h)),
         tt,
       )
 

@@ -17,11 +17,11 @@ use Rattle.store.specs.declared.Asked.the-variants.{Going, Refused}
 use Rattle.store.specs.Rounds.{ask, firstNo, Quiet}
 use Rattle.store.specs.Kinds.{DEVICE, CONTACT, COURIER, Kind, kindOf, ValueOf, layoutOf, Seen, seenOf, refusalIn}
 use Rattle.store.specs.Store.{Store, entryAt, within, answerOf, seen, inOrder, acrossAs, across, allRounds, begun, asked}
-use Rattle.store.specs.Accepted.{Follows, Shows, Accepted}
+use Rattle.store.specs.Accepted.{Across, Follows, Shows, Accepted}
 use Rattle.store.proofs.Rounds.{Going≢, some≢none, AllQuiet, rounds-going, rounds-quiet, quiet-granted}
 use Rattle.store.proofs.Tests.{both, pair, all-yes, yes-all, eq→eqb}
 use Rattle.store.proofs.ByKind.{row-of, meets-of}
-use Rattle.store.proofs.Same.{across-same}
+use Rattle.store.proofs.Same.{own-use, across-same}
 use Rattle.store.proofs.Across.{yes-across, Sorted, across-yes}
 
 -- ---- 1
@@ -118,6 +118,12 @@ going-quiet s e = rounds-quiet (allRounds s) (length (s .entries)) (begun s) e
 pub quiet-kinds : (s : Store) → AllQuiet (allRounds s) (length (s .entries)) → (i : ℕ) → suc i < length (s .entries) → Follows (entryAt (s .entries) (suc i) .kind) (entryAt (s .entries) i .kind)
 quiet-kinds s q i h = ordered (s .entries) i (all-yes (ask ORDER (inOrder (s .entries) (suc i)) ∷ []) (q .0 (suc i) (omega arith) h) .0)
 
+pub going-across : (s : Store) → asked s ≡ Going → Across (s .entries) (seen s)
+going-across s e =
+    let es = s .entries in
+    let q = going-quiet s e in
+    yes-across es (seen s) (λ i h. all-yes (acrossAs es (seen s) (kindOf (entryAt es i .kind)) (entryAt es i) i) (q .1 .1 .1 .0 i (omega arith) h))
+
 pub granted-accepted : (s : Store) → ((e : Entry) → Bytes (s .rowOf e)) → asked s ≡ Going → Accepted s
 granted-accepted s by e =
     let es = s .entries in
@@ -130,7 +136,7 @@ granted-accepted s by e =
       kinds = quiet-kinds s q;
       bounds = λ i h. leb→le (entryAt es i .start + entryAt es i .len) (s .size) (all-yes (ask BOUNDS (within (s .size) (entryAt es i)) ∷ []) (q .1 .0 i (omega arith) h) .0);
       rows = λ i h. read-shows s (entryAt es i) (by (entryAt es i)) (q .1 .1 .0 i (omega arith) h);
-      across = yes-across es (seen s) (λ i h. all-yes (acrossAs es (seen s) (kindOf (entryAt es i .kind)) (entryAt es i) i) (q .1 .1 .1 .0 i (omega arith) h));
+      across = going-across s e;
     }
 
 module _ (s : Store) (a : Accepted s) where
@@ -146,7 +152,7 @@ module _ (s : Store) (a : Accepted s) where
 
   across-quiet : Quiet (across s) 0 (length es)
   across-quiet i x h =
-      ap firstNo (across-same es (seen s) (a .look) (λ j b. shown j b .sight) (kindOf (entryAt es i .kind)) i h)
+      ap firstNo (across-same es es refl (λ j b. own-use (entryAt es j)) (seen s) (a .look) (λ j b. shown j b .sight) i h)
       ∙ yes-all (acrossAs es (a .look) (kindOf (entryAt es i .kind)) (entryAt es i) i) (across-yes es (a .look) (sorted es (a .kinds)) (a .across) i h)
 
   pub accepted-granted : asked s ≡ Going

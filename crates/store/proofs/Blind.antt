@@ -20,7 +20,7 @@ use Rattle.store.specs.Veiled.{veiledIn, VeilEqual, ContactsAlike, Found
 use Rattle.store.proofs.Rounds.{Going≢}
 use Rattle.store.proofs.Parts.{part-long}
 use Rattle.store.proofs.ByKind.{row-of, same-sight}
-use Rattle.store.proofs.Same.{relaid, Agree, agree-asked, next-same}
+use Rattle.store.proofs.Same.{own-use, relaid, Agree, agree-asked, next-same}
 
 -- ---- rows from elsewhere, each as long, and alike outside its veiled bytes
 pub record RowVeilEqual (e : Entry) (row row′ : List ℕ) : Type 0 where
@@ -59,7 +59,7 @@ module _ (s : Store) (from : Entry → List ℕ) where
     pub alike-restore : OutcomesAlike (restore s) (restore (relaid s from))
     alike-restore =
         go (asked s) (asked (relaid s from)) (agree-asked s from alike-agree)
-        (record { contacts = contacts-alike (s .entries) alike-rows; nexts = next-same (s .entries) (seen s) (seen (relaid s from)) (λ i b. alike-agree i b .sights); slots = refl })
+        (record { contacts = contacts-alike (s .entries) alike-rows; nexts = next-same (s .entries) (s .entries) refl (λ i b. own-use (entryAt (s .entries) i)) (seen s) (seen (relaid s from)) (λ i b. alike-agree i b .sights); slots = refl })
       where
         go : (a a′ : Asked) → a ≡ a′ → FoundAlike (found s) (found (relaid s from)) → OutcomesAlike (outcome a (found s)) (outcome a′ (found (relaid s from)))
         go Going Going e f = f

@@ -8,47 +8,22 @@ use mathlib.Core.Path.{_≡_, refl, sym, ap, _∙_, subst}
 use native.Mathlib.Omega.{arith}
 use lib.ListN.{length}
 use lib.Dec.{eqb, T, eqb→eq}
+use Rattle.layout.specs.Questions.{BOUNDS}
 use Rattle.layout.specs.Layout.{print, readRow}
 use Rattle.layout.specs.RowLaws.{Valid}
 use Rattle.rows.specs.Values.{Contact}
 use Rattle.rows.specs.Rows as rows
 use Rattle.store.specs.declared.Entry.{Entry}
 use Rattle.store.specs.declared.Asked.the-variants.{Going}
-use Rattle.store.specs.Kinds.{CONTACT, contact, kindOf, layoutOf, Seen, seenOf, refusalIn}
-use Rattle.store.specs.Store.{Store, entryAt, isOf, partOf, openedIn, answerOf, seen, nextIn, acrossAs, read, allRounds, asked}
-use Rattle.store.specs.Accepted.{Across}
-use Rattle.store.proofs.Rounds.{quiet-granted, some≢none}
-use Rattle.store.proofs.Tests.{truth, all-yes, yes-all, is-of}
-use Rattle.store.proofs.Same.{relaid}
-use Rattle.store.proofs.Across.{yes-across, across-yes}
-use Rattle.store.proofs.Accepted.{asked-begun, going-quiet, quiet-kinds, sorted}
+use Rattle.store.specs.Rounds.{ask}
+use Rattle.store.specs.Kinds.{CONTACT, contact, kindOf, layoutOf, seenOf, refusalIn}
+use Rattle.store.specs.Store.{Store, entryAt, isOf, within, partOf, openedIn, answerOf, seen, read, asked}
+use Rattle.store.proofs.Rounds.{some≢none}
+use Rattle.store.proofs.Tests.{truth, all-yes, is-of}
+use Rattle.store.proofs.Same.{own-use, relaid}
+use Rattle.store.proofs.Accepted.{going-quiet}
+use Rattle.store.proofs.ByIndex.{More, more-same, passes-alike}
 use Rattle.store.proofs.Opened.{opened-read, other-version}
-
--- more may have been sent, and all else that is seen is the same
-record More (x y : Seen) : Type 0 where
-  next : x .«next_contact» ≡ y .«next_contact»
-  sent : x .«sent_msgno» ≤ y .«sent_msgno»
-  unacked : x .unacked ≡ y .unacked
-  depositor : x .depositor ≡ y .depositor
-
-more-same : (x : Seen) → More x x
-more-same x = record { next = refl; sent = omega arith; unacked = refl; depositor = refl }
-
-next-more : (es : List Entry) (look look′ : Entry → Seen) → ((j : ℕ) → j < length es → More (look (entryAt es j)) (look′ (entryAt es j))) → nextIn look es ≡ nextIn look′ es
-next-more [] look look′ m = refl
-next-more (e ∷ es) look look′ m = m 0 (omega arith) .next
-
-across-more : (es : List Entry) (look look′ : Entry → Seen) → ((j : ℕ) → j < length es → More (look (entryAt es j)) (look′ (entryAt es j))) → Across es look → Across es look′
-across-more es look look′ more a = record {
-  below-next = λ i b k. rw (← next-more es look look′ more) (a .below-next i b k);
-  contacts-new = a .contacts-new;
-  owners = λ i b k. let o = a .owners i b k in let m = more (o .place) (o .below) in
-      record { place = o .place; below = o .below; «is» = o .«is»; id = o .id; from = o .from; to = omega (arith, o .to, m .sent); unacked = rw (← m .unacked) (o .unacked) };
-  queued-new = a .queued-new;
-  depositors = λ i d b k e. rw (← next-more es look look′ more) (a .depositors i d b k (more i b .depositor ∙ e));
-  slots-new = a .slots-new;
-  below-last = a .below-last;
-}
 
 -- ---- rows go on passing, and more is seen of them
 record Lasts (s : Store) (from : Entry → List ℕ) (e : Entry) : Type 0 where
@@ -57,22 +32,9 @@ record Lasts (s : Store) (from : Entry → List ℕ) (e : Entry) : Type 0 where
 
 lasts : (s : Store) (from : Entry → List ℕ) → ((i : ℕ) → i < length (s .entries) → read s i ≡ none → Lasts s from (entryAt (s .entries) i)) → asked s ≡ Going → asked (relaid s from) ≡ Going
 lasts s from each e =
-    let es = s .entries in
-    let s′ = relaid s from in
-    let q = going-quiet s e in
-    let a : Across es (seen s) = yes-across es (seen s) (λ i h. all-yes (acrossAs es (seen s) (kindOf (entryAt es i .kind)) (entryAt es i) i) (q .1 .1 .1 .0 i (omega arith) h)) in
-    let a′ : Across es (seen s′) = across-more es (seen s) (seen s′) (λ j h. each j h (q .1 .1 .0 j (omega arith) h) .more) a in
-    rw (asked-begun s e)
-    (quiet-granted (allRounds s′) (length es) (
-      q .0,
-      (
-        q .1 .0,
-        (
-          (λ i x h. each i h (q .1 .1 .0 i (omega arith) h) .passes),
-          ((λ i x h. yes-all (acrossAs es (seen s′) (kindOf (entryAt es i .kind)) (entryAt es i) i) (across-yes es (seen s′) (sorted es (quiet-kinds s q)) a′ i h)), tt),
-        ),
-      ),
-    ))
+    passes-alike s (relaid s from) refl (λ i b. own-use (entryAt (s .entries) i))
+    (λ i b. all-yes (ask BOUNDS (within (s .size) (entryAt (s .entries) i)) ∷ []) (going-quiet s e .1 .0 i (omega arith) b) .0)
+    (λ i b h. let l = each i b h in record { passes = l .passes; more = l .more }) e
 
 -- ---- the opened contact
 module _ (c c′ : Contact) (v : Valid (rows.contact 3) c) (v′ : Valid (rows.contact 3) c′) (sent : c .«sent_msgno» ≤ c′ .«sent_msgno») (unacked : c .unacked ≡ c′ .unacked) where

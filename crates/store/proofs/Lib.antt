@@ -11,6 +11,7 @@ pub mod Blind
 pub mod Blanked
 pub mod Unused
 pub mod Opened
+pub mod ByIndex
 pub mod Lasting
 pub mod Written
 pub mod Searches
