@@ -6,6 +6,7 @@ from typing import NamedTuple
 CELLS = 64  # up to so many numbers each has a cell of its own
 WIDEST = 36
 NARROWEST = 6  # a stretch that would be narrower than this makes the line a shortened one
+LEAST = 3  # on which no stretch is narrower than this, where there is room
 ROWS = 3
 GAP = 8
 
@@ -32,8 +33,10 @@ class Axis:
         if self.to_scale:
             self.widths = [length * scale for length in lengths]
         else:
+            least = min(LEAST, width / len(lengths))
             weights = [1 + math.log10(length) for length in lengths]
-            self.widths = [weight * width / sum(weights) for weight in weights]
+            each = (width - least * len(lengths)) / sum(weights)
+            self.widths = [least + weight * each for weight in weights]
         self.places = {0: left}
         for last, before, wide in zip(ends, self.ends, self.widths):
             self.places[last] = self.places[before] + wide

@@ -28,7 +28,7 @@ LEGEND = [
     ("in part", "covered in part"),
     ("acknowledged", "sent, acknowledged"),
     ("sent", "sent, not acknowledged"),
-    ("none", "not covered, not sent"),
+    ("none", "none of these"),
 ]
 
 
@@ -71,8 +71,11 @@ def lanes(contact, pieces):
     covered = [Stretch(1, contact.contiguous, "covered")]
     for piece in pieces:
         kind = "in part" if piece.in_part() else "beyond" if piece.covered else "none"
-        first = covered.pop().first if kind == covered[-1].kind == "in part" else piece.first
-        covered.append(Stretch(first, piece.last, kind))
+        # where a range ends is not known beside a piece that is covered in part: together they are one
+        if {kind, covered[-1].kind} in ({"in part"}, {"in part", "beyond"}):
+            covered[-1] = Stretch(covered[-1].first, piece.last, "in part")
+        else:
+            covered.append(Stretch(piece.first, piece.last, kind))
     sent = [Stretch(1, contact.acked, "acknowledged"), Stretch(contact.acked + 1, contact.sent, "sent")]
     drawn = [[s for s in lane if s.kind != "none" and s.first <= s.last] for lane in (covered, sent)]
     return drawn, max((s.last for lane in drawn for s in lane), default=0)
@@ -81,12 +84,13 @@ def lanes(contact, pieces):
 def ranges_said(stretches):
     """The covered ranges in words, as many as a line holds."""
     said = [f"{s.first:,}" if s.first == s.last else f"{s.first:,} to {s.last:,}" for s in stretches if s.kind != "in part"]
-    parts = "; hatched: more ranges than can be drawn apart" if any(s.kind == "in part" for s in stretches) else ""
-    shown = said
-    while text_width("covered: " + ", ".join(shown) + ", and 9,999 more ranges" + parts, 12) > RIGHT - BARS:
-        shown = shown[:-1]
-    rest = len(said) - len(shown)
-    return ", ".join(shown) + (f", and {count(rest, 'more range', 'more ranges')}" if rest else "") + parts
+    end = ["more ranges than can be drawn apart (hatched)"] if len(said) < len(stretches) else []
+    shown = len(said)
+    while text_width(", ".join(said[:shown] + end) + " and 9,999 more ranges", 12) > RIGHT - BARS:
+        shown -= 1
+    rest = [count(len(said) - shown, "more range", "more ranges")] if shown < len(said) else []
+    *most, last = said[:shown] + rest + end
+    return f"{', '.join(most)} and {last}" if most else last
 
 
 def figures(contact):
@@ -149,7 +153,7 @@ def legend(kinds, y):
     for kind, words in LEGEND:
         if kind in kinds:
             picture += [rect(x, y - 10, 14, 12, FILLS[kind], f' stroke="{LINE}"'), text(x + 20, y, words)]
-            x += text_width(words, 12) + 34
+            x += text_width(words, 12) + 31
     return picture
 
 
