@@ -86,11 +86,10 @@ def ranges_said(stretches):
     said = [f"{s.first:,}" if s.first == s.last else f"{s.first:,} to {s.last:,}" for s in stretches if s.kind != "in part"]
     end = ["more ranges than can be drawn apart (hatched)"] if len(said) < len(stretches) else []
     shown = len(said)
-    while text_width(", ".join(said[:shown] + end) + " and 9,999 more ranges", 12) > RIGHT - BARS:
+    while text_width(", ".join(said[:shown] + end) + ", and 9,999 more ranges", 12) > RIGHT - BARS:
         shown -= 1
-    rest = [count(len(said) - shown, "more range", "more ranges")] if shown < len(said) else []
-    *most, last = said[:shown] + rest + end
-    return f"{', '.join(most)} and {last}" if most else last
+    rest = [f"and {count(len(said) - shown, 'more range', 'more ranges')}"] if shown < len(said) else []
+    return ", ".join(said[:shown] + rest + end)
 
 
 def figures(contact):
