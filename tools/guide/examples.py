@@ -1,4 +1,4 @@
-"""Runs the examples of the documents, and draws the pictures in docs/ anew. Prints only what differs.
+"""Runs the examples of the documents, draws the pictures in docs/ anew, and holds docs/REFUSALS.md to the programs. Prints only what differs.
 
 An example is a line of a code block that begins with `$ `: a command, run from the root of the repository. The lines
 up to the next one, or to the end of the block, are all that it prints on standard output. A command that ends with a
@@ -12,7 +12,8 @@ import sys
 from typing import NamedTuple
 
 import refusals
-from programs import ROOT
+from blank import KINDS
+from programs import ROOT, replay
 
 PAGES = ["README.md", "docs/GUIDE.md", "docs/REFUSALS.md"]
 
@@ -84,6 +85,31 @@ def numbers_not_shown():
             yield f"docs/REFUSALS.md: no example under {head.group(1)} {head.group(2)} is refused with this number"
 
 
+def refused_row(example):
+    """The kind, version and digits of the row that an example's sheet is refused for, or nothing."""
+    sheet, _ = run(example.command.removesuffix("| ./statement"))
+    refusal = re.fullmatch(r"R,\d+,(\d+)", "".join(example.printed[-1:]))
+    lines = sheet.splitlines()
+    if not refusal or not lines:
+        return None
+    letter, *_, version, blob = lines[int(refusal.group(1))].split(",")
+    return KINDS[letter.encode()], version, blob or "-"
+
+
+def wrong_answerers():
+    """Where a sheet is refused for a row, reader and veil refuse that row alone with the same number exactly if the page says so."""
+    for head, lines in refusals.sections(refusals.PAGE.read_text()):
+        row = next(filter(None, map(refused_row, examples("\n".join(lines)))), None)
+        if row is None:
+            continue
+        kind, version, blob = row
+        lists = "8,500,9,9,9" if kind == 1 else "-"
+        answers = replay([f"read {kind} {version} {lists} {blob}".encode(), f"veil {kind} {version} 61440 {blob}".encode()])
+        for word, answer in zip(("reader", "veil"), answers):
+            if (word in refusals.label(lines, "Answered by")) != (answer == f"= no {head.group(1)}"):
+                yield f"docs/REFUSALS.md, {head.group(1)} {head.group(2)}: {word} answers {answer[:20]} of the smallest input's row"
+
+
 def wrong_pictures():
     pictures = sorted((ROOT / "docs").glob("picture-*.svg"))
     if not pictures:
@@ -96,7 +122,7 @@ def wrong_pictures():
 
 
 def main():
-    wrong = [*numbers_not_shown(), *wrong_pictures()]
+    wrong = [*numbers_not_shown(), *wrong_answerers(), *wrong_pictures()]
     for page in PAGES:
         wrong += wrong_examples(page)
     for message in wrong:

@@ -38,12 +38,22 @@ def label(lines, word):
     return " ".join(item.group(1).split()) if item else ""
 
 
+def plain(lines):
+    """The lines with code indented, and without the fences around it."""
+    fenced = False
+    for line in lines:
+        if line == "```":
+            fenced = not fenced
+        else:
+            yield "    " + line if fenced else line
+
+
 def questions():
     """Every question of the page by its number: those that are asked have a section, the others an item in a list."""
     page = PAGE.read_text()
     known = {}
     for head, lines in sections(page):
-        text = "\n".join([head.group(0).removeprefix("### "), *lines]).rstrip()
+        text = "\n".join([head.group(0).removeprefix("### "), *plain(lines)]).rstrip()
         known[int(head.group(1))] = Question(head.group(2), label(lines, "Refused"), text)
     for item in filter(None, map(LATER.match, page.splitlines())):
         text = f"{item.group(1)} {item.group(2)}\n\n{item.group(3)}\n\nNothing asks this yet."
