@@ -3,7 +3,7 @@
 import sys
 
 import refusals
-from programs import replay
+from programs import put, replay
 
 USAGE = "usage: ./blank <SHEET >COPY"
 KINDS = {b"D": 0, b"C": 1, b"Q": 2, b"K": 3}
@@ -48,7 +48,8 @@ def main(words):
     lines = lines_of(sys.stdin.buffer.read())
     answers = replay(map(veiling, lines)) if lines else []
     copy = [blanked(place, *line) for place, line in enumerate(zip(lines, answers), 1)]
-    sys.stdout.buffer.write(b"".join(line + b"\n" for line in copy))
+    if copy:
+        put(b"\n".join(copy))
 
 
 if __name__ == "__main__":

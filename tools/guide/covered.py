@@ -4,7 +4,7 @@ import re
 import sys
 
 import refusals
-from programs import replay, restoring
+from programs import put, replay, restoring
 
 USAGE = "usage: ./covered CONTACT NUMBER <SHEET, or ./covered CONTACT FROM TO <SHEET"
 CONTACTS = 2**64 - 1
@@ -55,7 +55,7 @@ def main(words):
     call = "contains %d" if len(numbers) == 1 else "covers %d %d"
     answers = replay(restoring(sys.stdin.buffer.read()) + [b"open %d" % contact, (call % tuple(numbers)).encode()])
     refused = next(filter(None, map(refusal, answers)), None)
-    print(refused or wording(answers[-1] == "= true", contact, numbers))
+    put(refused or wording(answers[-1] == "= true", contact, numbers))
     sys.exit(1 if refused else 0)
 
 

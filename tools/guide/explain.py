@@ -4,6 +4,7 @@ import re
 import sys
 
 import refusals
+from programs import put
 
 USAGE = "usage: ./explain NUMBER, or ./statement <SHEET | ./explain"
 REFUSED = re.compile(r"(R|X),(\d+),(\d+)")
@@ -46,7 +47,7 @@ def of_statement(lines):
 def main(words):
     if len(words) > 1:
         fail(USAGE)
-    print(of_number(words[0]) if words else of_statement(sys.stdin.read().splitlines()))
+    put(of_number(words[0]) if words else of_statement(sys.stdin.read().splitlines()))
 
 
 if __name__ == "__main__":

@@ -8,7 +8,7 @@ from xml.sax.saxutils import escape
 import explain
 import ranges
 from axis import Axis, labels, steps, text_width
-from programs import run
+from programs import put, run
 
 USAGE = "usage: ./picture <SHEET >FILE.svg"
 WIDTH, MARGIN, BARS, BAR = 960, 24, 100, 16
@@ -203,7 +203,7 @@ def main(words):
         sys.exit(2)
     sheet = sys.stdin.buffer.read()
     said = run("statement", sheet)
-    print(granted(sheet, said) if said[-1].startswith("T") else refused(said))
+    put(granted(sheet, said) if said[-1].startswith("T") else refused(said))
 
 
 if __name__ == "__main__":

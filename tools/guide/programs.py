@@ -1,6 +1,7 @@
 """The proved programs, run through tools/run, and a sheet as a script of `replay` has it."""
 
 import pathlib
+import signal
 import subprocess
 import sys
 
@@ -32,3 +33,10 @@ def restoring(sheet):
     if lines.pop():
         lines.append(b"")
     return [b"restore %d" % len(lines)] + lines
+
+
+def put(text):
+    """Prints lines, as text or as bytes, at the end of a run; that nobody reads them to their end is no failure."""
+    signal.signal(signal.SIGPIPE, signal.SIG_DFL)
+    sys.stdout.buffer.write((text if isinstance(text, bytes) else text.encode()) + b"\n")
+    sys.stdout.flush()
