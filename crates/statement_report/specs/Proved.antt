@@ -1,5 +1,5 @@
 -- What is proved of the text of a sheet (proofs/Proved.antt): it is what is reported of a sheet that was fed to the machine in any chunks. That its S lines are what
--- the calls answer is proved in crate `report_laws`.
+-- the calls answer is proved in crate `statement_laws`.
 -- Assumes nothing.
 use Prim.Native.Nat.{ℕ, _*_, _≤_}
 use mathlib.Core.List.{List}
