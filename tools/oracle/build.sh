@@ -36,5 +36,5 @@ else
         set -- "$@" -l "static=$name"
     done
 fi
-rustc --edition 2024 -O --check-cfg 'cfg(no_rattle, test)' "$@" "$here/main.rs" -o "$program"
+rustc --edition 2024 -O --check-cfg 'cfg(no_rattle, test)' "$@" "$here/src/main.rs" -o "$program"
 echo "built ${program#"$root/"}"

@@ -1,0 +1,9 @@
+//! How long the Rattle takes, beside the Rust: docs/PERFORMANCE.md.
+
+pub mod calls;
+pub mod insert;
+pub mod names;
+pub mod restore;
+pub mod rows;
+pub mod sheets;
+pub mod timed;
