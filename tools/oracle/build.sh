@@ -1,40 +1,37 @@
 #!/bin/sh
-# Builds the oracle from the unchanged Rust files.
-# usage: tools/oracle/build.sh [--no-rattle] [FOLDER]
-# FOLDER holds the originals (default: ../shared/docs/src beside the repository). Nothing is copied:
-# links stand in target/oracle/cairn, which `rt ci` removes with target/, so build again after it.
-# --no-rattle: the model of questions.rs stands in for the Rattle library.
+# Builds the oracle with the unchanged Rust files, or tests it.
+# usage: tools/oracle/build.sh [--no-rattle | --test] FOLDER
+# FOLDER holds the originals, which stay where they are. `rt ci` removes target/: build again after it.
+# --no-rattle: the model stands in for the Rattle's libraries.
+# --test: the small comparisons, and whether the stored samples are what the oracle writes; needs no Rattle either.
 set -eu
-here=$(cd "$(dirname "$0")" && pwd)
-root=$(cd "$here/../.." && pwd)
-out=$root/target/oracle
-library=$root/target/staticlib
+usage='usage: tools/oracle/build.sh [--no-rattle | --test] FOLDER
+FOLDER holds the unchanged Rust files: card, chain, courier, data, epoch, kdf, state and transfer.'
 
-model=no
-if [ "${1:-}" = --no-rattle ]; then
-    model=yes
+mode=--rattle
+case ${1:-} in
+--no-rattle | --test)
+    mode=$1
     shift
-fi
-from=$(cd "${1:-$root/../shared/docs/src}" && pwd)
+    ;;
+esac
+[ $# = 1 ] && [ -d "$1" ] || { echo "$usage" >&2; exit 2; }
+CAIRN_ORIGINALS=$(cd "$1" && pwd)
+export CAIRN_ORIGINALS
 
-mkdir -p "$out/cairn"
-for name in card chain courier data epoch kdf state transfer; do
-    file=$(find "$from" -type f \( -name "$name.rs" -o -name "$name.rs.txt" -o -name "*--$name.rs.txt" \))
-    [ -f "$file" ] || { echo "not exactly one $name.rs under $from" >&2; exit 2; }
-    ln -sf "$file" "$out/cairn/$name.rs"
-done
-(cd "$out/cairn" && sha256sum ./*.rs >../originals.sha256)
-
-if [ "$model" = yes ]; then
-    program=$out/oracle-no-rattle
-    set -- --cfg no_rattle
-else
-    program=$out/oracle
-    set -- -L "native=$library"
-    for name in c_card c_rows c_contact c_veil c_restore; do
-        [ -f "$library/lib$name.a" ] || { echo "no target/staticlib/lib$name.a: run 'rt staticlib $name' first" >&2; exit 2; }
-        set -- "$@" -l "static=$name"
-    done
-fi
-rustc --edition 2024 -O --check-cfg 'cfg(no_rattle, test)' "$@" "$here/src/main.rs" -o "$program"
-echo "built ${program#"$root/"}"
+cd "$(dirname "$0")"
+out=../../target/oracle
+case $mode in
+--test) exec cargo test --frozen --release ;;
+--rattle)
+    cargo build --frozen --release --features rattle
+    program=oracle
+    ;;
+--no-rattle)
+    cargo build --frozen --release
+    program=oracle-no-rattle
+    ;;
+esac
+(cd "$CAIRN_ORIGINALS" && find . -type f -name '*.rs*' -exec sha256sum {} +) | sort -k 2 >"$out/originals.sha256"
+cp "$out/cargo/release/oracle" "$out/$program"
+echo "built target/oracle/$program"

@@ -43,7 +43,7 @@ pub fn run(name: &str, seed: u64, times: usize) -> Option<bool> {
         return None;
     }
     println!("seed {seed}");
-    if cfg!(no_rattle) {
+    if cfg!(not(feature = "rattle")) {
         println!("no Rattle library: its side is the model");
     }
     // Every one is run, also after one that differs.

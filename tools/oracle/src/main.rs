@@ -18,30 +18,8 @@ mod rattle;
 mod samples;
 mod speed;
 
-#[allow(dead_code)]
-#[path = "../../../target/oracle/cairn/card.rs"]
-mod card;
-#[allow(dead_code)]
-#[path = "../../../target/oracle/cairn/chain.rs"]
-mod chain;
-#[allow(dead_code)]
-#[path = "../../../target/oracle/cairn/courier.rs"]
-mod courier;
-#[allow(dead_code)]
-#[path = "../../../target/oracle/cairn/data.rs"]
-mod data;
-#[allow(dead_code)]
-#[path = "../../../target/oracle/cairn/epoch.rs"]
-mod epoch;
-#[allow(dead_code)]
-#[path = "../../../target/oracle/cairn/kdf.rs"]
-mod kdf;
-#[allow(dead_code)]
-#[path = "../../../target/oracle/cairn/state.rs"]
-mod state;
-#[allow(dead_code)]
-#[path = "../../../target/oracle/cairn/transfer.rs"]
-mod transfer;
+// The modules card, chain, courier, data, epoch, kdf, state and transfer: build.rs names their files.
+include!(concat!(env!("OUT_DIR"), "/originals.rs"));
 
 pub use epoch::{Epoch, ObjectKind, PairingRole};
 use original::parts::{core, pairing, resume};

@@ -1,6 +1,6 @@
 //! The Rattle side: the C functions of the five static libraries, each behind a safe function.
 //! Nothing checks these declarations against the Rattle source: keep them in step by hand.
-//! With `--cfg no_rattle` the model stands in, so that the tools can be tried alone.
+//! Without the feature `rattle` the model stands in, so that the tools can be tried alone.
 
 use crate::model::lent::Lists;
 use crate::model::store;
@@ -63,7 +63,7 @@ pub fn contact(version: u32, row: &[u8], out: &mut [u8]) -> u32 {
     LISTS.with(|lists| contact_lists(version, row, &mut lists.borrow_mut(), out))
 }
 
-#[cfg(not(no_rattle))]
+#[cfg(feature = "rattle")]
 mod side {
     use super::{LONGEST_CARD, RestoreAnswer, WriteAnswer};
     use crate::model::lent::Lists;
@@ -329,7 +329,7 @@ mod side {
     }
 }
 
-#[cfg(no_rattle)]
+#[cfg(not(feature = "rattle"))]
 mod side {
     use super::{LONGEST_CARD, RestoreAnswer, WriteAnswer};
     use crate::model::covered::Covered;

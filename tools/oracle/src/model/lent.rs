@@ -66,7 +66,7 @@ impl Lists {
     }
 
     /// Puts items at the front of lists that are long enough.
-    #[cfg(no_rattle)]
+    #[cfg(not(feature = "rattle"))]
     pub fn put(&mut self, items: &Self) {
         self.chains[..items.chains.len()].copy_from_slice(&items.chains);
         self.skipped[..items.skipped.len()].copy_from_slice(&items.skipped);

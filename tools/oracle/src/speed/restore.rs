@@ -83,7 +83,7 @@ pub fn run_large() {
 }
 
 fn head() {
-    if cfg!(no_rattle) {
+    if cfg!(not(feature = "rattle")) {
         println!("no Rattle library: its side is the model");
     }
     println!(
