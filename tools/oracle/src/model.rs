@@ -3,6 +3,7 @@
 pub mod calls;
 pub mod covered;
 pub mod lent;
+pub mod memory;
 pub mod number_set;
 pub mod questions;
 pub mod rows;

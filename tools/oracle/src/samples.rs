@@ -4,6 +4,7 @@ pub mod call_samples;
 pub mod cases;
 pub mod contact_cases;
 pub mod row_cases;
+mod row_changes;
 pub mod script_cases;
 pub mod sheet_cases;
 pub mod sheet_samples;

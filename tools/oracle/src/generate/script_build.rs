@@ -5,9 +5,10 @@ use crate::generate::inputs::Random;
 use crate::generate::row_build::{self, SMALL, Size};
 use crate::generate::script_stores;
 use crate::model::calls::Call;
+use crate::model::memory::{HAS, Lengths};
 use crate::model::rows::{self, Contact, Range};
-use crate::model::runner::{HAS, Runner};
-use crate::model::script::{Lengths, Step};
+use crate::model::runner::Runner;
+use crate::model::script::Step;
 use crate::model::sheet::{self, Line};
 use crate::model::store::{CONTACT, Store};
 

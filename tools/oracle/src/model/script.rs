@@ -2,12 +2,10 @@
 
 use crate::hex::hex;
 use crate::model::calls::Call;
+use crate::model::memory::Lengths;
 use crate::model::sheet::{self, BLOB_BYTES, LINES, Line};
 use crate::model::store::{Entry, Store};
 use std::fmt;
-
-/// The lent lengths: chains, skipped keys, pairs above contiguous, unacked numbers, pairs of expired ones, bytes of output.
-pub type Lengths = [usize; 6];
 
 #[derive(Debug, Clone, PartialEq)]
 pub enum Step {

@@ -5,8 +5,8 @@
 //! it are the model of restore (store.rs) and that of the calls (calls.rs), which makes the `S` lines.
 
 use crate::model::calls::{Call, Granted, Ledger};
+use crate::model::memory::Memory;
 use crate::model::questions::{self, ask};
-use crate::model::runner::Memory;
 use crate::model::store::{CONTACT, COURIER, DEVICE, Entry, QUEUED, Refusal, Store};
 
 /// 44.

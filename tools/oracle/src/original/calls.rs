@@ -4,7 +4,6 @@
 //! `Received::contains`, `covers` and `insert`, `next_msgno` with 39, `row`, and the fields that the `S` line counts. The
 //! Rust has neither lent lengths nor a mark: where the model refuses by 34, 36, 37, 38 or 40 it is not asked.
 
-use crate::core::ContactId;
 use crate::hex::hex;
 use crate::model::calls::{Call, Ledger};
 use crate::model::number_set::{NumberSet, numbers_in};
@@ -13,6 +12,7 @@ use crate::model::rows::Range;
 use crate::model::script::Step;
 use crate::model::sheet;
 use crate::model::store::{self, Store};
+use crate::original::parts::core::ContactId;
 use crate::original::stores::Rows;
 use crate::state;
 use std::collections::BTreeMap;

@@ -4,9 +4,9 @@
 
 use crate::card;
 use crate::chain;
-use crate::core::{ContactId, Verification};
 use crate::epoch::PairingRole;
 use crate::model::rows;
+use crate::original::parts::core::{ContactId, Verification};
 use crate::state::{self, ContactRow, CourierRow, Held, Persisted, QueuedRow};
 
 /// A value, and the row that the Rust writes of it.

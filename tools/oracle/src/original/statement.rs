@@ -1,8 +1,8 @@
 //! What the program `statement` does, in plain Rust with the original code: for measuring how long that takes, and as a
 //! second reading of the sheet. The Rust has no numbers and no places: a refusal of its `restore` is `R,?,?`.
 
-use crate::core::ContactId;
 use crate::original::calls::line;
+use crate::original::parts::core::ContactId;
 use crate::original::rows::persisted;
 use crate::state::{ContactRow, CourierRow, Device, Persisted, QueuedRow};
 

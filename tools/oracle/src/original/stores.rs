@@ -1,7 +1,7 @@
 //! The Rust's answer on a whole store: `Device::restore`.
 
-use crate::core::ContactId;
 use crate::model::store::{CONTACT, COURIER, DEVICE, Granted, QUEUED, Store};
+use crate::original::parts::core::ContactId;
 use crate::original::rows::persisted;
 use crate::state::{self, ContactRow, CourierRow, Persisted, QueuedRow};
 

@@ -6,13 +6,14 @@ use crate::generate::inputs::Random;
 use crate::generate::script_build::range_near;
 use crate::generate::script_stores;
 use crate::model::calls::Call;
+use crate::model::memory::HAS;
 use crate::model::number_set::{NumberSet, numbers_in};
 use crate::model::rows::{self, Contact, Range};
-use crate::model::runner::{HAS, Runner};
+use crate::model::runner::Runner;
 use crate::model::script::{self, Step};
 use crate::model::store::CONTACT;
+use crate::programs::answers;
 use crate::programs::program::Program;
-use crate::programs::scripts;
 
 /// So many groups for each of TIMES.
 const GROUPS: u64 = 1_000;
@@ -63,7 +64,7 @@ pub fn check(seed: u64, times: u64, program: Program) -> bool {
     while seen.groups < GROUPS * times {
         let groups: Vec<Group> = (0..BATCH).map(|_| group(&mut random)).collect();
         let text: String = groups.iter().map(text).collect();
-        let printed = scripts::printed(program, &text);
+        let printed = answers::printed(program, &text);
         let mut lines = printed.iter().map(String::as_str);
         for group in &groups {
             let answers = answers(group, &mut lines);
@@ -75,10 +76,10 @@ pub fn check(seed: u64, times: u64, program: Program) -> bool {
 }
 
 fn text(group: &Group) -> String {
-    let begun = scripts::text(&group.beginning);
+    let begun = answers::text(&group.beginning);
     let orders = group.orders.iter();
     orders
-        .map(|order| begun.clone() + &scripts::text(order))
+        .map(|order| begun.clone() + &answers::text(order))
         .collect()
 }
 

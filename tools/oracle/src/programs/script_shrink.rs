@@ -2,8 +2,8 @@
 
 use crate::model::script::Step;
 use crate::model::store::{Entry, Store};
+use crate::programs::answers::{answers, printed, text};
 use crate::programs::program::Program;
-use crate::programs::scripts::{answers, printed, text};
 
 /// The program is run so often at most.
 const RUNS: usize = 1_500;

@@ -4,11 +4,13 @@ use crate::generate::inputs::Random;
 use crate::generate::script_build::script;
 use crate::generate::script_pairs;
 use crate::model::calls::Call;
-use crate::model::runner::{HAS, Runner, replay};
+use crate::model::memory::HAS;
+use crate::model::runner::{Runner, replay};
 use crate::model::script::{Step, Steps};
 use crate::model::sheet;
 use crate::model::store::Store;
 use crate::original::calls::{self, Shadow};
+use crate::programs::answers::{answers, printed, text, transcript};
 use crate::programs::expired::Ways;
 use crate::programs::program::Program;
 use crate::programs::script_shrink;
@@ -87,17 +89,6 @@ pub fn each(seed: u64, times: u64, mut visit: impl FnMut(Made)) {
     }
 }
 
-/// Of each step that is answered, the step and the model's line.
-pub fn answers(steps: &[Step]) -> Vec<(&Step, String)> {
-    let mut runner = Runner::new();
-    let answer = |step| Some((step, runner.step(step)?));
-    steps.iter().filter_map(answer).collect()
-}
-
-pub fn text(steps: &[Step]) -> String {
-    steps.iter().map(|step| format!("{step}\n")).collect()
-}
-
 pub fn print(seed: u64, times: u64) -> bool {
     each(seed, times, |made| print!("{}", text(&made.steps)));
     true
@@ -107,18 +98,6 @@ pub fn print(seed: u64, times: u64) -> bool {
 pub fn print_transcript(seed: u64, times: u64) -> bool {
     each(seed, times, |made| print!("{}", transcript(&made.steps)));
     true
-}
-
-pub fn transcript(steps: &[Step]) -> String {
-    let mut runner = Runner::new();
-    let mut transcript = String::new();
-    for step in steps {
-        transcript += &format!("{step}\n");
-        if let Some(answer) = runner.step(step) {
-            transcript += &format!("{answer}\n");
-        }
-    }
-    transcript
 }
 
 /// How often each answer was due to each kind of step.
@@ -323,17 +302,6 @@ pub fn check(seed: u64, times: u64, program: Program) -> bool {
     let all = due.print();
     println!("lists of calls: {different} different");
     different == 0 && all
-}
-
-/// The answer lines that the program prints for a text.
-pub fn printed(program: Program, text: &str) -> Vec<String> {
-    let printed = program.run(text.as_bytes());
-    let printed = String::from_utf8_lossy(&printed).into_owned();
-    let answers = printed.lines().filter(|line| !line.is_empty());
-    answers
-        .filter(|line| line.starts_with('=') || line.starts_with("signal"))
-        .map(String::from)
-        .collect()
 }
 
 /// How many of these lists differ; the first of all is shown, made as short as it can be. The lists behind one that differs

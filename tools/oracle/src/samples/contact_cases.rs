@@ -3,7 +3,7 @@
 use crate::generate::inputs::Random;
 use crate::generate::row_build::{self, EMPTY, FULL, SMALL, Size};
 use crate::model::rows::{Chain, Contact, Range};
-use crate::samples::row_cases::{Rows, cut, longer, set, versions};
+use crate::samples::row_changes::{Rows, cut, longer, set, versions};
 
 /// Where the card's length stands, and the card.
 const CARD_LENGTH_AT: usize = 3 + 16 + 48 + 16;

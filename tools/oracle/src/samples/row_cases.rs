@@ -8,6 +8,7 @@ use crate::model::questions;
 use crate::model::rows::{BUCKETS, Contact, Courier, Device, Queued, SEAL};
 use crate::original::rows::Store;
 use crate::samples::contact_cases::contacts;
+use crate::samples::row_changes::{Rows, cut, longer, set, versions};
 
 /// Fixed: the same samples every time.
 const SEED: u64 = 3;
@@ -44,31 +45,6 @@ fn line<T: Row>(store: &Store, letter: char, version: u32, row: &[u8]) -> String
         assert_eq!(again, row, "an accepted row is written back as it was read");
     }
     format!("{letter} {version} {} {number}\n", hex(row))
-}
-
-pub type Rows = Vec<(u32, Vec<u8>)>;
-
-/// Other versions, with a row and without one.
-pub fn versions(row: &[u8]) -> Rows {
-    let versions = [0, 1, 2, 4, 259, u32::MAX];
-    let mut rows: Rows = versions.map(|version| (version, row.to_vec())).to_vec();
-    rows.push((2, Vec::new()));
-    rows
-}
-
-pub fn set(row: &[u8], at: usize, bytes: &[u8]) -> (u32, Vec<u8>) {
-    let mut row = row.to_vec();
-    row[at..at + bytes.len()].copy_from_slice(bytes);
-    (3, row)
-}
-
-pub fn cut(row: &[u8], sizes: impl IntoIterator<Item = usize>) -> Rows {
-    let cut = |size| (3, row[..size].to_vec());
-    sizes.into_iter().map(cut).collect()
-}
-
-pub fn longer(row: &[u8], more: &[u8]) -> (u32, Vec<u8>) {
-    (3, [row, more].concat())
 }
 
 fn devices(random: &mut Random) -> Rows {

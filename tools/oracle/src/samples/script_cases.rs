@@ -3,8 +3,9 @@
 
 use crate::model::runner::replay;
 use crate::model::script::Step;
+use crate::programs::answers::{answers, text};
 use crate::programs::expired;
-use crate::programs::scripts::{COVER, answers, class, each, stated, text};
+use crate::programs::scripts::{COVER, class, each, stated};
 use std::collections::BTreeSet;
 use std::path::Path;
 

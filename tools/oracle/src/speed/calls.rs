@@ -9,8 +9,9 @@
 use crate::generate::inputs::Random;
 use crate::generate::row_build::{self, FULL, SMALL, Size};
 use crate::generate::store_build::{self, Counts, Plan};
+use crate::model::memory::HAS;
 use crate::model::rows::{Contact, Device, Range};
-use crate::model::runner::{self, HAS};
+use crate::model::runner;
 use crate::model::script::Step;
 use crate::model::sheet::{self, Line};
 use crate::programs::program::Program;

@@ -1,6 +1,6 @@
 //! The Rust's side of the speed driver.
 
-use crate::core::ContactId;
+use crate::original::parts::core::ContactId;
 use crate::original::rows::{CONTACT, Store, persisted};
 use crate::state::{self, ContactRow, CourierRow, Persisted, QueuedRow};
 use std::hint::black_box;
