@@ -109,7 +109,7 @@ fn distinct(random: &mut Random, count: usize, limit: u64, kind: u32) -> Vec<u64
     if limit > SPARSE && random.below(5) == 0 {
         let words = random.pick(&FILTER_WORDS);
         let first = random.next() % SPARSE;
-        let one_word = |id: &u64| filter_place(kind, *id) % words == 0;
+        let one_word = |id: &u64| filter_place(kind, *id).is_multiple_of(words);
         numbers.extend((first..limit).filter(one_word).take(count));
     }
     let span = step.saturating_mul(count as u64);

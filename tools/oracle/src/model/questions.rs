@@ -141,8 +141,11 @@ pub fn leb128(value: u32) -> Vec<u8> {
         .collect()
 }
 
+/// The lowest and the highest byte.
+type Bytes = (u8, u8);
+
 /// RFC 3629, section 4: the first byte's range, the second's if there is one, and how many tails follow.
-const FORMS: [((u8, u8), Option<(u8, u8)>, usize); 9] = [
+const FORMS: [(Bytes, Option<Bytes>, usize); 9] = [
     ((0x00, 0x7f), None, 0),
     ((0xc2, 0xdf), Some((0x80, 0xbf)), 0),
     ((0xe0, 0xe0), Some((0xa0, 0xbf)), 1),
@@ -154,7 +157,7 @@ const FORMS: [((u8, u8), Option<(u8, u8)>, usize); 9] = [
     ((0xf4, 0xf4), Some((0x80, 0x8f)), 2),
 ];
 
-fn within(byte: u8, (low, high): (u8, u8)) -> bool {
+fn within(byte: u8, (low, high): Bytes) -> bool {
     low <= byte && byte <= high
 }
 
