@@ -9,3 +9,5 @@ pub mod script_cases;
 pub mod sheet_cases;
 pub mod sheet_samples;
 pub mod store_cases;
+mod store_edges;
+mod store_shelf;
