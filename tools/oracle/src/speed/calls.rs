@@ -15,7 +15,7 @@ use crate::model::runner;
 use crate::model::script::Step;
 use crate::model::sheet::{self, Line};
 use crate::programs::program::Program;
-use crate::speed::rows::{median, programs_time};
+use crate::speed::clock::{median, programs_time};
 
 /// The median of so many runs is taken, each of at least so many seconds, or of so many bytes.
 const RUNS: usize = 3;

@@ -4,7 +4,7 @@
 
 use crate::model::rows::Range;
 use crate::rattle;
-use crate::speed::rows::{ROWS, more, ratio};
+use crate::speed::clock::{ROWS, more, ratio};
 use crate::state::Received;
 use std::hint::black_box;
 

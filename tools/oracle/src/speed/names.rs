@@ -1,7 +1,7 @@
 //! How long the check of a name takes, the Rattle's C function and `core::str::from_utf8` on the same names in the same program.
 
 use crate::rattle;
-use crate::speed::rows::{ROWS, more, ratio};
+use crate::speed::clock::{ROWS, more, ratio};
 use std::hint::black_box;
 
 /// The longest name has so many bytes; each of the others two less than the one before.

@@ -11,7 +11,7 @@ use crate::model::rows::Device;
 use crate::model::store::{Entry, Store};
 use crate::original::stores::Rows;
 use crate::rattle::{self, RestoreAnswer};
-use crate::speed::rows::{median, processor_time};
+use crate::speed::clock::{median, processor_time};
 use std::hint::black_box;
 
 /// The median of so many runs is taken, each of at least so many nanoseconds; of a slow call fewer, of a very slow one one.

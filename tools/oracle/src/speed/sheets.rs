@@ -9,7 +9,7 @@ use crate::model::sheet;
 use crate::original::statement;
 use crate::programs::program::Program;
 use crate::samples::sheet_samples;
-use crate::speed::rows::median;
+use crate::speed::clock::median;
 use std::time::Instant;
 
 const RUNS: usize = 21;
