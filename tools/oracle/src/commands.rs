@@ -13,6 +13,7 @@ const USAGE: &str =
        oracle samples DIR
        oracle store-cases|sheet-cases DIR
        oracle program-samples DIR
+       oracle script-cases DIR SCRIPT
        oracle speed|names-speed|insert-speed|restore-speed [large]
        oracle scripts|transcript|scripts-rust|sheets|sheets-rust SEED TIMES
        oracle scripts-check|orders-check|sheets-check SEED TIMES PROGRAM [WORD..]
