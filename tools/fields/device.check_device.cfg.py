@@ -1,8 +1,5 @@
 fixed = ["beacon_key"]
-asks = {
-    "VERSION": ("(sym (c .before .is-known .ensures) ∙ not-false _ @left)", "(sym (c .before .is-known .ensures) ∙ not-true _ @taken)"),
-    "COURIER_CONFIG": ("(allowed c .0)", "(config-no _ _ _ (learn configSays @ensures @told))"),
-}
+asks = {"COURIER_CONFIG": ("(allowed c .0)", "(config-no _ _ _ (learn configSays @ensures @told))")}
 lemmas = {"COURIER_CONFIG": """
 abbrev config : @S.COURIER_CONFIG → CourierConfig
 config c = configOf @value.COURIER_CONFIG.enabled c @value.COURIER_CONFIG.copies c @value.COURIER_CONFIG.lifetime_min c
@@ -10,8 +7,7 @@ config c = configOf @value.COURIER_CONFIG.enabled c @value.COURIER_CONFIG.copies
 allowed : (c : @S.COURIER_CONFIG) → (courierAllowed (config c .copies) (config c .«lifetime_min») ≡ true) × (c .before .courier .given .0 .0 ≡ config c)
 allowed c = config-yes _ _ _ (learn configSays (c .before .before .before .new .ensures) (c .before .courier .given .1))
 """}
-needs = {"slot-at-requires": "c κs = lifetime-min-took @back.COURIER_CONFIG.lifetime_min c .inside"}
 answers = ["""
 let key = to-beacon-key c in
-    (rw (allowed (to-COURIER-CONFIG c) .1) (sym (ap answer {all})), omega (arith, beacon-key-place key, beacon-key-long key, beacon-key-took key .inside))
+    (rw (allowed (c .before) .1) (sym (ap answer {all})), omega (arith, beacon-key-place key, beacon-key-long key, beacon-key-took key .inside))
 """]

@@ -91,7 +91,7 @@ class Facts(Steps):
     def terms(self, step, c="c"):
         """The row, that it is bytes, where the field is asked for, its form, its value, and where it ends."""
         s = f"(s{step.number} {c})"
-        return f"({self.row} {s})", f"(by {s})", self.here(step, c), one(self.formed(step.field.form, s)), step.field.value(c), step.field.next(c)
+        return f"({self.row} {s})", f"(by {s})", self.here(step, c), one(step.field.form), step.field.value(c), step.field.next(c)
 
     # ---- fields, by what their reader says
     CALL = "c .before .before .before"
@@ -118,8 +118,7 @@ class Facts(Steps):
 
     def took_fact(self, step, value):
         row, by, here, form, _, next = self.terms(step)
-        lawful = self.formed(step.field.law, f"(s{step.number} c)")
-        self.fact(step, "took", f"Took {form} {row} {here} {value} {next}", f"took _ _ {form} {lawful} {by} {self.readings(step)}")
+        self.fact(step, "took", f"Took {form} {row} {here} {value} {next}", f"took _ _ {form} {step.field.law} {by} {self.readings(step)}")
 
     def list_facts(self, step):
         row, by, here, form, value, next = self.terms(step)

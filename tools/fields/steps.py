@@ -23,7 +23,7 @@ def law(form):
         return f"(number-lawful {WIDTHS[head]})"
     if head == "group":
         return f"{args[0]}-lawful"
-    if head in ("optional", "list", "sized", "onlyIf"):
+    if head in ("optional", "list", "sized"):
         return f"({' '.join([head + '-lawful', args[0], law(args[0]), *args[1:]])})"
     return f"{head}-lawful"
 
@@ -75,14 +75,14 @@ class Taken:
         says = one(re.sub(r"\(now \(\w+ \.entry\)\)", row, self.says))
         return f"learn {says} {self.ensures(call)} {case}"
 
-    def refused(self, row, call, case, form=None):
+    def refused(self, row, call, case):
         """That the form is refused, by the answer's case."""
         if self.kind == "run":
             return f"(run-short _ _ {self.form.split()[1]} {self.count if self.count.isdigit() else '_'} {self.ensures(call)} {case})"
         learnt = f"({self.learnt(row, call, case)})"
         if self.kind == "located":
             learnt = f"(located-not ({self.places} _) _ {learnt})"
-        return f"(refused-at _ _ {one(form or self.form)} {learnt})"
+        return f"(refused-at _ _ {one(self.form)} {learnt})"
 
 
 @dataclass
@@ -165,12 +165,6 @@ class Steps:
     def term(self, s):
         """The layout, of a state at the start."""
         return one(" ".join([self.layout.name, *[f"({s} .before .args .{arg})" for arg in self.args]]))
-
-    def formed(self, text, s):
-        """A form, or its law, with the layout's arguments as they are in a state at the start."""
-        for arg in self.args:
-            text = re.sub(rf"\b{arg}\b", f"({s} .before .args .{arg})", text)
-        return text
 
     def came_from(self, s):
         return f"(from {s})" if self.at else "0"
@@ -270,7 +264,7 @@ class Steps:
         returned = self.answering(statement)
         case, before = returned.case(told), returned.before
         s = self.start_of(step.number - 1, before)
-        no = field.refused(f"({self.row} {s})", returned.call, case, self.formed(field.form, s))
+        no = field.refused(f"({self.row} {s})", returned.call, case)
         self.need("returns", self.refusal(f"field-no {self.so(step, before)} {no}", s, *returned.by(case)))
 
     def matched(self, step, statement):

@@ -10,14 +10,7 @@ const FOLDER: &str = "CAIRN_ORIGINALS";
 const ORIGINALS: [&str; 8] = [
     "card", "chain", "courier", "data", "epoch", "kdf", "state", "transfer",
 ];
-const LIBRARIES: [&str; 6] = [
-    "c_card",
-    "c_rows",
-    "c_contact",
-    "c_veil",
-    "c_restore",
-    "c_convert",
-];
+const LIBRARIES: [&str; 5] = ["c_card", "c_rows", "c_contact", "c_veil", "c_restore"];
 
 fn main() -> ExitCode {
     match declare_originals().and_then(|()| link_libraries()) {

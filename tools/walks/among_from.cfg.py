@@ -10,5 +10,5 @@ ends = f"ends {TURN} {{i}} {{s}} (front-behind {{i}} n (now entries) {{over}} as
 uses = [
     "use lib.ListN.{take}",
     "use Rattle·calls_find·specs.specs.Sought.{amongNext}",
-    "use Rattle·restore_entries.proofs.Folds.{Folding, begins, goes-on, ends, front-entry, front-inside, front-behind}",
+    "use Rattle·calls_find·proofs.proofs.Folds.{Folding, begins, goes-on, ends, front-entry, front-inside, front-behind}",
 ]

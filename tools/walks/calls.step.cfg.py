@@ -5,5 +5,5 @@ ends = f"stepped mark (now run) (now entries) contact {LISTS} (now out) is-r (is
 uses = [
     "use Rattle·contact.specs.Contact.{lists}",
     "use Rattle·calls_dispatch.proofs.Steps.{stepped}",
-    "use Rattle·walks.proofs.Lent.{lends-shared, shared-back}",
+    "use Rattle·calls·proofs.proofs.Lent.{lends-shared, shared-back}",
 ]

@@ -12,6 +12,6 @@ uses = [
     "use lib.ListN.{take}",
     "use Rattle·store.specs.Store.{entryAt}",
     "use Rattle·calls_find·specs.specs.Sought.{queuedNext}",
-    "use Rattle·restore_entries.proofs.Folds.{Folding, begins, goes-on, ends, front-entry, front-inside, front-behind}",
+    "use Rattle·calls_find·proofs.proofs.Folds.{Folding, begins, goes-on, ends, front-entry, front-inside, front-behind}",
     "use Rattle·calls_find·proofs.proofs.Laws.{none-queued, one-fits, one-more}",
 ]

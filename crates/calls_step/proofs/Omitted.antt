@@ -84,7 +84,7 @@ module _ (run : List ℕ) (es : List Entry) (k : ℕ) (bytes : List ℕ) (v : Co
       rounds-same (order s ∷ bounds s ∷ store.read s ∷ []) (order s ∷ bounds s ∷ read_omitted run es is_left ∷ []) (length es) (begun s)
       ((λ j h. refl), ((λ j h. refl), ((λ j h. read_same_lem (entry_at es j) (is_left (entry_at es j)) refl), tt)))
 
-  -- 25 to 33 and 51, of what those have left
+  -- 25 to 33, of what those have left
   across-so : (a : Asked) → read_same ≡ a → turns (across s) 0 (length es) a ≡ turns (across_omitted run es is_left (seen_in contact v)) 0 (length es) a
   across-so (asks.Refused n i) e = turns-refused (across s) 0 (length es) n i ∙ sym (turns-refused (across_omitted run es is_left (seen_in contact v)) 0 (length es) n i)
   across-so asks.Going e =

@@ -32,7 +32,7 @@ restoring run es h (store.granted f) = leaves granted (record { mark = Restored;
 restoring run es h (store.refused q i) = leaves (refused_at q i) h
 
 -- ---- 34
--- for open: store restored, and would it pass 1 to 33, 51 and 54?
+-- for open: store restored, and would it pass 1 to 33 and 54?
 abbrev pub on_store : Mark → Input → Left → Left
 on_store Fresh h then = no STORE h
 on_store Restored h then = cond (store_passes h.run h.entries) then (no STORE h)

@@ -8,14 +8,14 @@ use mathlib.Core.Path.{◌≡◌, refl, sym, ap, ◌∙◌, subst}
 use native.Mathlib.Omega.{arith}
 use lib.ListN.{length}
 use lib.Dec.{T, leb, ltb, eqb, eqb→eq}
-use Rattle.layout.specs.Questions.{CONTACT_BELOW_NEXT, CONTACT_NEW, DEPOSITOR, SLOT_NEW, SLOT_BELOW_LAST, SLOT_BELOW_NEXT}
+use Rattle.layout.specs.Questions.{CONTACT_BELOW_NEXT, CONTACT_NEW, DEPOSITOR, SLOT_NEW, SLOT_BELOW_LAST}
 use Rattle.rows.specs.Checks.{any}
 use Rattle.store.specs.declared.Entry.{Entry}
 use Rattle.store.specs.declared.Asked.{Asked}
 use Rattle.store.specs.declared.Asked.TheVariants.{Going, Refused}
 use Rattle.store.specs.Rounds.{ask, first_no, Round, turns, rounds}
 use Rattle.store.specs.Kinds.{CONTACT, QUEUED, COURIER, Kind, device, contact, queued, courier, unknown, kind_of, Seen, contact_sight}
-use Rattle.store.specs.Store.{store_of, entry_at, is_of, seen, before, contact_before, next_in, next_slot_in, below_next, last_slot, low_depositor, across_as, order, bounds, begun, going}
+use Rattle.store.specs.Store.{store_of, entry_at, is_of, seen, before, contact_before, next_in, last_slot, low_depositor, across_as, order, bounds, begun, going}
 use Rattle.store.specs.Omitted.{read_omitted, seen_omitted, across_omitted, asked_omitted}
 use Rattle.store.proofs.Rounds.{turns-refused, granted-quiet, quiet-granted}
 use Rattle.store.proofs.Tests.{truth, same, all_yes, yes-all, both, pair, is-of}
@@ -91,13 +91,6 @@ module _ (run : List ℕ) (es : List Entry) (k sent : ℕ) where
         go : (l : List Entry) → next_in (look ns) l ≡ next_in (look []) l
         go [] = refl
         go (e ∷ l) = part (λ x. x.next_contact) refl e
-
-    slot : next_slot_in (look ns) es ≡ next_slot_in (look []) es
-    slot = go es
-      where
-        go : (l : List Entry) → next_slot_in (look ns) l ≡ next_slot_in (look []) l
-        go [] = refl
-        go (e ∷ l) = part (λ x. x.next_slot) refl e
 
     low : (o : Option ℕ) → low_depositor es (look ns) o ≡ low_depositor es (look []) o
     low none = refl
@@ -183,9 +176,9 @@ module _ (run : List ℕ) (es : List Entry) (k sent : ℕ) where
           unqueued contact (ap kind_of p) (ap (λ (n : ℕ). ask CONTACT_BELOW_NEXT (ltb e.id n) ∷ ask CONTACT_NEW (not (before es i CONTACT e.id)) ∷ []) next) (not-queued _ p refl)
       apart (is-queued p) = queued-apart p
       apart (is-courier p) =
-          let lows = low (look ns e).depositor ∙ ap (low_depositor es (look [])) (part (λ x. x.depositor) refl e) in
           unqueued courier (ap kind_of p)
-          (λ x. ask DEPOSITOR (lows x) ∷ ask SLOT_NEW (not (before es i COURIER e.id)) ∷ ask SLOT_BELOW_LAST (ltb e.id last_slot) ∷ ask SLOT_BELOW_NEXT (below_next (slot x) e.id) ∷ [])
+          (ap (λ (t : Bool). ask DEPOSITOR t ∷ ask SLOT_NEW (not (before es i COURIER e.id)) ∷ ask SLOT_BELOW_LAST (ltb e.id last_slot) ∷ [])
+          (low (look ns e).depositor ∙ ap (low_depositor es (look [])) (part (λ x. x.depositor) refl e)))
           (not-queued _ p refl)
       apart (is-unknown p) = unqueued unknown p refl (not-queued _ refl (go (eqb e.kind QUEUED) refl))
         where

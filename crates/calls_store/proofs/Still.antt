@@ -30,8 +30,8 @@ use Rattle.store.specs.declared.Asked.{Asked}
 use Rattle.store.specs.declared.Asked.TheVariants as so
 use Rattle.store.specs.Rounds.{ask}
 use Rattle.store.specs.Kinds.{CONTACT}
-use Rattle.store.specs.Store.{is_of, before, going, replaced_passes}
-use Rattle.store.specs.Omitted.{is_omitted, omitted_seen, asked_omitted}
+use Rattle.store.specs.Store.{is_of, before, next_in, slots_below, going, replaced_passes}
+use Rattle.store.specs.Omitted.{is_omitted, omitted_seen, seen_omitted, asked_omitted}
 use Rattle.store.proofs.Tests.{all_yes}
 use Rattle.restore.specs.declared.Restored.{Restored}
 use Rattle.restore.specs.Restored.{granting, questioned, is_granted}
@@ -72,7 +72,7 @@ module _ (c : Contact) (l : Lists) (ty : ContactTyped c) (lt : ListsTyped l) whe
 
 -- ---- a store is granted if every question is a yes
 all-granted : (run : List ℕ) (es : List Entry) (omitted : Omitted) (end : Restored) → end ≡ questioned run es omitted → is_granted end ≡ going (asked_omitted run es (is_omitted omitted) (omitted_seen omitted))
-all-granted run es omitted end is = ap is_granted is ∙ go (asked_omitted run es (is_omitted omitted) (omitted_seen omitted)) _ _
+all-granted run es omitted end is = ap is_granted is ∙ go (asked_omitted run es (is_omitted omitted) (omitted_seen omitted)) (next_in (seen_omitted run es (is_omitted omitted) (omitted_seen omitted)) es) (slots_below es (length es))
   where
     go : (a : Asked) (next slot : ℕ) → is_granted (granting a next slot) ≡ going a
     go so.Going next slot = refl

@@ -1,4 +1,4 @@
-// Question 34: whether a store would pass 1 to 33, 51 and 54, as it stands or with opened fields in place of a contact's row. That row is written nowhere: the fields are
+// Question 34: whether a store would pass 1 to 33 and 54, as it stands or with opened fields in place of a contact's row. That row is written nowhere: the fields are
 // asked what a writer asks, the store with the row left out, and the contact's queued rows 29 by the lent numbers.
 ghost use Rattle.std.specs.Prelude.{◌≡◌, ◌&&◌, not};
 ghost use Rattle.contact.specs.Contact.{lists, lists_before};

@@ -1,19 +1,13 @@
 -- What the answers about a device row say: the courier settings, and which value stands at the places that a check found.
 -- Assumes nothing.
 use Rattle.std.specs.Prelude.{ℕ, ◌+◌, ◌≤◌, List, Bool, true, cond, length, take, drop}
-use Rattle.std.proofs.Math.Option.{Option, none, some}
-use Rattle.layout.specs.Questions.{FIELD, COURIER_CONFIG}
-use Rattle.layout.specs.Field.{Field, takes, refuses}
+use Rattle.layout.specs.Questions.{COURIER_CONFIG}
 use Rattle.layout.specs.Layout.{Answer, accepted, refused_by}
 use Rattle.rows.specs.Values as value
 use Rattle.rows.specs.Checks.{courier_allowed}
 use Rattle.device.specs.declared.CourierConfig.{CourierConfig}
 use Rattle.device.specs.declared.ConfigAnswer.{ConfigAnswer}
 use Rattle.device.specs.declared.ConfigAnswer.TheVariants as config
-use Rattle.device.specs.declared.NextSlot.{NextSlot}
-use Rattle.device.specs.declared.NextSlot.TheVariants as slot
-use Rattle.device.specs.declared.SlotField.{SlotField}
-use Rattle.device.specs.declared.SlotField.TheVariants as field
 use Rattle.device.specs.declared.DeviceAt.{DeviceAt}
 use Rattle.device.specs.declared.DeviceCheck.{DeviceCheck}
 use Rattle.device.specs.declared.DeviceCheck.TheVariants as check
@@ -33,15 +27,6 @@ new_config enabled copies lifetime = cond (courier_allowed copies lifetime) (acc
 abbrev pub default_config : CourierConfig
 default_config = config_of true 6 1440
 
--- ---- next_slot
-abbrev pub slot_of : NextSlot → Option ℕ
-slot_of (slot.Stored n) = some n
-slot_of slot.Absent = none
-
-abbrev pub slot_says : SlotField → Field (Option ℕ)
-slot_says (field.Value s next) = takes (slot_of s) next
-slot_says field.Short = refuses FIELD
-
 -- ---- checking
 -- the device of these numbers: its key stands at 4
 abbrev pub device_from : List ℕ → DeviceAt → value.Device
@@ -53,7 +38,6 @@ device_from row at = record {
   enabled = at.courier.enabled;
   copies = at.courier.copies;
   lifetime_min = at.courier.lifetime_min;
-  next_slot = slot_of at.next_slot;
 }
 
 -- the key lies in the row

@@ -1,12 +1,8 @@
 // Device rows, as state.rs has them: the courier settings, and the questions of a row.
-ghost use Rattle.std.specs.Prelude.{◌≡◌, ◌≤◌, length};
-ghost use Rattle.std.proofs.Math.Option.{get_or};
-ghost use Rattle.layout.specs.Form.{only_if, u64};
-ghost use Rattle.layout.specs.Field.{read_at};
+ghost use Rattle.std.specs.Prelude.{◌≡◌};
 ghost use Rattle.layout.specs.Layout.{read_row};
-ghost use Rattle.rows.specs.Checks.{device_version_known, holds_slot};
 ghost use Rattle.rows.specs.Rows as layouts;
-ghost use Rattle.device.specs.Device.{config_says, new_config, default_config, slot_of, slot_says, check_says, Placed, check_refusal};
+ghost use Rattle.device.specs.Device.{config_says, new_config, default_config, check_says, Placed, check_refusal};
 
 use fields::{FlagField, RunField, U8Field, U16Field, U32Field, U64Field};
 use layout::question;
@@ -75,50 +71,10 @@ impl CourierConfig {
     }
 }
 
-// The next_slot of a row: version 3 has none.
-#[derive(Drop)]
-pub enum NextSlot {
-    Stored(u64),
-    Absent,
-}
-
-impl NextSlot {
-    // The one stored, or this one.
-    pub fn or(self, other: u64) -> u64
-        ensures { result ≡ get_or (slot_of self) other }
-    {
-        match self {
-            NextSlot::Stored(slot) => slot,
-            NextSlot::Absent => other,
-        }
-    }
-}
-
-#[derive(Drop)]
-enum SlotField {
-    Value(NextSlot, usize),
-    Short,
-}
-
-// next_slot, where the version holds it; no bytes where it does not.
-fn slot_at(version: u32, row: &[u8], at: usize) -> SlotField
-    requires { at ≤ length row.now }
-    ensures { slot_says result ≡ read_at (only_if u64 (holds_slot version)) row.now at }
-{
-    if version != rows::SLOT_VERSION {
-        return SlotField::Value(NextSlot::Absent, at);
-    }
-    let U64Field::Value(slot, next) = fields::u64_at(row, at) else {
-        return SlotField::Short;
-    };
-    SlotField::Value(NextSlot::Stored(slot), next)
-}
-
 // A device row's numbers.
 #[derive(Drop)]
 pub struct DeviceAt {
     pub next_contact: u64,
-    pub next_slot: NextSlot,
     pub beacon_day: u32,
     pub courier: CourierConfig,
     pub read_receipts: bool,
@@ -142,21 +98,11 @@ impl DeviceCheck {
     }
 }
 
-// Question 3.
-pub fn is_known(version: u32) -> bool
-    ensures { result ≡ device_version_known version }
-{
-    if version == rows::BLOB_VERSION {
-        return true;
-    }
-    version == rows::SLOT_VERSION
-}
-
 // The questions of a device row; nothing is copied.
 pub fn check_device(version: u32, row: &[u8]) -> DeviceCheck
     ensures { (check_says row.now result ≡ read_row (layouts.device version) row.now) × Placed row.now result }
 {
-    if !is_known(version) {
+    if version != rows::BLOB_VERSION {
         return DeviceCheck::Refused(question::VERSION);
     }
     let U32Field::Value(beacon_day, at1) = fields::u32_at(row, 0) else {
@@ -185,15 +131,11 @@ pub fn check_device(version: u32, row: &[u8]) -> DeviceCheck
     let ConfigAnswer::Config(courier) = CourierConfig::new(enabled, copies, lifetime_min) else {
         return DeviceCheck::Refused(question::COURIER_CONFIG);
     };
-    let SlotField::Value(next_slot, at8) = slot_at(version, row, at7) else {
-        return DeviceCheck::Refused(question::FIELD);
-    };
-    if at8 < row.len() {
+    if at7 < row.len() {
         return DeviceCheck::Refused(question::ROW_END);
     }
     DeviceCheck::Fields(DeviceAt {
         next_contact,
-        next_slot,
         beacon_day,
         courier,
         read_receipts,

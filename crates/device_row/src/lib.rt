@@ -7,7 +7,7 @@ ghost use Rattle.put.specs.Put.{Wrote};
 ghost use Rattle.rows.specs.Rows as layouts;
 ghost use Rattle.rows.specs.Answers.{written_says, leaves};
 ghost use Rattle.device.specs.Device.{device_from, Offsets};
-ghost use Rattle.device_row.specs.Row.{device_of, zero_device, device_read, DeviceTyped, image, courier_part, slot_part, slot_len, rowLen};
+ghost use Rattle.device_row.specs.Row.{device_of, zero_device, device_read, DeviceTyped, image, courier_part};
 
 use device::{ConfigAnswer, CourierConfig, DeviceAt, DeviceCheck};
 use layout::question;
@@ -16,7 +16,6 @@ use rows::{Verdict, Written};
 #[derive(Drop)]
 pub struct Device {
     pub next_contact: u64,
-    pub next_slot: u64,
     pub beacon_day: u32,
     pub courier: CourierConfig,
     pub read_receipts: bool,
@@ -25,15 +24,6 @@ pub struct Device {
 
 // Where a device row's key starts.
 const BEACON_KEY_AT: usize = 4;
-
-// How many bytes a device row has without next_slot.
-const BARE_LEN: usize = 49;
-
-// How many next_slot has.
-const SLOT_LEN: usize = 8;
-
-// What is read where the version holds no next_slot.
-const NO_SLOT: u64 = 0;
 
 // The device is all zeros where the verdict is a refusal.
 #[derive(Drop)]
@@ -49,11 +39,8 @@ fn device_from(row: &[u8], at: DeviceAt) -> Device
 {
     let beacon_key = put::copy_32(row, BEACON_KEY_AT);
     let courier = at.courier;
-    let slot = at.next_slot;
-    let next_slot = slot.or(NO_SLOT);
     Device {
         next_contact: at.next_contact,
-        next_slot,
         beacon_day: at.beacon_day,
         courier,
         read_receipts: at.read_receipts,
@@ -78,13 +65,15 @@ pub fn read_device(version: u32, row: &[u8]) -> DeviceRead
 }
 
 impl Device {
+    // How many bytes a device row has.
+    pub const ROW_LEN: usize = 49;
+
     // All zeros: what stands where no device was read.
     fn zero() -> Device
         ensures { result ≡ zero_device }
     {
         Device {
             next_contact: 0,
-            next_slot: 0,
             beacon_day: 0,
             courier: CourierConfig {
                 lifetime_min: 0,
@@ -97,17 +86,17 @@ impl Device {
     }
 
     // Asks what reading the row would ask, then for room; a refusal writes nothing.
-    pub fn row(self, version: u32, out: &mut [u8]) -> Written
-        ensures { leaves result out.new ≡ writes (layouts.device version) (image version self) out.old }
+    pub fn row(self, out: &mut [u8]) -> Written
+        ensures { leaves result out.new ≡ writes (layouts.device 3) (image self) out.old }
     {
-        let size = device_size(version, self);
+        let size = device_size(self);
         let Written::Length(n) = size else {
             return size;
         };
         if out.len() < n {
             return Written::Refused(question::OUTPUT);
         }
-        put_device(out, 0, version, self);
+        put_device(out, 0, self);
         Written::Length(n)
     }
 }
@@ -119,24 +108,11 @@ fn typed(device: Device) -> bool
     true
 }
 
-// How many bytes a device row of this version has.
-pub fn row_len(version: u32) -> usize
-    ensures { result ≡ rowLen version }
-{
-    if version == rows::SLOT_VERSION {
-        return BARE_LEN + SLOT_LEN;
-    }
-    BARE_LEN
-}
-
 // The length of the device's row, or the question that reading it would answer no.
-fn device_size(version: u32, device: Device) -> Written
-    ensures { written_says result ≡ asked (layouts.device version) (image version device) }
+fn device_size(device: Device) -> Written
+    ensures { written_says result ≡ asked (layouts.device 3) (image device) }
 {
     typed(device);
-    if !device::is_known(version) {
-        return Written::Refused(question::VERSION);
-    }
     let courier = device.courier;
     let ConfigAnswer::Config(_) = CourierConfig::new(
         courier.enabled,
@@ -145,13 +121,13 @@ fn device_size(version: u32, device: Device) -> Written
     ) else {
         return Written::Refused(question::COURIER_CONFIG);
     };
-    Written::Length(row_len(version))
+    Written::Length(Device::ROW_LEN)
 }
 
-// Writes the device's row where there is room, and asks nothing; the place behind it.
-pub fn put_device(out: &mut [u8], at: usize, version: u32, device: Device) -> usize
-    requires { at + length (image version device) ≤ length out.old }
-    ensures { (result ≡ at + length (image version device)) × Wrote out.old at (image version device) out.new result }
+// Writes the device's row where there is room; the place behind it.
+fn put_device(out: &mut [u8], at: usize, device: Device) -> usize
+    requires { at + length (image device) ≤ length out.old }
+    ensures { (result ≡ at + length (image device)) × Wrote out.old at (image device) out.new result }
 {
     typed(device);
     let beacon_key_at = put::put_be(out, at, 4, device.beacon_day as u64);
@@ -160,8 +136,7 @@ pub fn put_device(out: &mut [u8], at: usize, version: u32, device: Device) -> us
     let read_receipts_at = put::put_be(out, next_contact_at, 8, device.next_contact);
     let courier_at = put::put_byte(out, read_receipts_at, flag_byte(device.read_receipts));
     let courier = device.courier;
-    let next_slot_at = put_courier(out, courier_at, courier);
-    put_slot(out, next_slot_at, version, device.next_slot)
+    put_courier(out, courier_at, courier)
 }
 
 fn flag_byte(flag: bool) -> u8
@@ -170,7 +145,7 @@ fn flag_byte(flag: bool) -> u8
     if flag { 1 } else { 0 }
 }
 
-// The courier settings.
+// The row from the courier settings on.
 fn put_courier(out: &mut [u8], at: usize, courier: CourierConfig) -> usize
     requires { at + 4 ≤ length out.old }
     ensures { (result ≡ at + 4) × Wrote out.old at (courier_part courier) out.new result }
@@ -178,15 +153,4 @@ fn put_courier(out: &mut [u8], at: usize, courier: CourierConfig) -> usize
     let copies_at = put::put_byte(out, at, flag_byte(courier.enabled));
     let lifetime_min_at = put::put_byte(out, copies_at, courier.copies);
     put::put_be(out, lifetime_min_at, 2, courier.lifetime_min as u64)
-}
-
-// next_slot, where the version holds it; no bytes where it does not.
-fn put_slot(out: &mut [u8], at: usize, version: u32, slot: u64) -> usize
-    requires { at + slot_len version ≤ length out.old }
-    ensures { (result ≡ at + slot_len version) × Wrote out.old at (slot_part version slot) out.new result }
-{
-    if version == rows::SLOT_VERSION {
-        return put::put_be(out, at, SLOT_LEN, slot);
-    }
-    at
 }

@@ -1,6 +1,5 @@
 -- The numbers of the questions of documents 01 (1 to 44) and 02 (45 to 58), by name: what is answered where the answer to the question is no.
--- 54 is asked between 16 and 17, so it belongs to every range of numbers that spans this place: 3 to 24, 17 to 24, 1 to 33. 51 is asked after 33, and belongs to
--- 25 to 33 and 1 to 33.
+-- 54 is asked between 16 and 17, so it belongs to every range of numbers that spans this place: 3 to 24, 17 to 24, 1 to 33.
 -- `src/question.rt` has the same names for code. Assumes nothing.
 use Rattle.std.specs.Prelude.{ℕ}
 

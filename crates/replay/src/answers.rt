@@ -1,5 +1,5 @@
 // What is printed for a line: the answer to a call, the state, or that the line is none.
-use super::{BEGIN, CONVERT, NOTHING, SHOW, STATE, Script, UNKNOWN, least};
+use super::{BEGIN, NOTHING, SHOW, STATE, Script, UNKNOWN, least};
 use ascii::first;
 use calls_session::Session;
 use calls_step::Mark;
@@ -14,21 +14,16 @@ pub struct Answered {
     pub said: Written,
 }
 
-// Whether a text was printed whole. A write that fails is said to have failed.
-pub(super) fn print_text(text: &[u8]) -> bool {
-    if io::write_all(STDOUT_FILENO, text) {
-        return true;
-    }
-    os::fail(b"standard output");
-    false
-}
-
-// The same of what was written to the front of a line.
+// Whether the line was printed whole. A write that fails is said to have failed.
 pub(super) fn print(written: Written, line: &[u8]) -> bool {
     let Written::Length(n) = written else {
         return true;
     };
-    print_text(first(line, n))
+    if io::write_all(STDOUT_FILENO, first(line, n)) {
+        return true;
+    }
+    os::fail(b"standard output");
+    false
 }
 
 // The open contact, its fields as a row, and the places of the list above contiguous that were written.
@@ -115,7 +110,7 @@ fn make_call(
     }
 }
 
-// What a line asks for. A conversion leaves the session as it is, and is printed on its own.
+// What a line asks for.
 pub(super) fn answer(
     session: Session,
     s: Script,
@@ -129,7 +124,7 @@ pub(super) fn answer(
     out: &mut [u8],
     line: &mut [u8],
 ) -> Answered {
-    if s.code == NOTHING || s.code == CONVERT {
+    if s.code == NOTHING {
         return Answered {
             session,
             said: Written::Length(0),

@@ -1,16 +1,15 @@
-// What a line of a script asks for: a command, or a line of a store behind one.
+// What a line of a script asks for: a command, or a line behind a restore.
 ghost use Rattle.std.specs.Prelude.{◌≤◌};
 
-use super::conversions::converting;
 use super::{ABOVE, CHAINS, EXPIRED, NOTHING, SKIPPED, STATE, Script, UNACKED, at_most, least};
 use ascii::first;
 use rows::Written;
 use sheet::{Answer, State};
 
-// ---- lines of a store
+// ---- lines of a restore
 
 // Where the numbers of an entry stand, of a store whose entries start with this one.
-pub(super) fn place_of(first: usize, entry: usize) -> usize
+fn place_of(first: usize, entry: usize) -> usize
     ensures { result ≤ 6144 }
 {
     (least(first, sheet::LINES) + least(entry, sheet::LINES)) * sheet::RECORD
@@ -40,14 +39,14 @@ fn fed(s: Script, part: &[u8], run: &mut [u8], records: &mut [u64]) -> State {
     sheet::read_chunk(before, part, &mut run[start..], &mut records[place..])
 }
 
-// What a sheet's line leaves: the store, where it is the last, or nothing to do.
+// What a sheet's line leaves: the restore, where it is the last, or nothing to do.
 fn line_read(s: Script) -> Script {
     let sheet = s.sheet;
     match sheet::finish(sheet) {
         Answer::Refused(_, _) => s.unknown(),
         Answer::Read(lines, used) => {
             if s.left == 0 {
-                s.has_store(used, lines)
+                s.restores(used, lines)
             } else {
                 s
             }
@@ -71,15 +70,15 @@ fn entry_line(s: Script, line: &[u8], records: &mut [u64]) -> Script {
         let mut next = s;
         next.entries = std::num::wrapping_add_usize(s.entries, 1);
         if next.left == 0 {
-            return next.has_store(next.len, next.entries);
+            return next.restores(next.len, next.entries);
         }
         return next;
     }
     s.unknown()
 }
 
-// A line of a store.
-fn store_line(s: Script, line: &[u8], run: &mut [u8], records: &mut [u64]) -> Script {
+// A line behind a restore.
+fn restore_line(s: Script, line: &[u8], run: &mut [u8], records: &mut [u64]) -> Script {
     let mut next = s;
     next.left = std::num::wrapping_sub_u64(s.left, 1);
     if next.raw {
@@ -90,8 +89,7 @@ fn store_line(s: Script, line: &[u8], run: &mut [u8], records: &mut [u64]) -> Sc
 
 // ---- commands
 
-// A store whose lines are a sheet's.
-fn sheet_of(s: Script, count: u64) -> Script {
+fn restore_of(s: Script, count: u64) -> Script {
     if (sheet::LINES as u64) < count {
         return s.unknown();
     }
@@ -101,7 +99,7 @@ fn sheet_of(s: Script, count: u64) -> Script {
     next.raw = false;
     next.left = count;
     if count == 0 {
-        return next.has_store(0, 0);
+        return next.restores(0, 0);
     }
     next
 }
@@ -115,17 +113,17 @@ fn bytes_of(s: Script, word: &[u8], run: &mut [u8]) -> Written {
 }
 
 // The row that bytes_of left.
-pub(super) fn row_in(s: Script, run: &[u8], n: usize) -> &[u8] {
+fn row_in(s: Script, run: &[u8], n: usize) -> &[u8] {
     let start = least(s.start, run.len());
     first(&run[start..], n)
 }
 
-// A store whose run is this word, and whose lines are entries.
-fn raw_of(s: Script, count: u64, word: &[u8], run: &mut [u8]) -> Script {
+fn raw_restore_of(s: Script, line: &[u8], run: &mut [u8]) -> Script {
+    let count = ascii::number(line, b' ', 1);
     if (sheet::LINES as u64) < count {
         return s.unknown();
     }
-    let Written::Length(n) = bytes_of(s, word, run) else {
+    let Written::Length(n) = bytes_of(s, ascii::word(line, b' ', 2), run) else {
         return s.unknown();
     };
     let mut next = s;
@@ -134,7 +132,7 @@ fn raw_of(s: Script, count: u64, word: &[u8], run: &mut [u8]) -> Script {
     next.len = n;
     next.entries = 0;
     if count == 0 {
-        return next.has_store(n, 0);
+        return next.restores(n, 0);
     }
     next
 }
@@ -220,7 +218,7 @@ fn read_line(s: Script, line: &[u8], run: &mut [u8], out: &mut [u8]) -> Script {
     read_bytes(s, line, run, n, out)
 }
 
-pub(super) fn narrow(n: u64) -> u32 {
+fn narrow(n: u64) -> u32 {
     (n % 4294967296) as u32
 }
 
@@ -262,22 +260,10 @@ fn command_line(s: Script, line: &[u8], run: &mut [u8], out: &mut [u8]) -> Scrip
         return s.begins();
     }
     if command == replay_script::RESTORE {
-        return sheet_of(s, ascii::number(line, b' ', 1));
+        return restore_of(s, ascii::number(line, b' ', 1));
     }
     if command == replay_script::RAWRESTORE {
-        return raw_of(
-            s,
-            ascii::number(line, b' ', 1),
-            ascii::word(line, b' ', 2),
-            run,
-        );
-    }
-    if command == replay_script::CONVERT {
-        return sheet_of(converting(s, line), ascii::number(line, b' ', 4));
-    }
-    if command == replay_script::RAWCONVERT {
-        let count = ascii::number(line, b' ', 4);
-        return raw_of(converting(s, line), count, ascii::word(line, b' ', 5), run);
+        return raw_restore_of(s, line, run);
     }
     if command == replay_script::LEND {
         return lend(s, line);
@@ -311,7 +297,7 @@ pub(super) fn one_line(
     let mut next = s.asks(NOTHING, 0, 0, 0, 0);
     next.number = std::num::wrapping_add_u64(s.number, 1);
     if 0 < next.left {
-        return store_line(next, line, run, records);
+        return restore_line(next, line, run, records);
     }
     if line.len() == 0 {
         return next;
@@ -319,6 +305,5 @@ pub(super) fn one_line(
     if is_passed(line[0]) {
         return next;
     }
-    next.converts = false;
     command_line(next, line, run, out)
 }

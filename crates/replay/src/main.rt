@@ -1,10 +1,8 @@
 // Replays scripts of calls: reads lines from standard input, makes each call with the proved libraries, and prints its answer as one line.
 // Nothing is kept of a line that was read but what the calls left; a script may be of any length. The store of the last granted restore stands in
-// one half of the run and of the records, and the next one is read into the other half, where a row of veil or read stands too, and a store that is
-// converted.
+// one half of the run and of the records, and the next one is read into the other half, where a row of veil or read stands too.
 mod answers;
 mod commands;
-mod conversions;
 mod window;
 
 ghost use Rattle.std.specs.Prelude.{◌≡◌, ◌≤◌, length};
@@ -12,7 +10,6 @@ ghost use Rattle.std.specs.Prelude.{◌≡◌, ◌≤◌, length};
 use answers::{answer, pairs_open, print};
 use calls_session::Session;
 use commands::one_line;
-use conversions::show;
 use rows::Written;
 use sheet::State;
 use window::{END, LINE, Window, line_in, look};
@@ -30,8 +27,8 @@ const EXPIRED: usize = 7680;
 
 const OUT: usize = 65536;
 
-// What a line asks for that is no call: nothing; that a script begins; that the state is printed, or an answer that is known; that the program
-// ends, since it is none; and that a store is converted.
+// What a line asks for that is no call: nothing; that a script begins; that the state is printed, or an answer that is known; and that the program
+// ends, since it is none.
 const NOTHING: u64 = 0;
 
 const BEGIN: u64 = 100;
@@ -41,8 +38,6 @@ const STATE: u64 = 101;
 const SHOW: u64 = 102;
 
 const UNKNOWN: u64 = 103;
-
-const CONVERT: u64 = 104;
 
 // ---- what is kept between lines, beside the session and the memory
 
@@ -56,7 +51,7 @@ struct Script {
     b: u64,
     c: u64,
     d: u64,
-    // the store that is being read: lines to come, bytes of the run and entries so far, and where they go
+    // the restore that is being read: lines to come, bytes of the run and entries so far, and where they go
     left: u64,
     len: usize,
     entries: usize,
@@ -64,11 +59,6 @@ struct Script {
     first: usize,
     sheet: State,
     raw: bool,
-    // whether it is to be converted and not restored: the wanted version, and the bytes and entries that are lent for it
-    converts: bool,
-    wanted: u32,
-    room: usize,
-    places: usize,
     // the lent lengths, in bytes and numbers
     chains: usize,
     skipped: usize,
@@ -109,14 +99,10 @@ impl Script {
             left: 0,
             len: 0,
             entries: 0,
-            start: sheet::BLOB_BYTES,
-            first: sheet::LINES,
+            start: 0,
+            first: 0,
             sheet,
             raw: false,
-            converts: false,
-            wanted: 0,
-            room: 0,
-            places: 0,
             chains: 0,
             skipped: 0,
             above: 0,
@@ -159,14 +145,9 @@ impl Script {
         self
     }
 
-    // A store that was read is restored, or converted.
-    fn has_store(self, len: usize, n: usize) -> Script {
-        let mut code = calls_code::RESTORE;
-        if self.converts {
-            code = CONVERT;
-        }
+    fn restores(self, len: usize, n: usize) -> Script {
         self.asks(
-            code,
+            calls_code::RESTORE,
             self.start as u64,
             len as u64,
             self.first as u64,
@@ -207,7 +188,7 @@ impl Script {
     }
 }
 
-// A store whose lines are not all there ends at the first that is missing, unless it is not known what comes, since a read failed.
+// A restore whose lines are not all there ends at the first that is missing, unless it is not known what comes, since a read failed.
 fn finish(s: Script, failed: bool, line: &mut [u8]) {
     if failed {
         return;
@@ -262,7 +243,7 @@ fn turn(
         session, asked, run, records, chains, skipped, above, unacked, expired, out, line,
     );
     let said = answered.said;
-    let printed = show(asked, said, run, records, line);
+    let printed = print(said, line);
     let after = answered.session;
     let mark = after.mark;
     let next = asked.after(after.first, pairs_open(mark, after.contact.above));

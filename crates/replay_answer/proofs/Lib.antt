@@ -1,4 +1,3 @@
 mod Lines
 mod Answers
 mod Ranges
-mod Entries

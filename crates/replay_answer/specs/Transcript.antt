@@ -1,5 +1,5 @@
 -- The lines that `replay` prints: `= `, a text, LF. The text of the answer to a call: an answer is six numbers (calls_code/specs/Encoding.antt), and what
--- the call wrote stands at the front of the output. The text of the state of an open contact, and of an entry of a converted store.
+-- the call wrote stands at the front of the output. The text of the state of an open contact.
 -- Assumes nothing.
 use Rattle.std.specs.Prelude.{ℕ, ◌-◌, List, [], ◌∷◌, ◌++◌, cond, length, take, eqb}
 use Rattle.rows.specs.Values.{Range}
@@ -55,10 +55,6 @@ answer_text tag a b out =
     (cond (eqb tag NO) (no_text ++ decimal a)
     (place_text a b)))))))
 
--- a mark and a number behind it
-abbrev pub marked : (mark n : ℕ) → List ℕ
-marked mark n = mark ∷ decimal n
-
 -- ---- the state of an open contact: its id, its fields as a row in hexadecimal, and ranges of the list above contiguous
 -- `;`
 abbrev pub SEMICOLON : ℕ
@@ -79,18 +75,3 @@ ranges_text rs = cond (eqb (length rs) 0) (SPACE ∷ DASH ∷ []) (listed SPACE 
 
 abbrev pub state_text : (id : ℕ) → (row : List ℕ) → (above : List Range) → List ℕ
 state_text id row above = decimal id ++ (SPACE ∷ (pairs_of row ++ ranges_text above))
-
--- ---- an entry of a converted store, as it stands behind the run
--- `:`
-abbrev pub COLON : ℕ
-COLON = 0x3A
-
--- ` kind:id:msgno:version:start:length`
-abbrev pub entry_text : (kind id msgno version start len : ℕ) → List ℕ
-entry_text kind id msgno version start len =
-    marked SPACE kind ++
-    (marked COLON id ++
-    (marked COLON msgno ++
-    (marked COLON version ++
-    (marked COLON start ++
-    marked COLON len))))

@@ -1,5 +1,4 @@
-// The lines that `replay` prints: `= `, a text, LF. Each is written to the front of the output, if there is room for all of it; so is the text of an
-// entry, since the line of a conversion is printed in pieces.
+// The lines that `replay` prints: `= `, a text, LF. Each is written to the front of the output, if there is room for all of it.
 ghost use Rattle.std.specs.Prelude.{◌≡◌, [], ◌∷◌, ◌++◌, ◌+◌, ◌-◌, ◌*◌, ◌≤◌, ◌<◌, length, leb};
 ghost use Rattle.layout.specs.Write.{stored};
 ghost use Rattle.rows.specs.Answers.{leaves};
@@ -9,7 +8,7 @@ ghost use Rattle.received.specs.Lent.{pairs};
 ghost use Rattle.numbers.specs.Decimal.{decimal};
 ghost use Rattle.ascii.specs.Words.{SPACE};
 ghost use Rattle.ascii.specs.Hex.{hex_of};
-ghost use Rattle.replay_answer.specs.Transcript.{EQUALS, line_of, truth_text, added_text, place_text, answer_text, range_text, listed, ranges_text, state_text, marked, entry_text};
+ghost use Rattle.replay_answer.specs.Transcript.{EQUALS, line_of, truth_text, added_text, place_text, answer_text, range_text, listed, ranges_text, state_text};
 
 use calls_code::{ADVANCED, NO, NUMBER, SAID, TRUTH, WROTE, YES};
 use layout::question;
@@ -25,13 +24,8 @@ const DASH: u8 = b'-';
 
 const SEMICOLON: u8 = b';';
 
-const COLON: u8 = b':';
-
 // How many bytes stand around a text.
 const AROUND: usize = 3;
-
-// How many bytes of an entry's text are no number's.
-const MARKS: usize = 6;
 
 fn begin(out: &mut [u8]) -> usize
     requires { 3 ≤ length out.old }
@@ -164,15 +158,6 @@ pub fn answer_line(tag: u64, a: u64, b: u64, bytes: &[u8], out: &mut [u8]) -> Wr
     place_line(a, b, out)
 }
 
-// A mark and a number behind it.
-fn put_marked(out: &mut [u8], at: usize, mark: u8, n: u64) -> usize
-    requires { at + length (marked mark n) ≤ length out.old }
-    ensures { (result ≡ at + length (marked mark n)) × Wrote out.old at (marked mark n) out.new result }
-{
-    let number_at = put::put_byte(out, at, mark);
-    ascii::put_decimal(out, number_at, n)
-}
-
 // ---- the state of an open contact
 
 // The length of a range and the mark before it.
@@ -216,8 +201,10 @@ fn put_range(out: &mut [u8], at: usize, mark: u8, from: u64, to: u64) -> usize
     requires { at + length (mark ∷ range_text (range from to)) ≤ length out.old }
     ensures { (result ≡ at + length (mark ∷ range_text (range from to))) × Wrote out.old at (mark ∷ range_text (range from to)) out.new result }
 {
-    let dash_at = put_marked(out, at, mark, from);
-    put_marked(out, dash_at, DASH, to)
+    let from_at = put::put_byte(out, at, mark);
+    let dash_at = ascii::put_decimal(out, from_at, from);
+    let to_at = put::put_byte(out, dash_at, DASH);
+    ascii::put_decimal(out, to_at, to)
 }
 
 fn put_listed(out: &mut [u8], at: usize, above: &[u32], count: usize) -> usize
@@ -287,38 +274,4 @@ pub fn state_line(id: ContactId, row: &[u8], above: &[u32], count: usize, out: &
         return opened_line(id, row, above, lent, out);
     }
     opened_line(id, row, above, count, out)
-}
-
-// ---- an entry of a converted store
-
-// How many bytes the text of an entry has.
-fn entry_len(kind: u64, id: u64, msgno: u64, version: u64, start: u64, len: u64) -> usize
-    ensures { result ≡ length (entry_text kind id msgno version start len) }
-{
-    let about = ascii::decimal_len(kind) + ascii::decimal_len(id) + ascii::decimal_len(msgno);
-    let place = ascii::decimal_len(version) + ascii::decimal_len(start) + ascii::decimal_len(len);
-    about + place + MARKS
-}
-
-// An entry as it stands behind the run: a space, and six numbers with colons between them.
-pub fn entry_text(
-    kind: u64,
-    id: u64,
-    msgno: u64,
-    version: u64,
-    start: u64,
-    len: u64,
-    out: &mut [u8],
-) -> Written
-    ensures { leaves result out.new ≡ stored (entry_text kind id msgno version start len) out.old }
-{
-    if out.len() < entry_len(kind, id, msgno, version, start, len) {
-        return Written::Refused(question::OUTPUT);
-    }
-    let id_at = put_marked(out, 0, SPACE, kind);
-    let msgno_at = put_marked(out, id_at, COLON, id);
-    let version_at = put_marked(out, msgno_at, COLON, msgno);
-    let start_at = put_marked(out, version_at, COLON, version);
-    let len_at = put_marked(out, start_at, COLON, start);
-    Written::Length(put_marked(out, len_at, COLON, len))
 }

@@ -6,7 +6,7 @@ use Rattle.ascii.specs.Decimal as decimals
 use Rattle.ascii.specs.Words as words
 use Rattle.store.specs.Kinds.{DEVICE, CONTACT}
 use Rattle.replay_script.specs.Script as script
-use Rattle.replay_script.specs.Script.{UNKNOWN, SCRIPT, RESTORE, RAWRESTORE, LEND, OPEN, COVER, CONTAINS, COVERS, TAKE, STATEMENT, WRITE, VEIL, READ, STATE, CONVERT, RAWCONVERT, bytes, command_of, is_entry, lengths_for}
+use Rattle.replay_script.specs.Script.{UNKNOWN, SCRIPT, RESTORE, RAWRESTORE, LEND, OPEN, COVER, CONTAINS, COVERS, TAKE, STATEMENT, WRITE, VEIL, READ, STATE, bytes, command_of, is_entry, lengths_for}
 
 -- ---- commands
 a-script : command_of (bytes "script 1") ≡ SCRIPT
@@ -64,14 +64,6 @@ a_read = refl
 a-state : command_of (bytes "state") ≡ STATE
 unfolding words.parted decimals.decimal_in script.same script.code_from script.decimals_from
 a-state = refl
-
-a-convert : command_of (bytes "convert 4294967295 18446744073709551615 18446744073709551615 4") ≡ CONVERT
-unfolding words.parted decimals.decimal_in script.same script.code_from script.decimals_from
-a-convert = refl
-
-a-raw-convert : command_of (bytes "rawconvert 3 0 0 1 0a") ≡ RAWCONVERT
-unfolding words.parted decimals.decimal_in script.same script.code_from script.decimals_from
-a-raw-convert = refl
 
 -- ---- no commands
 no-command : command_of (bytes "fly") ≡ UNKNOWN
@@ -133,18 +125,6 @@ space-before = refl
 two-spaces : command_of (bytes "open  1") ≡ UNKNOWN
 unfolding words.parted decimals.decimal_in script.same script.code_from script.decimals_from
 two-spaces = refl
-
-wide-wanted : command_of (bytes "convert 4294967296 475 4 4") ≡ UNKNOWN
-unfolding words.parted decimals.decimal_in script.same script.code_from script.decimals_from
-wide-wanted = refl
-
-no-count : command_of (bytes "convert 4 475 4") ≡ UNKNOWN
-unfolding words.parted decimals.decimal_in script.same script.code_from script.decimals_from
-no-count = refl
-
-no_run : command_of (bytes "rawconvert 4 475 4 4") ≡ UNKNOWN
-unfolding words.parted decimals.decimal_in script.same script.code_from script.decimals_from
-no_run = refl
 
 -- ---- entries, and lent lengths
 an-entry : is_entry (bytes "0 0 0 3 0 49") ≡ true

@@ -1,6 +1,6 @@
 -- A line of a script of calls, on its bytes: words with a space between them, the first a command's name.
 -- Behind the name stand decimals, first those of 32 bits and then those of 64, and then other words: hexadecimal, and the lent lengths of a read.
--- The lines behind a `rawrestore` or a `rawconvert` are of decimals alone.
+-- The lines behind a `rawrestore` are of decimals alone.
 -- Assumes nothing.
 use Rattle.std.specs.Prelude.{ℕ, zero, suc, ◌+◌, List, [], ◌∷◌, Bool, true, false, cond, ◌&&◌, length, get_or, eqb, leb}
 use Prim.Native.Char.{code}
@@ -45,8 +45,6 @@ commands =
     command "veil" 2 1 1 ∷
     command "read" 2 0 2 ∷
     command "state" 0 0 0 ∷
-    command "convert" 1 3 0 ∷
-    command "rawconvert" 1 3 1 ∷
     []
 
 -- their codes, and 0, which is none
@@ -94,12 +92,6 @@ READ = 13
 
 abbrev pub STATE : ℕ
 STATE = 14
-
-abbrev pub CONVERT : ℕ
-CONVERT = 15
-
-abbrev pub RAWCONVERT : ℕ
-RAWCONVERT = 16
 
 -- what has the code 0: nothing stands behind it
 abbrev pub unknown : Command
@@ -172,7 +164,7 @@ up_to_from i (h ∷ hs) words = is_decimal_at h i words && up_to_from (suc i) hs
 abbrev pub decimals_up_to : (highest : List ℕ) → List (List ℕ) → Bool
 decimals_up_to highest words = eqb (length words) (length highest) && up_to_from 0 highest words
 
--- an entry behind `rawrestore` or `rawconvert`: kind, id, msgno, version, start, length
+-- an entry behind `rawrestore`: kind, id, msgno, version, start, length
 abbrev pub is_entry : List ℕ → Bool
 is_entry line = decimals_up_to (U32 ∷ U64 ∷ U32 ∷ U32 ∷ U64 ∷ U64 ∷ []) (parted SPACE line)
 

@@ -1,5 +1,5 @@
 // A line of a script of calls: words with a space between them, a command's name and behind it its numbers, and for some commands other words.
-// A line that is no command is `UNKNOWN`. Behind `rawrestore` and `rawconvert` stand lines of six decimals, and the lent lengths of `read` are five with commas.
+// A line that is no command is `UNKNOWN`. Behind `rawrestore` stand lines of six decimals, and the lent lengths of `read` are five with commas.
 ghost use Rattle.std.specs.Prelude.{◌≡◌, ◌&&◌, ◌≤◌};
 ghost use Rattle.ascii.specs.Words.{SPACE, before, parted};
 ghost use Rattle.replay_script.specs.Script.{same, code_of, narrow_of, wide_of, others_of, highest_at, is_decimal_at, decimals_from, command_of, is_entry, are_lengths, lengths_for};
@@ -44,13 +44,9 @@ pub const READ: u8 = 13;
 
 pub const STATE: u8 = 14;
 
-pub const CONVERT: u8 = 15;
-
-pub const RAWCONVERT: u8 = 16;
-
 // The table of commands has a row for each code from 0 on: the name with dots behind it, and a digit each for the decimals of 32 bits,
 // the decimals of 64 bits and the other words that stand behind the name. A command adds its row, its number above, and 1 to CODES.
-const CODES: usize = 17;
+const CODES: usize = 15;
 
 const ROW: usize = 20;
 
@@ -76,8 +72,6 @@ const TABLE: [u8; CODES * ROW] = *b"\
     veil.............211\
     read.............202\
     state............000\
-    convert..........130\
-    rawconvert.......131\
 ";
 
 fn narrow_of(table: &[u8], code: u8) -> usize
@@ -213,7 +207,7 @@ pub fn command(line: &[u8]) -> u8
 
 // ---- other lines and words
 
-// Whether a line behind `rawrestore` or `rawconvert` is an entry: kind, id, msgno, version, start, length.
+// Whether a line behind `rawrestore` is an entry: kind, id, msgno, version, start, length.
 pub fn is_entry(line: &[u8]) -> bool
     ensures { result ≡ is_entry line.now }
 {

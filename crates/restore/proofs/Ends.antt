@@ -3,7 +3,6 @@
 use Prim.Native.Nat.{ℕ, ◌<◌}
 use native.Mathlib.Omega.{arith}
 use mathlib.Core.List.{List, [], ◌∷◌}
-use mathlib.Core.Option.{get_or}
 use mathlib.Core.Path.{◌≡◌, refl, sym, ◌∙◌, ap, subst}
 use lib.Dec.{T}
 use lib.ListN.{length}
@@ -14,7 +13,7 @@ use Rattle.store.specs.declared.Omitted.TheVariants.{Nothing}
 use Rattle.store.specs.declared.Asked.{Asked}
 use Rattle.store.specs.declared.Asked.TheVariants as so
 use Rattle.store.specs.Rounds.{Round, turns}
-use Rattle.store.specs.Store.{store_of, seen, next_in, next_slot_in, slots_below, asked, found, outcome, restore, going}
+use Rattle.store.specs.Store.{store_of, seen, next_in, slots_below, asked, found, outcome, restore, going}
 use Rattle.store.specs.Omitted.{is_omitted, omitted_seen, asked_omitted}
 use Rattle.restore_rounds.specs.Rounds.{round_of}
 use Rattle.restore_across.specs.declared.Across.{Across}
@@ -48,11 +47,9 @@ some-entry run (x ∷ es) omitted e = omega arith
 
 ends_at : (run : List ℕ) (es : List Entry) (omitted : Omitted) (end : Across) → At run es omitted (length es) end → ended end ≡ questioned run es omitted
 ends_at run es omitted (Going w) at =
-    let some = some-entry run es omitted at.asked in
-    let next = at.so-kept.next some in
-    let slot = at.so-kept.next-slot some in
-    λ k. granting (at.asked k) (next k) (get_or (slot k) (at.so-kept.slots k))
-ends_at run es omitted (Refused number place) at = ap (λ (a : Asked). granting a (next_in (sight run es omitted) es) (get_or (next_slot_in (sight run es omitted) es) (slots_below es (length es)))) at.asked
+    let next = at.so-kept.next (some-entry run es omitted at.asked) in
+    λ k. granting (at.asked k) (next k) (at.so-kept.slots k)
+ends_at run es omitted (Refused number place) at = ap (λ (a : Asked). granting a (next_in (sight run es omitted) es) (slots_below es (length es))) at.asked
 
 pub answers : (run : List ℕ) (es : List Entry) (omitted : Omitted) (end : Across) (r : Restored) → At run es omitted (length es) end → r ≡ ended end → r ≡ questioned run es omitted
 answers run es omitted end r at is-r = is-r ∙ ends_at run es omitted end at
@@ -61,7 +58,7 @@ answers run es omitted end r at is-r = is-r ∙ ends_at run es omitted end at
 restored : (run : List ℕ) (es : List Entry) → questioned run es Nothing ≡ answered (restore (store_of run es))
 restored run es = go (asked (store_of run es))
   where
-    go : (a : Asked) → granting a (next_in (seen (store_of run es)) es) (get_or (next_slot_in (seen (store_of run es)) es) (slots_below es (length es))) ≡ answered (outcome a (found (store_of run es)))
+    go : (a : Asked) → granting a (next_in (seen (store_of run es)) es) (slots_below es (length es)) ≡ answered (outcome a (found (store_of run es)))
     go so.Going = refl
     go (so.Refused number place) = refl
 

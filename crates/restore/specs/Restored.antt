@@ -1,17 +1,15 @@
 -- What restore answers, and the questions with a contact's row left out.
 -- Assumes nothing.
 use Rattle.std.specs.Prelude.{ℕ, List, Bool, true, false, cond, length, eqb}
-use Rattle.std.proofs.Math.Option.{get_or}
 use Rattle.layout.specs.Questions.{ORDER}
 use Rattle.store.specs.declared.Entry.{Entry}
 use Rattle.store.specs.declared.Omitted.{Omitted}
 use Rattle.store.specs.declared.Asked.{Asked}
 use Rattle.store.specs.declared.Asked.TheVariants as asked
-use Rattle.store.specs.Store.{Outcome, granted, refused, next_in, next_slot_in, slots_below}
+use Rattle.store.specs.Store.{Outcome, granted, refused, next_in, slots_below}
 use Rattle.store.specs.Omitted.{is_omitted, omitted_seen, seen_omitted, asked_omitted}
 use Rattle.restore_across.specs.declared.Across.{Across}
 use Rattle.restore_across.specs.declared.Across.TheVariants as across
-use Rattle.restore_across.specs.Across.{next_slot}
 use Rattle.restore.specs.declared.Restored.{Restored}
 use Rattle.restore.specs.declared.Restored.TheVariants.{Granted, Refused}
 
@@ -29,8 +27,7 @@ abbrev pub questioned : (run : List ℕ) → List Entry → Omitted → Restored
 questioned run es omitted =
     let is_left = is_omitted omitted in
     let x = omitted_seen omitted in
-    let look = seen_omitted run es is_left x in
-    granting (asked_omitted run es is_left x) (next_in look es) (get_or (next_slot_in look es) (slots_below es (length es)))
+    granting (asked_omitted run es is_left x) (next_in (seen_omitted run es is_left x) es) (slots_below es (length es))
 
 abbrev pub is_granted : Restored → Bool
 is_granted (Granted next slot) = true
@@ -41,5 +38,5 @@ abbrev pub begun_with : ℕ → Asked
 begun_with n = cond (eqb n 0) (asked.Refused ORDER 0) asked.Going
 
 abbrev pub ended : Across → Restored
-ended (across.Going w) = Granted w.next_contact (next_slot w)
+ended (across.Going w) = Granted w.next_contact w.slots
 ended (across.Refused number place) = Refused number place

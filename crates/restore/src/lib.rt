@@ -1,4 +1,4 @@
-// Restore: questions 1 to 33, 51 and 54 of a run of bytes and an entry for each row. It writes to nothing.
+// Restore: questions 1 to 33 and 54 of a run of bytes and an entry for each row. It writes to nothing.
 ghost use Rattle.std.specs.Prelude.{◌≡◌, ◌+◌, ◌-◌, ◌≤◌, ◌<◌, length};
 ghost use Rattle.store.specs.Rounds.{turn, turns};
 ghost use Rattle.store.specs.Store.{store_of, restore};
@@ -50,7 +50,7 @@ fn answer(state: Across) -> Restored
     ensures { result ≡ ended state }
 {
     match state {
-        Across::Going(w) => Restored::Granted(w.next_contact, restore_across::next_slot(w)),
+        Across::Going(w) => Restored::Granted(w.next_contact, w.slots),
         Across::Refused(number, place) => Restored::Refused(number, place),
     }
 }
@@ -178,7 +178,7 @@ fn owner_at(entries: &[Entry], index: &[u32], e: Entry, upto: usize, latest: usi
     restore_across::chosen(p, q, o, far, upto)
 }
 
-// ---- 25 to 33 and 51; `duplicate` is the first entry that has a duplicate
+// ---- 25 to 33; `duplicate` is the first entry that has a duplicate
 
 fn across_at(
     run: &[u8],
@@ -337,7 +337,7 @@ fn most_if(
     after
 }
 
-// Questions 1 to 33, 51 and 54, with the row of a contact left out, or with none.
+// Questions 1 to 33 and 54, with the row of a contact left out, or with none.
 pub fn questions(run: &[u8], entries: &[Entry], omitted: Omitted) -> Restored
     ensures { result ≡ questioned run.now entries.now omitted }
 {

@@ -8,14 +8,14 @@ use mathlib.Core.Path.{◌≡◌, refl, sym, ap, ◌∙◌, subst}
 use native.Mathlib.Omega.{arith}
 use lib.ListN.{length}
 use lib.Dec.{leb, ltb, eqb, T, ltb→lt, nltb→le, eqb→eq}
-use Rattle.layout.specs.Questions.{CONTACT_BELOW_NEXT, CONTACT_NEW, QUEUED_CONTACT, QUEUED_MSGNO, QUEUED_UNACKED, QUEUED_NEW, DEPOSITOR, SLOT_NEW, SLOT_BELOW_LAST, SLOT_BELOW_NEXT}
+use Rattle.layout.specs.Questions.{CONTACT_BELOW_NEXT, CONTACT_NEW, QUEUED_CONTACT, QUEUED_MSGNO, QUEUED_UNACKED, QUEUED_NEW, DEPOSITOR, SLOT_NEW, SLOT_BELOW_LAST}
 use Rattle.rows.specs.Checks.{any}
 use Rattle.store.specs.declared.Entry.{Entry}
 use Rattle.store.specs.declared.Omitted.{Omitted}
 use Rattle.store.specs.declared.Asked.TheVariants as so
 use Rattle.store.specs.Rounds.{ask, first_no, turn, turns}
 use Rattle.store.specs.Kinds.{DEVICE, CONTACT, QUEUED, COURIER, Kind, device, contact, queued, courier, unknown, kind_of, Seen}
-use Rattle.store.specs.Store.{entry_at, is_of, part_of, before, contact_before, next_in, next_slot_in, below_next, low_depositor, last_slot, slots_below, across_as}
+use Rattle.store.specs.Store.{entry_at, is_of, part_of, before, contact_before, next_in, low_depositor, last_slot, slots_below, across_as}
 use Rattle.store.specs.Duplicates.{first_duplicate}
 use Rattle.store.proofs.Tests.{truth, holds, false-not, not-false, found-any, nowhere, is-of}
 use Rattle.store.proofs.Rounds.{some≢none}
@@ -27,9 +27,8 @@ use Rattle.restore_across.specs.declared.Owner.{Owner}
 use Rattle.restore_across.specs.declared.Progress.{Progress}
 use Rattle.restore_across.specs.declared.Across.TheVariants.{Going}
 use Rattle.restore_across.specs.Owner.{owner_seen, OwnerStands, Known}
-use Rattle.restore_across.specs.Across.{after, raised, depositor_in, device_seen, OwnerAt, owner_limit, low_in, Reusable, device_turn, contact_turn, queued_turn, courier_turn, entry_turn_as}
+use Rattle.restore_across.specs.Across.{after, raised, depositor_in, next_contact_in, OwnerAt, owner_limit, low_in, Reusable, device_turn, contact_turn, queued_turn, courier_turn, entry_turn_as}
 use Rattle.restore_across.specs.At.{read_so, sight, asked_of, Kept, KeptIn, At}
-use Rattle.restore_across.proofs.Read.{slot-says}
 use Rattle.restore_across.proofs.Steps.{turns-last, SoFar, so_far, first-device, device-first, contact-known}
 
 -- ---- a kind's number
@@ -75,13 +74,9 @@ no-courier n k is other = go (eqb n COURIER) refl
     go false e = refl
 
 -- ---- the first is the device
-pub record FirstSeen (look : Entry → Seen) (es : List Entry) (d : Seen) : Type 0 where
-  pub next : d.next_contact ≡ next_in look es
-  pub slot : d.next_slot ≡ next_slot_in look es
-
-first-seen : (look : Entry → Seen) (es : List Entry) → 0 < length es → FirstSeen look es (look (entry_at es 0))
-first-seen look [] b = absurd (omega arith)
-first-seen look (e ∷ es) b = record { next = refl; slot = refl }
+next-first : (look : Entry → Seen) (es : List Entry) → 0 < length es → next_in look es ≡ (look (entry_at es 0)).next_contact
+next-first look [] b = absurd (omega arith)
+next-first look (e ∷ es) b = refl
 
 low-as : (look : Entry → Seen) (es : List Entry) (next : ℕ) (o : Option ℕ) → next ≡ next_in look es → low_in next o ≡ low_depositor es look o
 low-as look es next none h = refl
@@ -127,8 +122,8 @@ module _ (run : List ℕ) (es : List Entry) (omitted : Omitted) (i : ℕ) (w : P
   raised-slots q = ap (λ (n : ℕ). raised n e.id) kept.slots ∙ sym (rw (numbered e.kind courier q))
 
   -- an entry that is no device is not the first
-  later : (k : Kind) → kind_of e.kind ≡ k → is_device k ≡ false → 0 < i
-  later k q h = go i (ap is_device q ∙ h)
+  next-kept : (k : Kind) → kind_of e.kind ≡ k → is_device k ≡ false → w.next_contact ≡ next_in look es
+  next-kept k q h = kept.next (go i (ap is_device q ∙ h))
     where
       go : (j : ℕ) → is_device (kind_of (entry_at es j).kind) ≡ false → 0 < j
       go zero x = absurd (true≢false (sym (ap (λ (n : ℕ). is_device (kind_of n)) (first-device run es omitted all_so.read)) ∙ x))
@@ -138,30 +133,27 @@ module _ (run : List ℕ) (es : List Entry) (omitted : Omitted) (i : ℕ) (w : P
   device-turn : kind_of e.kind ≡ device → At run es omitted (suc i) (device_turn run e w)
   device-turn q =
       let first : i ≡ 0 = device-first run es omitted all_so.read i b (numbered e.kind device q) in
-      let own : device_seen run e ≡ look e = sym (other-seen run es omitted e DEVICE (numbered e.kind device q) refl) in
-      let its = subst (FirstSeen look es) (sym (own ∙ ap (λ (j : ℕ). look (entry_at es j)) first)) (first-seen look es (omega arith)) in
-      after_turn device q none _ refl (λ x. record { next = λ z. its.next; next-slot = λ z. slot-says (device_seen run e).next_slot ∙ its.slot; slots = other-slots device q refl; owner = kept.owner })
+      let own : next_contact_in run e ≡ (look e).next_contact = sym (ap (λ (x : Seen). x.next_contact) (other-seen run es omitted e DEVICE (numbered e.kind device q) refl)) in
+      let next = own ∙ ap (λ (j : ℕ). (look (entry_at es j)).next_contact) first ∙ sym (next-first look es (omega arith)) in
+      after_turn device q none _ refl (λ x. record { next = λ z. next; slots = other-slots device q refl; owner = kept.owner })
 
   contact-turn : kind_of e.kind ≡ contact → At run es omitted (suc i) (contact_turn e i f w)
   contact-turn q =
-      let next = kept.next (later contact q refl) in
+      let next = next-kept contact q refl in
       let new = kind-new es look i b all_so.quiet CONTACT (numbered e.kind contact q) refl refl in
       after_turn contact q _ _ (λ x. first_no (ask CONTACT_BELOW_NEXT (ltb e.id (next x)) ∷ ask CONTACT_NEW (new x) ∷ []))
-      (λ x. record { next = λ z. next; next-slot = λ z. kept.next-slot (later contact q refl); slots = other-slots contact q refl; owner = kept.owner })
+      (λ x. record { next = λ z. next; slots = other-slots contact q refl; owner = kept.owner })
 
   courier-turn : kind_of e.kind ≡ courier → At run es omitted (suc i) (courier_turn run e i f w)
   courier-turn q =
-      let next = kept.next (later courier q refl) in
-      let slot = kept.next-slot (later courier q refl) in
+      let next = next-kept courier q refl in
       let low = low-as look es w.next_contact (depositor_in run e) next ∙ ap (λ (x : Seen). low_depositor es look x.depositor) (sym (other-seen run es omitted e COURIER (numbered e.kind courier q) refl)) in
       let new = kind-new es look i b all_so.quiet COURIER (numbered e.kind courier q) refl refl in
-      after_turn courier q _ _ (λ x. first_no (ask DEPOSITOR (low x) ∷ ask SLOT_NEW (new x) ∷ ask SLOT_BELOW_LAST (ltb e.id last_slot) ∷ ask SLOT_BELOW_NEXT (below_next (slot x) e.id) ∷ []))
-      (λ x. record { next = λ z. next; next-slot = λ z. slot; slots = raised-slots q; owner = kept.owner })
+      after_turn courier q _ _ (λ x. first_no (ask DEPOSITOR (low x) ∷ ask SLOT_NEW (new x) ∷ ask SLOT_BELOW_LAST (ltb e.id last_slot) ∷ []))
+      (λ x. record { next = λ z. next; slots = raised-slots q; owner = kept.owner })
 
   unknown-turn : kind_of e.kind ≡ unknown → At run es omitted (suc i) (Going w)
-  unknown-turn q =
-      let l = later unknown q refl in
-      after_turn unknown q none w refl (λ x. record { next = λ z. kept.next l; next-slot = λ z. kept.next-slot l; slots = other-slots unknown q refl; owner = kept.owner })
+  unknown-turn q = after_turn unknown q none w refl (λ x. record { next = λ z. next-kept unknown q refl; slots = other-slots unknown q refl; owner = kept.owner })
 
   -- ---- a queued entry: p is where its contact was found, or no place before it
   -- what is kept of it, if it was found, is what is seen of it
@@ -191,7 +183,7 @@ module _ (run : List ℕ) (es : List Entry) (omitted : Omitted) (i : ℕ) (w : P
           ∷ ask QUEUED_UNACKED (not (any (eqb e.msgno) (says y).unacked))
           ∷ ask QUEUED_NEW (new y)
           ∷ []))
-          (λ y. record { next = λ z. kept.next (later queued q refl); next-slot = λ z. kept.next-slot (later queued q refl); slots = other-slots queued q refl; owner = λ z. stands l })
+          (λ y. record { next = λ z. next-kept queued q refl; slots = other-slots queued q refl; owner = λ z. stands l })
       go false x =
           let lost : before es i CONTACT e.id ≡ false = not-false (before es i CONTACT e.id) (nowhere i is_its (found.misses (nltb→le p i (false-not (ltb p i) x)))) in
           let refuses : some QUEUED_CONTACT ≡ first_no (across_as es look queued e i) = rw lost in

@@ -68,6 +68,6 @@ begins run es omitted = go (read_so run es omitted) refl
     go : (a : Asked) → read_so run es omitted ≡ a → At run es omitted 0 (begun_from a)
     go so.Going x = record {
       asked = sym x;
-      so-kept = record { next = λ z. absurd (omega arith); next-slot = λ z. absurd (omega arith); slots = refl; owner = λ k. let z : DEVICE ≡ CONTACT = sym (first-device run es omitted x) ∙ k in absurd (omega arith) };
+      so-kept = record { next = λ z. absurd (omega arith); slots = refl; owner = λ k. let z : DEVICE ≡ CONTACT = sym (first-device run es omitted x) ∙ k in absurd (omega arith) };
     }
     go (so.Refused n j) x = record { asked = sym x; so-kept = tt }

@@ -30,25 +30,12 @@ use Rattle.contact_known.specs.declared.SentAt.{SentAt}
 use Rattle.store.specs.declared.Omitted.{Omitted}
 use Rattle.store.specs.declared.Omitted.TheVariants as left
 use Rattle.store.specs.Omitted.{omitted_seen}
-use Rattle.device.specs.declared.NextSlot.{NextSlot}
-use Rattle.device.specs.declared.NextSlot.TheVariants.{Stored, Absent}
-use Rattle.device.specs.Device.{slot_of}
-use Rattle.restore_across.specs.Across.{slot_from}
 use Rattle.restore_across.specs.Owner.{contact_seen, owner_at, owner_read, owner_in, owner_omitted, OwnerStands, OwnerIn}
 use Rattle.restore_across.specs.declared.Owner.{Owner}
 
 -- what an answer shows, of the row or of an equal part of the run
 pub shown : {A X : Type 0} (l : Layout A) (show : Answer A → X) {row part : List ℕ} {a : Answer A} → row ≡ part → read_row l row ≡ a → show a ≡ show (read_row l part)
 shown l show same e = ap show (sym e) ∙ ap (λ (r : List ℕ). show (read_row l r)) same
-
--- ---- a next_slot, as the code keeps it
-pub slot_kept : (s : NextSlot) → slot_from (slot_of s) ≡ s
-slot_kept (Stored n) = refl
-slot_kept Absent = refl
-
-pub slot-says : (o : Option ℕ) → slot_of (slot_from o) ≡ o
-slot-says none = refl
-slot-says (some n) = refl
 
 -- ---- question q of a layout is a yes for a value that no question refuses
 second : (a b : Option ℕ) → first a b ≡ none → b ≡ none

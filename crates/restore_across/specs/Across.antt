@@ -1,8 +1,8 @@
--- What one entry's turn asks and leaves, and where it looks: questions 25 to 33 and 51, over the structs that the code keeps.
+-- What one entry's turn asks and leaves, and where it looks: questions 25 to 33, over the structs that the code keeps.
 -- Assumes nothing.
 use Rattle.std.specs.Prelude.{ℕ, ◌+◌, ◌≤◌, ◌<◌, List, [], ◌∷◌, Bool, true, cond, ◌&&◌, not, ◌≡◌, leb, ltb, eqb, T}
-use Rattle.std.proofs.Math.Option.{Option, none, some, get_or}
-use Rattle.layout.specs.Questions.{CONTACT_BELOW_NEXT, CONTACT_NEW, QUEUED_CONTACT, QUEUED_MSGNO, QUEUED_UNACKED, QUEUED_NEW, DEPOSITOR, SLOT_NEW, SLOT_BELOW_LAST, SLOT_BELOW_NEXT}
+use Rattle.std.proofs.Math.Option.{Option, none, some}
+use Rattle.layout.specs.Questions.{CONTACT_BELOW_NEXT, CONTACT_NEW, QUEUED_CONTACT, QUEUED_MSGNO, QUEUED_UNACKED, QUEUED_NEW, DEPOSITOR, SLOT_NEW, SLOT_BELOW_LAST}
 use Rattle.layout.specs.Layout.{read_row}
 use Rattle.rows.specs.Checks.{any}
 use Rattle.rows.specs.Rows as rows
@@ -11,12 +11,9 @@ use Rattle.store.specs.declared.Omitted.{Omitted}
 use Rattle.store.specs.declared.Asked.{Asked}
 use Rattle.store.specs.declared.Asked.TheVariants as so
 use Rattle.store.specs.Rounds.{ask, first_no}
-use Rattle.store.specs.Kinds.{CONTACT, QUEUED, Kind, device, contact, queued, courier, unknown, kind_of, Seen, seen_of}
-use Rattle.store.specs.Store.{entry_at, is_of, part_of, last_slot, below_next}
+use Rattle.store.specs.Kinds.{CONTACT, QUEUED, Kind, device, contact, queued, courier, unknown, kind_of, seen_of}
+use Rattle.store.specs.Store.{entry_at, is_of, part_of, last_slot}
 use Rattle.store.specs.declared.Wanted.{Wanted}
-use Rattle.device.specs.declared.NextSlot.{NextSlot}
-use Rattle.device.specs.declared.NextSlot.TheVariants.{Stored, Absent}
-use Rattle.device.specs.Device.{slot_of}
 use Rattle.restore_across.specs.declared.Owner.{Owner}
 use Rattle.restore_across.specs.declared.Progress.{Progress}
 use Rattle.restore_across.specs.declared.Across.{Across}
@@ -25,15 +22,11 @@ use Rattle.restore_across.specs.Owner.{no_owner, owner_seen, owner_from, owner_f
 
 -- ---- before the first turn
 abbrev pub fresh : Progress
-fresh = record { next_contact = 0; next_slot = Absent; slots = 0; latest = 0; owner = no_owner }
+fresh = record { next_contact = 0; slots = 0; latest = 0; owner = no_owner }
 
 abbrev pub begun_from : Asked → Across
 begun_from so.Going = Going fresh
 begun_from (so.Refused number place) = Refused number place
-
--- ---- what is answered: the device's next_slot where it has one, else what was worked out
-abbrev pub next_slot : Progress → ℕ
-next_slot w = get_or (slot_of w.next_slot) w.slots
 
 -- ---- where a queued row's contact stands
 abbrev pub contact_of : Entry → Wanted
@@ -102,13 +95,8 @@ abbrev pub low_in : (next : ℕ) → Option ℕ → Bool
 low_in next none = true
 low_in next (some d) = ltb d next
 
--- a device's next_slot, as the code keeps it
-abbrev pub slot_from : Option ℕ → NextSlot
-slot_from none = Absent
-slot_from (some n) = Stored n
-
-abbrev pub device_seen : (run : List ℕ) → Entry → Seen
-device_seen run e = seen_of device (read_row (rows.device e.version) (part_of run e))
+abbrev pub next_contact_in : (run : List ℕ) → Entry → ℕ
+next_contact_in run e = (seen_of device (read_row (rows.device e.version) (part_of run e))).next_contact
 
 abbrev pub depositor_read : (version : ℕ) → (row : List ℕ) → Option ℕ
 depositor_read version row = (seen_of courier (read_row (rows.courier version) row)).depositor
@@ -120,12 +108,8 @@ depositor_in run e = depositor_read e.version (part_of run e)
 abbrev pub SurelyLow : (next : ℕ) → (row : List ℕ) → Bool → Type 0
 SurelyLow next row r = r ≡ true → (version : ℕ) → low_in next (depositor_read version row) ≡ true
 
--- what is seen of the device
-abbrev pub settled : Seen → Progress → Across
-settled d w = Going (record { next_contact = d.next_contact; next_slot = slot_from d.next_slot; slots = w.slots; latest = w.latest; owner = w.owner })
-
 abbrev pub device_turn : (run : List ℕ) → Entry → Progress → Across
-device_turn run e w = settled (device_seen run e) w
+device_turn run e w = Going (record { next_contact = next_contact_in run e; slots = w.slots; latest = w.latest; owner = w.owner })
 
 abbrev pub contact_turn : Entry → (i f : ℕ) → Progress → Across
 contact_turn e i f w = after (first_no (ask CONTACT_BELOW_NEXT (ltb e.id w.next_contact) ∷ ask CONTACT_NEW (ltb i f) ∷ [])) i w
@@ -139,7 +123,7 @@ queued_turn row e i p f o w =
     ∷ ask QUEUED_UNACKED (not (any (eqb e.msgno) (unacked_at row o)))
     ∷ ask QUEUED_NEW (ltb i f)
     ∷ []))
-    i (record { next_contact = w.next_contact; next_slot = w.next_slot; slots = w.slots; latest = p; owner = o })
+    i (record { next_contact = w.next_contact; slots = w.slots; latest = p; owner = o })
 
 -- one above id, if that is higher
 abbrev pub raised : ℕ → ℕ → ℕ
@@ -152,9 +136,8 @@ courier_turn run e i f w =
     ask DEPOSITOR (low_in w.next_contact (depositor_in run e))
     ∷ ask SLOT_NEW (ltb i f)
     ∷ ask SLOT_BELOW_LAST (ltb e.id last_slot)
-    ∷ ask SLOT_BELOW_NEXT (below_next (slot_of w.next_slot) e.id)
     ∷ []))
-    i (record { next_contact = w.next_contact; next_slot = w.next_slot; slots = raised w.slots e.id; latest = w.latest; owner = w.owner })
+    i (record { next_contact = w.next_contact; slots = raised w.slots e.id; latest = w.latest; owner = w.owner })
 
 abbrev pub entry_turn_as : Kind → (run : List ℕ) → (e c : Entry) → (i p f : ℕ) → Owner → Progress → Across
 entry_turn_as device run e c i p f o w = device_turn run e w

@@ -7,9 +7,8 @@ use Rattle.store.specs.declared.Asked.{Asked}
 use Rattle.store.specs.declared.Asked.TheVariants as so
 use Rattle.store.specs.Rounds.{turns, rounds}
 use Rattle.store.specs.Kinds.{CONTACT, Seen}
-use Rattle.store.specs.Store.{entry_at, part_of, store_of, next_in, next_slot_in, slots_below, order, bounds, begun}
+use Rattle.store.specs.Store.{entry_at, part_of, store_of, next_in, slots_below, order, bounds, begun}
 use Rattle.store.specs.Omitted.{is_omitted, omitted_seen, read_omitted, seen_omitted, across_omitted}
-use Rattle.device.specs.Device.{slot_of}
 use Rattle.restore_across.specs.declared.Progress.{Progress}
 use Rattle.restore_across.specs.declared.Across.{Across}
 use Rattle.restore_across.specs.declared.Across.TheVariants.{Going, Refused}
@@ -29,7 +28,6 @@ asked_of (Refused number place) = so.Refused number place
 
 pub record Kept (run : List ℕ) (es : List Entry) (omitted : Omitted) (i : ℕ) (w : Progress) : Type 0 where
   pub next : 0 < i → w.next_contact ≡ next_in (sight run es omitted) es
-  pub next-slot : 0 < i → slot_of w.next_slot ≡ next_slot_in (sight run es omitted) es
   pub slots : w.slots ≡ slots_below es i
   pub owner : (entry_at es w.latest).kind ≡ CONTACT → OwnerStands (owner_seen run omitted (entry_at es w.latest)) (part_of run (entry_at es w.latest)) w.owner
 

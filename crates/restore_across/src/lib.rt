@@ -1,16 +1,15 @@
-// Questions 25 to 33 and 51, across the rows: of each entry in turn, against those before it. The first entry that has a duplicate before it is known in advance, so that
+// Questions 25 to 33, across the rows: of each entry in turn, against those before it. The first entry that has a duplicate before it is known in advance, so that
 // an entry is new by its index; a queued row's contact is looked for from where the last one was found on, and what is asked of that contact is kept.
 ghost use Rattle.std.specs.Prelude.{◌≡◌, eqb};
 ghost use Rattle.rows.specs.Checks.{any};
 ghost use Rattle.store.specs.Kinds.{CONTACT};
-ghost use Rattle.store.specs.Store.{is_of, part_of, below_next};
-ghost use Rattle.device.specs.Device.{slot_of};
+ghost use Rattle.store.specs.Store.{is_of, part_of};
 ghost use Rattle.restore_across.specs.Owner.{no_owner, owner_omitted, unacked_at, Searchable, OwnerIn, OwnerFrom};
 ghost use Rattle.restore_across.specs.Across.{begun_from, contact_of, earlier, place_or, tried, near_limit, far_limit, chosen, owner_limit, latest_of, OwnerFor};
-ghost use Rattle.restore_across.specs.Across.{low_in, next_slot, depositor_in, SurelyLow, device_turn, contact_turn, queued_turn, courier_turn, entry_turn};
+ghost use Rattle.restore_across.specs.Across.{low_in, next_contact_in, depositor_in, SurelyLow, device_turn, contact_turn, queued_turn, courier_turn, entry_turn};
 
 use courier::{CourierCheck, HeldAt};
-use device::{DeviceCheck, NextSlot};
+use device::DeviceCheck;
 use fields::{U8Field, U32Field, U64Field};
 use layout::question;
 use store::{Asked, Entry, Omitted, Wanted};
@@ -25,9 +24,7 @@ pub struct Owner {
 
 #[derive(Drop)]
 pub struct Progress {
-    // the device's
     pub next_contact: u64,
-    pub next_slot: NextSlot,
     // one above the highest slot so far
     pub slots: u64,
     // where the contact of the last queued row stands
@@ -60,7 +57,6 @@ pub fn begin(asked: Asked) -> Across
         let owner = no_owner();
         return Across::Going(Progress {
             next_contact: 0,
-            next_slot: NextSlot::Absent,
             slots: 0,
             latest: 0,
             owner,
@@ -69,15 +65,17 @@ pub fn begin(asked: Asked) -> Across
     Across::Refused(number, place)
 }
 
-// The device's where it has one, else one above the highest slot.
-pub fn next_slot(w: Progress) -> u64
-    ensures { result ≡ next_slot w }
-{
-    let stored = w.next_slot;
-    stored.or(w.slots)
-}
-
 // ---- what is read in rows
+
+fn next_contact(run: &[u8], e: Entry) -> u64
+    ensures { result ≡ next_contact_in run.now e }
+{
+    let row = store::part_of(run, e);
+    let DeviceCheck::Fields(at) = device::check_device(e.version, row) else {
+        return 0;
+    };
+    at.next_contact
+}
 
 // Whether 31 is a yes whatever else the row holds: it is none that is carried, or what stands where a carried row has its depositor is below next.
 fn surely_low(row: &[u8], next: u64) -> bool
@@ -111,16 +109,6 @@ fn low_depositor(run: &[u8], e: Entry, next: u64) -> bool
     };
     let depositor = at.depositor;
     depositor.0 < next
-}
-
-// 51: asked only where the device has a next_slot.
-fn below_next(next: NextSlot, slot: u64) -> bool
-    ensures { result ≡ below_next (slot_of next) slot }
-{
-    let NextSlot::Stored(n) = next else {
-        return true;
-    };
-    slot < n
 }
 
 // Of a row that is known to be accepted.
@@ -312,25 +300,9 @@ pub fn owner_of(
 fn device_turn(run: &[u8], e: Entry, w: Progress) -> Across
     ensures { result ≡ device_turn run.now e w }
 {
-    let owner = w.owner;
-    let row = store::part_of(run, e);
-    let DeviceCheck::Fields(at) = device::check_device(e.version, row) else {
-        return Across::Going(Progress {
-            next_contact: 0,
-            next_slot: NextSlot::Absent,
-            slots: w.slots,
-            latest: w.latest,
-            owner,
-        });
-    };
-    let next_slot = at.next_slot;
-    Across::Going(Progress {
-        next_contact: at.next_contact,
-        next_slot,
-        slots: w.slots,
-        latest: w.latest,
-        owner,
-    })
+    let mut after = w;
+    after.next_contact = next_contact(run, e);
+    Across::Going(after)
 }
 
 fn contact_turn(e: Entry, i: usize, first: usize, w: Progress) -> Across
@@ -391,10 +363,6 @@ fn courier_turn(run: &[u8], e: Entry, i: usize, first: usize, w: Progress) -> Ac
     }
     if e.id == u64::MAX {
         return Across::Refused(question::SLOT_BELOW_LAST, i);
-    }
-    let next = w.next_slot;
-    if !below_next(next, e.id) {
-        return Across::Refused(question::SLOT_BELOW_NEXT, i);
     }
     let mut after = w;
     if w.slots <= e.id {

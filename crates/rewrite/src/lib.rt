@@ -20,7 +20,7 @@ pub fn rewrite_device(version: u32, row: &[u8], out: &mut [u8]) -> Written
     if let Verdict::Refused(number) = verdict {
         return Written::Refused(number);
     }
-    read.device.row(version, out)
+    read.device.row(out)
 }
 
 pub fn rewrite_queued(version: u32, row: &[u8], out: &mut [u8]) -> Written

@@ -40,32 +40,20 @@ device_row : ℕ → ℕ → ℕ → List ℕ → List ℕ
 device_row r e c rest = zeros 44 ++ (r ∷ e ∷ c ∷ rest)
 
 device-traps :
-    (read_row (device 5) [] ≡ refused_by VERSION) × (read_row (device 3) [] ≡ refused_by FIELD)
+    (read_row (device 4) [] ≡ refused_by VERSION) × (read_row (device 3) [] ≡ refused_by FIELD)
     × (read_row (device 3) (device_row 1 1 1 (0 ∷ 60 ∷ 0 ∷ [])) ≡ refused_by ROW_END)
     × (read_row (device 3) (device_row 1 1 17 (0 ∷ 60 ∷ [])) ≡ refused_by COURIER_CONFIG)
     × (read_row (device 3) (device_row 1 1 16 (0 ∷ 59 ∷ [])) ≡ refused_by COURIER_CONFIG)
     × (read_row (device 3) (device_row 1 1 16 (0x27 ∷ 0x61 ∷ [])) ≡ refused_by COURIER_CONFIG)
     × (read_row (device 3) (device_row 1 2 0 (0x27 ∷ 0x61 ∷ [])) ≡ refused_by FLAG)
-    × (read_row (device 3) (device_row 1 1 16 (0x27 ∷ 0x60 ∷ [])) ≡ accepted (record { beacon_day = 0; beacon_key = zeros 32; next_contact = 0; read_receipts = true; enabled = true; copies = 16; lifetime_min = 10080; next_slot = none }))
+    × (read_row (device 3) (device_row 1 1 16 (0x27 ∷ 0x60 ∷ [])) ≡ accepted (record { beacon_day = 0; beacon_key = zeros 32; next_contact = 0; read_receipts = true; enabled = true; copies = 16; lifetime_min = 10080 }))
 unfolding layout.parse form.big_endian device_row
 device-traps = (refl, refl, refl, refl, refl, refl, refl, refl)
 
-device-mask : (hidden_row (device 3) veil (replicate 36 9) ≡ replicate 4 9 ++ zeros 32) × (hidden_row (device 3) veil (replicate 35 9) ≡ replicate 35 9) × (hidden_row (device 5) veil (replicate 40 9) ≡ replicate 40 9)
+device-mask : (hidden_row (device 3) veil (replicate 36 9) ≡ replicate 4 9 ++ zeros 32) × (hidden_row (device 3) veil (replicate 35 9) ≡ replicate 35 9) × (hidden_row (device 4) veil (replicate 40 9) ≡ replicate 40 9)
     × (hidden_row (device 3) veil (replicate 45 9) ≡ replicate 4 9 ++ (zeros 32 ++ replicate 9 9))
 unfolding layout.parse layout.mask_of form.big_endian
 device-mask = (refl, refl, refl, refl)
-
--- version 4: 49 bytes, 57, 58; copies 0 before next_slot; 57 of version 3
-device-four :
-    (read_row (device 4) (device_row 1 1 16 (0x27 ∷ 0x60 ∷ [])) ≡ refused_by FIELD)
-    × (read_row (device 4) (device_row 1 1 0 (0x27 ∷ 0x60 ∷ [])) ≡ refused_by COURIER_CONFIG)
-    × (read_row (device 4) (device_row 1 1 16 (0x27 ∷ 0x60 ∷ zeros 7)) ≡ refused_by FIELD)
-    × (read_row (device 4) (device_row 1 1 16 (0x27 ∷ 0x60 ∷ zeros 9)) ≡ refused_by ROW_END)
-    × (read_row (device 3) (device_row 1 1 16 (0x27 ∷ 0x60 ∷ zeros 8)) ≡ refused_by ROW_END)
-    × (read_row (device 4) (device_row 1 1 16 (0x27 ∷ 0x60 ∷ zeros 7 ++ 8 ∷ [])) ≡ accepted (record { beacon_day = 0; beacon_key = zeros 32; next_contact = 0; read_receipts = true; enabled = true; copies = 16; lifetime_min = 10080; next_slot = some 8 }))
-    × (hidden_row (device 4) veil (replicate 45 9) ≡ replicate 4 9 ++ (zeros 32 ++ replicate 9 9))
-unfolding layout.parse layout.mask_of form.big_endian device_row
-device-four = (refl, refl, refl, refl, refl, refl, refl)
 
 -- ---- card
 abbrev head : ℕ → List ℕ

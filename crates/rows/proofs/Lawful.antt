@@ -20,7 +20,7 @@ use Rattle.layout.proofs.Nested.{either_lawful}
 use Rattle.layout.proofs.Leb.{leb128-lawful}
 use Rattle.layout.proofs.Derived.{optional-lawful, list_lawful, sized-lawful, only_if-plain, optional-plain, list-plain, list-unseen, list-as-long}
 use Rattle.rows.specs.Values.{Range}
-use Rattle.rows.specs.Checks.{holds_slot, kci, key_of, sealed_queued, sealed_carried, count, distinct, same_key}
+use Rattle.rows.specs.Checks.{kci, key_of, sealed_queued, sealed_carried, count, distinct, same_key}
 use Rattle.rows.specs.Rows.{role_of, role_byte, mode_of, mode_byte, verification_of, verification_byte, dir_of, dir_byte, role, mode, verification, dir}
 use Rattle.rows.specs.Rows.{device, card, card_row, pending, send, chain, skipped, range, contact, own_envelope, queued, carried, tombstone, courier}
 use Rattle.rows.specs.declared.PairingRole.{PairingRole}
@@ -98,16 +98,15 @@ dir-lawful = letter-lawful CODE dir_of dir_byte dir-tells
 device-blind : (version : ℕ) (lv : Level) → Blind lv (Like (device version) lv) (device version) (device version)
 unfolding layout.blank_of
 device-blind version lv =
-    b-ask refl (num 4 (λ day. b-field (bytes-lawful veiled 32) (λ key key' e. num 8 (λ next. flg (λ receipts. flg (λ on. num 1 (λ copies. num 2 (λ life. b-ask refl
-    (b-plain (only_if-lawful u64 (number-lawful 8) (holds_slot version)) (only_if-plain u64 lv (λ n. refl)) (λ slot. fin ROW_END
-    (b-done (λ i. record { beacon_day = day; beacon_key = e i; next_contact = next; read_receipts = receipts; enabled = on; copies = copies; lifetime_min = life; next_slot = map (λ n. n) slot }))))))))))))
+    b-ask refl (num 4 (λ day. b-field (bytes-lawful veiled 32) (λ key key' e. num 8 (λ next. flg (λ receipts. flg (λ on. num 1 (λ copies. num 2 (λ life. b-ask refl (fin ROW_END
+    (b-done (λ i. record { beacon_day = day; beacon_key = e i; next_contact = next; read_receipts = receipts; enabled = on; copies = copies; lifetime_min = life })))))))))))
 
 pub device-lawful : (version : ℕ) → Lawful (group (device version))
 device-lawful version =
     group-lawful (device version)
     (s-ask (s-any (number-lawful 4) (λ day. s-any (bytes-lawful veiled 32) (λ key. s-any (number-lawful 8) (λ next. s-any flag-lawful (λ receipts. s-any flag-lawful (λ on.
-    s-any (number-lawful 1) (λ copies. s-any (number-lawful 2) (λ life. s-ask (s-any (only_if-lawful u64 (number-lawful 8) (holds_slot version)) (λ slot. s-any (no_more-lawful ROW_END) (λ u.
-    s-done (((((((((tt, refl), refl), refl), refl), refl), refl), refl), refl), refl)))))))))))))
+    s-any (number-lawful 1) (λ copies. s-any (number-lawful 2) (λ life. s-ask (s-any (no_more-lawful ROW_END) (λ u.
+    s-done ((((((((tt, refl), refl), refl), refl), refl), refl), refl), refl))))))))))))
     (device-blind version)
 
 -- ---- card

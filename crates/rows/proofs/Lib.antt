@@ -3,7 +3,6 @@ pub mod Lawful
 pub mod Tests
 pub mod Meets
 pub mod Proved
-pub mod Devices
 pub mod Samples
 pub mod Edges
 pub mod ContactEdges

@@ -4,7 +4,7 @@ use Prim.Native.Nat.{ℕ, zero, suc, ◌+◌, ◌≤◌, ◌<◌}
 use mathlib.Core.List.{List, [], ◌∷◌, map}
 use mathlib.Core.Bool.{Bool, true, false, cond, ◌&&◌, ◌||◌, not, true≢false, false≢true}
 use mathlib.Core.Option.{Option, none, some}
-use mathlib.Core.Logic.{◌⊎◌, ◌↔◌, inl, inr}
+use mathlib.Core.Logic.{◌↔◌, inl, inr}
 use mathlib.Core.Path.{◌≡◌, refl, sym, ap, subst, ◌∙◌}
 use native.Mathlib.Omega.{arith}
 use lib.ListN.{length, get_or, length-map, get_or-map}
@@ -20,18 +20,18 @@ use Rattle.layout.specs.Layout.{present, refusal_of, group}
 use Rattle.layout.specs.Layout as layout
 use Rattle.rows.specs.Utf8.{utf8}
 use Rattle.rows.specs.Values.{Device, Card, Chain, Skipped, Range, Contact, Queued, Carried, Courier}
-use Rattle.rows.specs.Checks.{any, count, distinct, version_known, device_version_known, caps_known, name_short, courier_allowed, sealed_queued, sealed_carried, not_zero}
+use Rattle.rows.specs.Checks.{any, count, distinct, version_known, caps_known, name_short, courier_allowed, sealed_queued, sealed_carried, not_zero}
 use Rattle.rows.specs.Checks.{few_chains, one_chain_at_most, gens_distinct, ChainKey, key_of, same_key, keys_distinct, few_skipped, acked_sent, rising, canonical, none_above}
 use Rattle.rows.specs.Rows.{device, card, card_row, pending, send, chain, skipped, range, contact, own_envelope, queued, carried, courier}
-use Rattle.rows.proofs.Tests.{either, or_cases, or_left, or_right, and_both, both-and}
-use Rattle.rows.specs.Meets.{chain_at, skipped_at, msgno_at, range_at, MeetsCard, DeviceVersion, MeetsDevice, MeetsQueued, MeetsCarried, MeetsCourier, OneChainAtMost, GensDistinct, KeysDistinct, Rising, Canonical, NoneAbove, Consistent, MeetsContact, MeetsLaws}
+use Rattle.rows.proofs.Tests.{either, or_left, or_right, and_both, both-and}
+use Rattle.rows.specs.Meets.{chain_at, skipped_at, msgno_at, range_at, MeetsCard, MeetsDevice, MeetsQueued, MeetsCarried, MeetsCourier, OneChainAtMost, GensDistinct, KeysDistinct, Rising, Canonical, NoneAbove, Consistent, MeetsContact, MeetsLaws}
 
 -- ---- questions one after the other
 some≢none : {q : ℕ} → some q ≡ none → ⊥
 some≢none e = let z : ◌≡◌ {A = ℕ} 0 1 = cc in omega arith
 
 -- a question that is a yes, and what is asked behind it
-pub asked-yes : (q : ℕ) (t : Bool) (o : Option ℕ) → cond t o (some q) ≡ none → (t ≡ true) × (o ≡ none)
+asked-yes : (q : ℕ) (t : Bool) (o : Option ℕ) → cond t o (some q) ≡ none → (t ≡ true) × (o ≡ none)
 asked-yes q true o e = (refl, e)
 asked-yes q false o e = absurd (some≢none e)
 
@@ -255,7 +255,7 @@ unfolding form.refusal_many
 many-free f free [] = refl
 many-free f free (b ∷ bs) = rw (free b) (many-free f free bs)
 
-pub if-free : {B : Type 0} (f : form.Form B) → ((b : B) → f.refusal b ≡ none) → (o : Option B) → refusal_if f o ≡ none
+if-free : {B : Type 0} (f : form.Form B) → ((b : B) → f.refusal b ≡ none) → (o : Option B) → refusal_if f o ≡ none
 if-free f free none = refl
 if-free f free (some b) = free b
 
@@ -276,17 +276,6 @@ version-three version o = (
   (λ h. yes-asked VERSION (version_known version) o (eq-eqb version 3 h.0) h.1),
 )
 
-device-version : (version : ℕ) → (device_version_known version ≡ true) ↔ DeviceVersion version
-device-version version = ((λ e. known (or_cases (eqb version 3) (eqb version 4) e)), back)
-  where
-    known : (eqb version 3 ≡ true) ⊎ (eqb version 4 ≡ true) → DeviceVersion version
-    known (inl e) = inl (eqb-true version 3 e)
-    known (inr e) = inr (eqb-true version 4 e)
-
-    back : DeviceVersion version → device_version_known version ≡ true
-    back (inl e) = or_left (eqb version 3) (eqb version 4) (eq-eqb version 3 e)
-    back (inr e) = or_right (eqb version 3) (eqb version 4) (eq-eqb version 4 e)
-
 card-asks : (c : Card) → (refusal_of card c ≡ none) ↔ MeetsCard c
 unfolding layout.refusal_of
 card-asks c = (
@@ -299,23 +288,24 @@ card-asks c = (
 )
 
 module _ (version : ℕ) where
-  device-asks : (d : Device) → (refusal_of (device version) d ≡ none) ↔ (DeviceVersion version × MeetsDevice d)
+  device-asks : (d : Device) → (refusal_of (device version) d ≡ none) ↔ ((version ≡ 3) × MeetsDevice d)
   unfolding layout.refusal_of
   device-asks d = (
     (λ e.
-        let v = asked-yes VERSION (device_version_known version) _ e in
+        let v = (version-three version _).0 e in
         let a = (asked-yes COURIER_CONFIG (courier_allowed d.copies d.lifetime_min) _ v.1).0 in
         let p = and_both (leb 1 d.copies && leb d.copies 16 && leb 60 d.lifetime_min) (leb d.lifetime_min 10080) a in
         let q = and_both (leb 1 d.copies && leb d.copies 16) (leb 60 d.lifetime_min) p.0 in
         let r = and_both (leb 1 d.copies) (leb d.copies 16) q.0 in
-        ((device-version version).0 v.0, record { copies = (leb-true 1 _ r.0, leb-true _ 16 r.1); lifetime_min = (leb-true 60 _ q.1, leb-true _ 10080 p.1) })),
-    (λ m. rw (
-      (device-version version).1 m.0,
-      le-leb 1 d.copies m.1.copies.0,
-      le-leb d.copies 16 m.1.copies.1,
-      le-leb 60 d.lifetime_min m.1.lifetime_min.0,
-      le-leb d.lifetime_min 10080 m.1.lifetime_min.1,
-      if-free u64 (λ n. refl) d.next_slot,
+        (v.0, record { copies = (leb-true 1 _ r.0, leb-true _ 16 r.1); lifetime_min = (leb-true 60 _ q.1, leb-true _ 10080 p.1) })),
+    (λ m. (version-three version _).1 (
+      m.0,
+      rw (
+        le-leb 1 d.copies m.1.copies.0,
+        le-leb d.copies 16 m.1.copies.1,
+        le-leb 60 d.lifetime_min m.1.lifetime_min.0,
+        le-leb d.lifetime_min 10080 m.1.lifetime_min.1,
+      ),
     )),
   )
 

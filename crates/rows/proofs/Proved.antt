@@ -18,7 +18,7 @@ row l laws = record { laws = laws; veil = veil-laws l laws }
 pub proved : Proved
 unfolding layout.print
 proved = record {
-  device = λ version. row (device version) (row_laws (device version) (device-lawful version) (λ v rest h. h.1.1.1.1.1.1.1.1.0));
+  device = λ version. row (device version) (row_laws (device version) (device-lawful version) (λ v rest h. h.1.1.1.1.1.1.1.0));
   card = row card_row (row_laws card_row card_row-lawful (λ v rest h. h.1.0));
   contact = λ version. row (contact version) (row_laws (contact version) (contact-lawful version)
       (λ v rest h. h.1.1.1.1.1.1.1.1.1.1.1.1.1.1.1.1.1.1.1.1.1.1.1.1.0));

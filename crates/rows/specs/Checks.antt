@@ -1,7 +1,6 @@
 -- The questions that are asked of values: what is a yes. Each has its number before it, document 01's, or 02's for 54. `leb` is at most, `ltb` below, `eqb` equal.
 -- Assumes nothing.
 use Rattle.std.specs.Prelude.{ℕ, suc, ◌+◌, ◌/◌, ◌%◌, List, [], ◌∷◌, map, Bool, true, false, cond, ◌&&◌, ◌||◌, not, length, leb, ltb, eqb}
-use Rattle.std.proofs.Math.Option.{Option, none, some}
 use Rattle.layout.specs.Layout.{present}
 use Rattle.rows.specs.Values.{Chain, Skipped, Range}
 
@@ -26,16 +25,6 @@ module _ {A : Type 0} where
 -- 3
 abbrev pub version_known : ℕ → Bool
 version_known version = eqb version 3
-
-abbrev pub device_version_known : ℕ → Bool
-device_version_known version = eqb version 3 || eqb version 4
-
--- only version 4 of a device row holds next_slot
-abbrev pub holds_slot : (version : ℕ) → Bool
-holds_slot version = eqb version 4
-
-abbrev pub slot_in : (version slot : ℕ) → Option ℕ
-slot_in version slot = cond (holds_slot version) (some slot) none
 
 -- 7: caps bits 2 to 7 clear
 abbrev pub caps_known : ℕ → Bool

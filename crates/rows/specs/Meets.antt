@@ -1,7 +1,7 @@
 -- What the values of a row have to meet, as statements in which no question comes first: 7 to 9, 11, 13 to 15 and 17 to 24 of document 01, with 54 of document 02 before 17. They stand in the
--- order of the questions and have their numbers: hold them beside the documents. (3 is the version's: 3 or 4 of a device, `DeviceVersion`, and 3 of every other row; the others are asked of bytes, and the bytes of a printed value pass them.)
+-- order of the questions and have their numbers: hold them beside the documents. (3 is the version's; the others are asked of bytes, and the bytes of a printed value pass them.)
 -- They are proved to be the questions that a layout asks one after the other, which code is held to (`MeetsLaws`, both directions). Assumes nothing.
-use Rattle.std.specs.Prelude.{ℕ, suc, ◌+◌, ◌≤◌, ◌<◌, List, [], true, ◌&&◌, ◌⊎◌, ◌↔◌, ◌≡◌, length, get_or}
+use Rattle.std.specs.Prelude.{ℕ, suc, ◌+◌, ◌≤◌, ◌<◌, List, [], true, ◌&&◌, ◌↔◌, ◌≡◌, length, get_or}
 use Rattle.std.proofs.Math.Option.{none}
 use Rattle.std.proofs.Common.{inl, inr}
 use Rattle.layout.specs.Layout.{refusal_of}
@@ -34,10 +34,6 @@ pub record MeetsCard (c : Card) : Type 0 where
   pub name : utf8 c.name ≡ true
 
 -- ---- a device
--- 3. Version 3 or 4?
-abbrev pub DeviceVersion : ℕ → Type 0
-DeviceVersion version = (version ≡ 3) ⊎ (version ≡ 4)
-
 pub record MeetsDevice (d : Device) : Type 0 where
   -- 11. Copies 1 to 16 and lifetime 60 to 10,080?
   pub copies : (1 ≤ d.copies) × (d.copies ≤ 16)
@@ -137,8 +133,8 @@ pub record MeetsLaws : Type 0 where
   pub above : (f : ℕ) (ranges : List Range) → (canonical f ranges ≡ true) ↔ Canonical f ranges
   -- 24
   pub expired : (n : ℕ) (ranges : List Range) → (canonical 1 ranges && none_above n ranges ≡ true) ↔ (Canonical 1 ranges × NoneAbove n ranges)
-  -- and a row's layout refuses a value exactly if its version is not 3, nor 4 of a device, or it does not meet them all
-  pub device : (version : ℕ) (d : Device) → (refusal_of (device version) d ≡ none) ↔ (DeviceVersion version × MeetsDevice d)
+  -- and a row's layout refuses a value exactly if its version is not 3 or it does not meet them all
+  pub device : (version : ℕ) (d : Device) → (refusal_of (device version) d ≡ none) ↔ ((version ≡ 3) × MeetsDevice d)
   pub card : (c : Card) → (refusal_of card_row c ≡ none) ↔ MeetsCard c
   pub contact : (version : ℕ) (c : Contact) → (refusal_of (contact version) c ≡ none) ↔ ((version ≡ 3) × MeetsContact c)
   pub queued : (version : ℕ) (q : Queued) → (refusal_of (queued version) q ≡ none) ↔ ((version ≡ 3) × MeetsQueued q)

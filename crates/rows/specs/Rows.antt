@@ -9,7 +9,7 @@ use Rattle.layout.specs.Form.{Form, bytes, letter, u8, u16, u32, u64, flag, leb1
 use Rattle.layout.specs.Layout.{Layout, done, field, ask, end, group, optional, list, sized, ◌>>=◌, ◌>>◌}
 use Rattle.rows.specs.Utf8.{utf8}
 use Rattle.rows.specs.Values.{Device, Card, Pending, Send, Chain, Skipped, Range, Contact, OwnEnvelope, Queued, Carried, Tombstone, Courier}
-use Rattle.rows.specs.Checks.{version_known, device_version_known, holds_slot, slot_in, caps_known, kci, name_short, courier_allowed, sealed_queued, sealed_carried, not_zero}
+use Rattle.rows.specs.Checks.{version_known, caps_known, kci, name_short, courier_allowed, sealed_queued, sealed_carried, not_zero}
 use Rattle.rows.specs.Checks.{few_chains, one_chain_at_most, gens_distinct, keys_distinct, few_skipped, acked_sent, rising, canonical, none_above}
 use Rattle.rows.specs.declared.PairingRole.{PairingRole}
 use Rattle.rows.specs.declared.PairingRole.TheVariants.{A, B}
@@ -63,7 +63,7 @@ dir = letter CODE dir_of dir_byte
 -- ---- Device
 abbrev pub device : ℕ → Layout Device
 device version = do
-  ask VERSION (device_version_known version)
+  ask VERSION (version_known version)
   beacon_day ← field u32 (λ d. d.beacon_day)
   beacon_key ← field (bytes veiled 32) (λ d. d.beacon_key)
   next_contact ← field u64 (λ d. d.next_contact)
@@ -72,7 +72,6 @@ device version = do
   copies ← field u8 (λ d. d.copies)
   lifetime_min ← field u16 (λ d. d.lifetime_min)
   ask COURIER_CONFIG (courier_allowed copies lifetime_min)
-  next_slot ← field (only_if u64 (holds_slot version)) (λ d. d.next_slot)
   end ROW_END
   done (record {
     beacon_day = beacon_day;
@@ -82,21 +81,7 @@ device version = do
     enabled = enabled;
     copies = copies;
     lifetime_min = lifetime_min;
-    next_slot = next_slot;
   })
-
--- the device in this version: with this next_slot where the version holds it
-abbrev pub device_as : (version slot : ℕ) → Device → Device
-device_as version slot d = record {
-  beacon_day = d.beacon_day;
-  beacon_key = d.beacon_key;
-  next_contact = d.next_contact;
-  read_receipts = d.read_receipts;
-  enabled = d.enabled;
-  copies = d.copies;
-  lifetime_min = d.lifetime_min;
-  next_slot = slot_in version slot;
-}
 
 -- ---- Card
 abbrev pub card : Layout Card

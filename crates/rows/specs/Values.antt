@@ -14,7 +14,6 @@ pub record Device : Type 0 where
   pub enabled : Bool
   pub copies : ℕ
   pub lifetime_min : ℕ
-  pub next_slot : Option ℕ
 
 pub record Card : Type 0 where
   pub caps : ℕ

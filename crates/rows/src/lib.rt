@@ -41,9 +41,6 @@ pub enum Written {
 
 pub const BLOB_VERSION: u32 = 3;
 
-// The version of a device row that holds next_slot.
-pub const SLOT_VERSION: u32 = 4;
-
 pub const MODE_TOFU: u8 = 3;
 
 pub const MAX_NAME_LEN: usize = 48;

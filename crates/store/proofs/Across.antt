@@ -1,4 +1,4 @@
--- Questions 25 to 33 and 51 are a yes at every entry exactly if `Across` holds.
+-- Questions 25 to 33 are a yes at every entry exactly if `Across` holds.
 -- Assumes nothing.
 use Prim.Native.Nat.{ℕ, zero, suc, ◌≤◌, ◌<◌}
 use mathlib.Core.List.{List}
@@ -11,7 +11,7 @@ use lib.ListN.{length}
 use lib.Dec.{leb, eqb, T, leb→le, le→leb, ltb→lt, lt→ltb, eqb→eq}
 use Rattle.store.specs.declared.Entry.{Entry}
 use Rattle.store.specs.Kinds.{CONTACT, QUEUED, COURIER, contact, queued, courier, kind_of, Seen}
-use Rattle.store.specs.Store.{entry_at, is_of, before, queued_before, contact_before, next_in, next_slot_in, below_next, last_slot, low_depositor, across_as}
+use Rattle.store.specs.Store.{entry_at, is_of, before, queued_before, contact_before, next_in, last_slot, low_depositor, across_as}
 use Rattle.store.specs.Accepted.{Owner, Twice, Across}
 use Rattle.store.proofs.Rounds.{some≢none}
 use Rattle.store.proofs.Tests.{truth, both, pair, AllYes, found-any, never, nowhere, not_in, in-not, eq→eqb, is-of, of_is}
@@ -61,14 +61,6 @@ module _ (es : List Entry) (look : Entry → Seen) where
   found-low none h = tt
   found-low (some d) h = lt→ltb d (next_in look es) (h d refl)
 
-  next-found : (o : Option ℕ) (slot : ℕ) → T (below_next o slot) → (n : ℕ) → o ≡ some n → slot < n
-  next-found none slot h n e = absurd (some≢none (sym e))
-  next-found (some c) slot h n e = let same : c ≡ n = cc in rw same at (ltb→lt slot c h)
-
-  found-next : (o : Option ℕ) (slot : ℕ) → ((n : ℕ) → o ≡ some n → slot < n) → T (below_next o slot)
-  found-next none slot h = tt
-  found-next (some n) slot h = lt→ltb slot n (h n refl)
-
   yes-owner : (i : ℕ) → i < length es → (entry_at es i).kind ≡ QUEUED → Yes i → Owner es look i
   yes-owner i b k a =
       let e = entry_at es i in
@@ -97,7 +89,6 @@ module _ (es : List Entry) (look : Entry → Seen) where
     depositors = λ i d b k e. low-found (look (entry_at es i)).depositor (of-courier i b k).0 d e;
     slots-new = λ i j b c t. never i (λ m. is_of COURIER (entry_at es i).id (entry_at es m)) (of-courier i b t.one).1.0 j c (twice_of t);
     below_last = λ i b k. ltb→lt (entry_at es i).id last_slot (of-courier i b k).1.1.0;
-    below-next-slot = λ i n b k e. next-found (next_slot_in look es) (entry_at es i).id (of-courier i b k).1.1.1.0 n e;
   }
     where
       of-contact : (i : ℕ) → i < length es → (entry_at es i).kind ≡ CONTACT → AllYes (across_as es look contact (entry_at es i) i)
@@ -151,7 +142,7 @@ module _ (es : List Entry) (look : Entry → Seen) where
         found-low (look (entry_at es i)).depositor (λ d e. a.depositors i d b k e),
         (
           nowhere i (λ m. is_of COURIER (entry_at es i).id (entry_at es m)) (none_before COURIER k (λ j. a.slots-new i j b)),
-          (lt→ltb (entry_at es i).id last_slot (a.below_last i b k), (found-next (next_slot_in look es) (entry_at es i).id (λ n e. a.below-next-slot i n b k e), tt)),
+          (lt→ltb (entry_at es i).id last_slot (a.below_last i b k), tt),
         ),
       )
       go (is-unknown k) = rw k tt

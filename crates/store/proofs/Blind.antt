@@ -3,8 +3,6 @@
 use Prim.Native.Nat.{ℕ, suc, ◌<◌}
 use mathlib.Core.List.{List, [], ◌∷◌}
 use mathlib.Core.Bool.{Bool, false}
-use mathlib.Core.Option
-use mathlib.Core.Option.{Option}
 use mathlib.Core.Path.{◌≡◌, refl, sym, ap, ◌∙◌}
 use native.Mathlib.Omega.{arith}
 use lib.ListN.{length, get_or}
@@ -17,12 +15,12 @@ use Rattle.store.specs.declared.Entry.{Entry}
 use Rattle.store.specs.declared.Asked.{Asked}
 use Rattle.store.specs.declared.Asked.TheVariants.{Going, Refused}
 use Rattle.store.specs.Kinds.{Kind, device, contact, queued, courier, unknown, kind_of, ValueOf, layout_of}
-use Rattle.store.specs.Store.{Store, entry_at, part_of, store_of, answer_of, seen, asked, ContactRow, contacts_as, contacts_in, slots_below, found, outcome, restore}
+use Rattle.store.specs.Store.{Store, entry_at, part_of, store_of, answer_of, seen, asked, ContactRow, contacts_as, contacts_in, found, outcome, restore}
 use Rattle.store.specs.Veiled.{veiled_in, VeilEqual, ContactsAlike, FoundAlike, OutcomesAlike, copied}
 use Rattle.store.proofs.Rounds.{Going≢}
 use Rattle.store.proofs.Parts.{part-long}
 use Rattle.store.proofs.ByKind.{row-of, same-sight}
-use Rattle.store.proofs.Same.{own-use, relaid, Agree, agree-asked, next-same, slot_same}
+use Rattle.store.proofs.Same.{own-use, relaid, Agree, agree-asked, next-same}
 
 -- ---- rows from elsewhere, each as long, and alike outside its veiled bytes
 pub record RowVeilEqual (e : Entry) (row row' : List ℕ) : Type 0 where
@@ -61,7 +59,7 @@ module _ (s : Store) (from : Entry → List ℕ) where
     pub alike-restore : OutcomesAlike (restore s) (restore (relaid s from))
     alike-restore =
         go (asked s) (asked (relaid s from)) (agree-asked s from alike-agree)
-        (record { contacts = contacts-alike s.entries alike-rows; nexts = next-same s.entries s.entries refl (λ i b. own-use (entry_at s.entries i)) (seen s) (seen (relaid s from)) (λ i b. (alike-agree i b).sights); slots = ap (λ (o : Option ℕ). Option.get_or o (slots_below s.entries (length s.entries))) (slot_same s.entries s.entries refl (λ i b. own-use (entry_at s.entries i)) (seen s) (seen (relaid s from)) (λ i b. (alike-agree i b).sights)) })
+        (record { contacts = contacts-alike s.entries alike-rows; nexts = next-same s.entries s.entries refl (λ i b. own-use (entry_at s.entries i)) (seen s) (seen (relaid s from)) (λ i b. (alike-agree i b).sights); slots = refl })
       where
         go : (a a' : Asked) → a ≡ a' → FoundAlike (found s) (found (relaid s from)) → OutcomesAlike (outcome a (found s)) (outcome a' (found (relaid s from)))
         go Going Going e f = f

@@ -3,7 +3,7 @@
 use Prim.Native.Nat.{ℕ, suc, ◌≤◌, ◌<◌}
 use mathlib.Core.List.{List, [], ◌∷◌}
 use mathlib.Core.Bool.{Bool, cond}
-use mathlib.Core.Option.{none, some}
+use mathlib.Core.Option.{none}
 use mathlib.Core.Path.{◌≡◌, refl, sym, ap, ◌∙◌, subst}
 use native.Mathlib.Omega.{arith}
 use lib.ListN.{length}
@@ -12,8 +12,8 @@ use Rattle.layout.specs.Questions.{ORDER, BOUNDS}
 use Rattle.store.specs.declared.Entry.{Entry}
 use Rattle.store.specs.declared.Asked.TheVariants.{Going, Refused}
 use Rattle.store.specs.Rounds.{ask, first_no}
-use Rattle.store.specs.Kinds.{QUEUED, COURIER, kind_of, Seen, refusal_in}
-use Rattle.store.specs.Store.{Store, entry_at, within, answer_of, seen, next_in, next_slot_in, across_as, read, all_rounds, begun, asked}
+use Rattle.store.specs.Kinds.{QUEUED, kind_of, Seen, refusal_in}
+use Rattle.store.specs.Store.{Store, entry_at, within, answer_of, seen, next_in, across_as, read, all_rounds, begun, asked}
 use Rattle.store.specs.Accepted.{NotIn, Owner, Twice, Across, Follows}
 use Rattle.store.proofs.Rounds.{quiet-granted}
 use Rattle.store.proofs.Tests.{yes-all}
@@ -21,7 +21,7 @@ use Rattle.store.proofs.Same.{SameUse, same_id, order_same}
 use Rattle.store.proofs.Across.{across-yes}
 use Rattle.store.proofs.Accepted.{asked-begun, going-quiet, going-across, quiet-kinds, sorted}
 
--- more may have been sent, and all else that is seen is the same, next_slot aside
+-- more may have been sent, and all else that is seen is the same
 pub record More (x y : Seen) : Type 0 where
   pub next : x.next_contact ≡ y.next_contact
   pub sent : x.sent_msgno ≤ y.sent_msgno
@@ -69,9 +69,8 @@ module _ (es es' : List Entry) (long : length es ≡ length es') (uses : (i : �
           unacked = subst (λ (n : ℕ). NotIn n (look' (entry_at es' o.place)).unacked) no (subst (λ (l : List ℕ). NotIn (entry_at es i).msgno l) m.unacked o.unacked);
         }
 
-    -- 51 is what is not handed down: it is asked anew
-    pub across-alike : ((i n : ℕ) → i < length es → (entry_at es i).kind ≡ COURIER → next_slot_in look' es' ≡ some n → (entry_at es i).id < n) → Across es look → Across es' look'
-    across-alike slots a = record {
+    pub across-alike : Across es look → Across es' look'
+    across-alike a = record {
       below_next = λ i b k. let c : i < length es = omega arith in let x = (uses i c).kind ∙ k in omega (arith, a.below_next i c x, same_id es es' long uses 0 i c x, next-alike);
       contacts-new = λ i j b c t. a.contacts-new i j (omega arith) c (twice (omega arith) c t);
       owners = λ i b k. let c : i < length es = omega arith in let x = (uses i c).kind ∙ k in owner i c x (a.owners i c x);
@@ -81,7 +80,6 @@ module _ (es es' : List Entry) (long : length es ≡ length es') (uses : (i : �
       depositors = λ i d b k e. let c : i < length es = omega arith in omega (arith, a.depositors i d c ((uses i c).kind ∙ k) ((more i c).depositor ∙ e), next-alike);
       slots-new = λ i j b c t. a.slots-new i j (omega arith) c (twice (omega arith) c t);
       below_last = λ i b k. let c : i < length es = omega arith in let x = (uses i c).kind ∙ k in omega (arith, a.below_last i c x, same_id es es' long uses 2 i c x);
-      below-next-slot = λ i n b k e. let c : i < length es = omega arith in let x = (uses i c).kind ∙ k in omega (arith, slots i n c x e, same_id es es' long uses 2 i c x);
     }
 
 -- ---- stores
@@ -101,12 +99,11 @@ module _ (s s' : Store)
   es' = s'.entries
 
   pub passes-alike : ((i : ℕ) → i < length es → read s i ≡ none → HandsDown s s' (entry_at es i) (entry_at es' i))
-      → (asked s ≡ Going → (i n : ℕ) → i < length es → (entry_at es i).kind ≡ COURIER → next_slot_in (seen s') es' ≡ some n → (entry_at es i).id < n)
       → asked s ≡ Going → asked s' ≡ Going
-  passes-alike each slots e =
+  passes-alike each e =
       let q = going-quiet s e in
       let down : (i : ℕ) → i < length es → HandsDown s s' (entry_at es i) (entry_at es' i) = λ i h. each i h (q.1.1.0 i (omega arith) h) in
-      let a' : Across es' (seen s') = across-alike es es' long uses (seen s) (seen s') (λ i h. (down i h).more) (slots e) (going-across s e) in
+      let a' : Across es' (seen s') = across-alike es es' long uses (seen s) (seen s') (λ i h. (down i h).more) (going-across s e) in
       let b' : begun s' ≡ Going = ap (λ (n : ℕ). cond (eqb n 0) (Refused ORDER 0) Going) (sym long) ∙ asked-begun s e in
       rw b'
       (quiet-granted (all_rounds s') (length es') (
@@ -123,17 +120,3 @@ module _ (s s' : Store)
           ),
         ),
       ))
-
-  -- where next_slot stays, 51 is handed down too
-  pub passes_kept : ((i : ℕ) → i < length es → read s i ≡ none → HandsDown s s' (entry_at es i) (entry_at es' i) × ((seen s (entry_at es i)).next_slot ≡ (seen s' (entry_at es' i)).next_slot))
-      → asked s ≡ Going → asked s' ≡ Going
-  passes_kept each e =
-      let q = going-quiet s e in
-      let kept : next_slot_in (seen s) es ≡ next_slot_in (seen s') es' = go es es' long (λ h. (each 0 h (q.1.1.0 0 (omega arith) h)).1) in
-      passes-alike (λ i b h. (each i b h).0) (λ g i n b k x. (going-across s g).below-next-slot i n b k (kept ∙ x)) e
-    where
-      go : (l l' : List Entry) → length l ≡ length l' → (0 < length l → (seen s (entry_at l 0)).next_slot ≡ (seen s' (entry_at l' 0)).next_slot) → next_slot_in (seen s) l ≡ next_slot_in (seen s') l'
-      go [] [] h x = refl
-      go [] (f ∷ l) h x = absurd (omega arith)
-      go (f ∷ l) [] h x = absurd (omega arith)
-      go (f ∷ l) (f' ∷ l') h x = x (omega arith)

@@ -8,16 +8,16 @@ use mathlib.Core.Path.{◌≡◌, refl, sym, ap, ◌∙◌}
 use lib.Dec.{eqb, eqb→eq}
 use Rattle.layout.specs.Questions.{CODE}
 use Rattle.layout.specs.Veil.{veil}
-use Rattle.layout.specs.Form.{u32, u64}
+use Rattle.layout.specs.Form.{u32}
 use Rattle.layout.specs.Layout.{Layout, done, ask, blank_of, refusal_of, accepted, refused_by, Answer}
 use Rattle.layout.specs.Layout as layout
 use Rattle.layout.specs.RowLaws.{Alike, RowLaws}
 use Rattle.layout.proofs.Theorems.{veil-laws, accepted≢}
-use Rattle.layout.proofs.Derived.{only_if-plain, list-plain}
+use Rattle.layout.proofs.Derived.{list-plain}
 use Rattle.rows.specs.Proved.{Row}
 use Rattle.rows.proofs.Proved.{proved}
 use Rattle.store.specs.Kinds.{DEVICE, CONTACT, QUEUED, COURIER, Kind, device, contact, queued, courier, unknown, kind_of, ValueOf, layout_of, seen_in, seen_of, refusal_in}
-use Rattle.store.specs.Accepted.{VersionOf, MeetsOf}
+use Rattle.store.specs.Accepted.{MeetsOf}
 use Rattle.store.proofs.Rounds.{some≢none}
 use Rattle.store.proofs.Tests.{truth}
 
@@ -45,7 +45,7 @@ row-of courier version = proved.courier version
 row-of unknown version = let laws = refuses-all CODE (done tt) in record { laws = laws; veil = veil-laws (ask CODE false (done tt)) laws }
 
 -- ---- what a layout asks of a value is what it has to meet
-pub meets-of : (k : Kind) (version : ℕ) (v : ValueOf k) → (refusal_of (layout_of k version) v ≡ none) ↔ (VersionOf k version × MeetsOf k v)
+pub meets-of : (k : Kind) (version : ℕ) (v : ValueOf k) → (refusal_of (layout_of k version) v ≡ none) ↔ ((version ≡ 3) × MeetsOf k v)
 unfolding layout.refusal_of
 meets-of device version d = proved.meets.device version d
 meets-of contact version c = proved.meets.contact version c
@@ -56,7 +56,7 @@ meets-of unknown version u = ((λ e. absurd (some≢none e)), (λ m. absurd m.1)
 -- ---- what is seen of a row is nothing that is veiled
 seen-blank : (k : Kind) (version : ℕ) (v : ValueOf k) → seen_in k (blank_of (layout_of k version) veil v) ≡ seen_in k v
 unfolding layout.blank_of
-seen-blank device version d = rw (only_if-plain u64 veil (λ n. refl) d.next_slot)
+seen-blank device version d = refl
 seen-blank contact version c = rw (list-plain u32 veil (λ n. refl) c.unacked)
 seen-blank queued version q = refl
 seen-blank courier version (inl c) = refl

@@ -63,7 +63,7 @@ module _ (es : List Entry) where
       go (yes x) (no y) = absurd (duplicate j m (omega arith) c t u)
 
   module _ (look : Entry → Seen) where
-    -- 25 to 33 and 51 of each entry
+    -- 25 to 33 of each entry
     abbrev pub across_by : Round
     across_by i = first_no (across_as es look (kind_of (entry_at es i).kind) (entry_at es i) i)
 

@@ -22,20 +22,19 @@ use Rattle.store.proofs.Rounds.{some≢none}
 use Rattle.store.proofs.Tests.{truth, all_yes, is-of}
 use Rattle.store.proofs.Same.{own-use, relaid}
 use Rattle.store.proofs.Accepted.{going-quiet}
-use Rattle.store.proofs.ByIndex.{More, more_same, passes_kept}
+use Rattle.store.proofs.ByIndex.{More, more_same, passes-alike}
 use Rattle.store.proofs.Opened.{opened-read, other-version}
 
 -- ---- rows go on passing, and more is seen of them
 record Lasts (s : Store) (from : Entry → List ℕ) (e : Entry) : Type 0 where
   passes : refusal_in (answer_of (relaid s from) e) ≡ none
   more : More (seen s e) (seen (relaid s from) e)
-  slot : (seen s e).next_slot ≡ (seen (relaid s from) e).next_slot
 
 lasts : (s : Store) (from : Entry → List ℕ) → ((i : ℕ) → i < length s.entries → read s i ≡ none → Lasts s from (entry_at s.entries i)) → asked s ≡ Going → asked (relaid s from) ≡ Going
 lasts s from each e =
-    passes_kept s (relaid s from) refl (λ i b. own-use (entry_at s.entries i))
+    passes-alike s (relaid s from) refl (λ i b. own-use (entry_at s.entries i))
     (λ i b. (all_yes (ask BOUNDS (within s.size (entry_at s.entries i)) ∷ []) ((going-quiet s e).1.0 i (omega arith) b)).0)
-    (λ i b h. let l = each i b h in (record { passes = l.passes; more = l.more }, l.slot)) e
+    (λ i b h. let l = each i b h in record { passes = l.passes; more = l.more }) e
 
 -- ---- the opened contact
 module _ (c c' : Contact) (v : Valid (rows.contact 3) c) (v' : Valid (rows.contact 3) c') (sent : c.sent_msgno ≤ c'.sent_msgno) (unacked : c.unacked ≡ c'.unacked) where
@@ -48,7 +47,6 @@ module _ (c c' : Contact) (v : Valid (rows.contact 3) c) (v' : Valid (rows.conta
   record LastsAt (kind version : ℕ) (t : Bool) (r : List ℕ) : Type 0 where
     passes : Passes kind version (row_in c' t r)
     more : More (seen_of (kind_of kind) (read_row (layout_of (kind_of kind) version) (row_in c t r))) (seen_of (kind_of kind) (read_row (layout_of (kind_of kind) version) (row_in c' t r)))
-    slot : (seen_of (kind_of kind) (read_row (layout_of (kind_of kind) version) (row_in c t r))).next_slot ≡ (seen_of (kind_of kind) (read_row (layout_of (kind_of kind) version) (row_in c' t r))).next_slot
 
   is-three : (version : ℕ) (row : List ℕ) → Passes CONTACT version row → version ≡ 3
   is-three version row h = go (eqb version 3) refl
@@ -61,11 +59,10 @@ module _ (c c' : Contact) (v : Valid (rows.contact 3) c) (v' : Valid (rows.conta
   last-three r = record {
     passes = ap refusal_in (opened-read c' v');
     more = rw (opened-read c v, opened-read c' v') (record { next = refl; sent = sent; unacked = unacked; depositor = refl });
-    slot = rw (opened-read c v, opened-read c' v');
   }
 
   last-at : (kind version : ℕ) (t : Bool) (r : List ℕ) → (T t → kind ≡ CONTACT) → Passes kind version (row_in c t r) → LastsAt kind version t r
-  last-at kind version false r k h = record { passes = h; more = more_same (seen_of (kind_of kind) (read_row (layout_of (kind_of kind) version) r)); slot = refl }
+  last-at kind version false r k h = record { passes = h; more = more_same (seen_of (kind_of kind) (read_row (layout_of (kind_of kind) version) r)) }
   last-at kind version true r k h =
       let g : Passes CONTACT version (row_in c true r) = subst (λ (n : ℕ). Passes n version (row_in c true r)) (k tt) h in
       subst (λ (n : ℕ). LastsAt n version true r) (sym (k tt)) (subst (λ (n : ℕ). LastsAt CONTACT n true r) (sym (is-three version (row_in c true r) g)) (last-three r))
@@ -75,4 +72,4 @@ module _ (c c' : Contact) (v : Valid (rows.contact 3) c) (v' : Valid (rows.conta
       lasts (opened_in run es k c) (opened_in run es k c').row_of
       (λ i b h. let e = entry_at es i in
       let l = last-at e.kind e.version (is_of CONTACT k e) (part_of run e) (λ t. (is-of CONTACT k e t).0) h in
-      record { passes = l.passes; more = l.more; slot = l.slot }) g
+      record { passes = l.passes; more = l.more }) g

@@ -4,6 +4,7 @@ use Prim.Native.Nat.{ℕ}
 use mathlib.Core.Logic.{◌↔◌}
 use mathlib.Core.Path.{◌≡◌, refl, ap}
 use native.Mathlib.Omega.{arith}
+use lib.ListN.{length}
 use Rattle.layout.specs.RowLaws.{Bytes}
 use Rattle.rows.specs.Rows as rows
 use Rattle.rows.proofs.Proved.{proved}
@@ -25,10 +26,8 @@ use Rattle.store.proofs.Unused.{unused-restore, unused-passes}
 use Rattle.store.proofs.Opened.{just-opened, opened-alike}
 use Rattle.store.proofs.Lasting.{opened-lasts}
 use Rattle.store.proofs.Written.{alike-long, alike-outside}
-use Rattle.store.proofs.Slots.{slots-above, slots-one, granted-above}
+use Rattle.store.proofs.Slots.{slots-above, slots-one}
 use Rattle.store.proofs.Duplicates.{kind-new, queued-new}
-use Rattle.store.proofs.Laid.{laid_laws}
-use Rattle.store.proofs.Converted.{convert-laws}
 
 -- ---- an outcome says what was asked
 granted-going : (a : Asked) (f : Found) → outcome a f ≡ granted f → a ≡ Going
@@ -58,13 +57,7 @@ store-laws = record {
     unused = unused-restore;
     unused-opened = unused-passes;
   };
-  slots = record {
-    above = λ s g. granted-above s (granted-going (asked s) (found s) g);
-    kept = λ s n e. rw e;
-    least = λ s e. rw e;
-    worked = slots-one;
-    worked-above = slots-above;
-  };
+  slots = record { above = λ s i b k. slots-above s.entries (length s.entries) i b k; least = λ s. slots-one s.entries (length s.entries) };
   veiled = record {
     blind = blind-restore;
     symmetric = veil-symmetric;
@@ -86,6 +79,4 @@ store-laws = record {
     queued-new = λ s i b quiet is. queued-new s.entries (seen s) i b quiet is;
     slot-new = λ s i b quiet is. kind-new s.entries (seen s) i b quiet COURIER is refl refl;
   };
-  laid = laid_laws;
-  converted = convert-laws;
 }

@@ -3,7 +3,7 @@
 use Prim.Native.Nat.{ℕ, zero, suc, ◌+◌, ◌≤◌, ◌<◌}
 use mathlib.Core.List.{List, [], ◌∷◌}
 use mathlib.Core.Bool.{Bool, true, false, cond, ◌&&◌}
-use mathlib.Core.Option.{Option, none, some, get_or}
+use mathlib.Core.Option.{Option, none, some}
 use mathlib.Core.Path.{◌≡◌, refl, sym, ap, ap₂, ◌∙◌}
 use native.Mathlib.Omega.{arith}
 use lib.ListN.{length}
@@ -17,7 +17,7 @@ use Rattle.store.specs.declared.Asked.{Asked}
 use Rattle.store.specs.declared.Asked.TheVariants.{Going, Refused}
 use Rattle.store.specs.Rounds.{ask, first_no, rounds}
 use Rattle.store.specs.Kinds.{DEVICE, CONTACT, QUEUED, COURIER, Kind, contact, unknown, kind_of, layout_of, Seen, refusal_in}
-use Rattle.store.specs.Store.{Store, entry_at, is_of, within, answer_of, seen, in_order, any_below, before, queued_before, across_as, contact_before, next_in, next_slot_in, low_depositor, all_rounds, begun, asked}
+use Rattle.store.specs.Store.{Store, entry_at, is_of, within, answer_of, seen, in_order, any_below, before, queued_before, across_as, contact_before, next_in, low_depositor, all_rounds, begun, asked}
 use Rattle.store.specs.Store.{ContactRow, contacts_as, contacts_in, slots_below, Found, outcome, restore}
 use Rattle.store.proofs.Rounds.{rounds-same}
 use Rattle.store.proofs.Tests.{truth}
@@ -85,15 +85,6 @@ module _ (es es' : List Entry) (long : length es ≡ length es') (uses : (i : �
         go (e ∷ l) [] h x = absurd (omega arith)
         go (e ∷ l) (e' ∷ l') h x = ap (λ (y : Seen). y.next_contact) (x (omega arith))
 
-    pub slot_same : next_slot_in look es ≡ next_slot_in look' es'
-    slot_same = go es es' long (same 0)
-      where
-        go : (l l' : List Entry) → length l ≡ length l' → (0 < length l → look (entry_at l 0) ≡ look' (entry_at l' 0)) → next_slot_in look l ≡ next_slot_in look' l'
-        go [] [] h x = refl
-        go [] (e ∷ l) h x = absurd (omega arith)
-        go (e ∷ l) [] h x = absurd (omega arith)
-        go (e ∷ l) (e' ∷ l') h x = ap (λ (y : Seen). y.next_slot) (x (omega arith))
-
     contact-same : (i id : ℕ) → i ≤ length es → contact_before es look i id ≡ contact_before es' look' i id
     contact-same zero id h = refl
     contact-same (suc i) id h = rw (is_same 0 id i (omega arith), same i (omega arith), contact-same i id (omega arith))
@@ -114,7 +105,7 @@ module _ (es es' : List Entry) (long : length es ≡ length es') (uses : (i : �
           go (is-device p) = at DEVICE p refl
           go (is-contact p) = at CONTACT p (rw (same_id 0 i h p, next-same, before_same i 0 (entry_at es' i).id (omega arith)))
           go (is-queued p) = at QUEUED p (rw (same_id 1 i h p, (uses i h).msgno p, before_same i 0 (entry_at es' i).id (omega arith), contact-same i (entry_at es' i).id (omega arith), queued-same i (entry_at es' i).id (entry_at es' i).msgno (omega arith)))
-          go (is-courier p) = at COURIER p (rw (same i h, same_id 2 i h p, low_same (look' (entry_at es' i)).depositor, before_same i 2 (entry_at es' i).id (omega arith), slot_same))
+          go (is-courier p) = at COURIER p (rw (same i h, same_id 2 i h p, low_same (look' (entry_at es' i)).depositor, before_same i 2 (entry_at es' i).id (omega arith)))
           go (is-unknown p) =
               ap (λ (x : Kind). across_as es look x (entry_at es i) i) p ∙ sym (ap (λ (x : Kind). across_as es' look' x (entry_at es' i) i) (ap kind_of (sym (uses i h).kind) ∙ p))
 
@@ -182,9 +173,8 @@ module _ (s s' : Store) (long : length s.entries ≡ length s'.entries) (each : 
   same-restore contacts =
       let c = contacts-same s s' es es' long (λ i b. ((each i b).uses, contacts i b)) in
       let n = next-same es es' long (λ i b. (each i b).uses) (seen s) (seen s') (λ i b. (each i b).sights) in
-      let o = slot_same es es' long (λ i b. (each i b).uses) (seen s) (seen s') (λ i b. (each i b).sights) in
       let w : slots_below es (length es) ≡ slots_below es' (length es') = slots_same es es' long (λ i b. (each i b).uses) (length es) (omega arith) ∙ ap (slots_below es') long in
-      ap₂ (λ (a : Asked) (f : Found). outcome a f) same_asked (λ i. record { contacts = c i; next_contact = n i; next_slot = get_or (o i) (w i) })
+      ap₂ (λ (a : Asked) (f : Found). outcome a f) same_asked (λ i. record { contacts = c i; next_contact = n i; next_slot = w i })
 
 -- ---- the same entries, with their rows from elsewhere
 abbrev pub relaid : Store → (Entry → List ℕ) → Store

@@ -1,11 +1,11 @@
--- Stores at the edges of questions 1, 2, 25 to 33 and 51: what the definitions answer. By computation.
+-- Stores at the edges of questions 1, 2 and 25 to 33: what the definitions answer. By computation.
 -- Assumes nothing.
 use Prim.Native.Nat.{ℕ, ◌+◌, ◌*◌}
 use mathlib.Core.List.{List, [], ◌∷◌, ◌++◌}
 use mathlib.Core.Option.{none}
 use mathlib.Core.Path.{◌≡◌, refl}
 use lib.ListN.{replicate}
-use Rattle.layout.specs.Questions.{ORDER, BOUNDS, VERSION, FIELD, CONTACT_BELOW_NEXT, CONTACT_NEW, QUEUED_CONTACT, QUEUED_MSGNO, QUEUED_UNACKED, QUEUED_NEW, DEPOSITOR, SLOT_NEW, SLOT_BELOW_LAST, SLOT_BELOW_NEXT}
+use Rattle.layout.specs.Questions.{ORDER, BOUNDS, VERSION, FIELD, CONTACT_BELOW_NEXT, CONTACT_NEW, QUEUED_CONTACT, QUEUED_MSGNO, QUEUED_UNACKED, QUEUED_NEW, DEPOSITOR, SLOT_NEW, SLOT_BELOW_LAST}
 use Rattle.layout.specs.Form as form
 use Rattle.layout.specs.Layout.{print}
 use Rattle.layout.specs.Layout as layout
@@ -104,7 +104,7 @@ sample :
     (answer run (the_device ∷ contact_row 1 ∷ queued_row 1 2 ∷ slot 7 ∷ []) ≡ granted (record { contacts = record { id = 1; fields = fields } ∷ []; next_contact = 2; next_slot = 8 }))
     × (answer run (the_device ∷ []) ≡ granted (record { contacts = []; next_contact = 2; next_slot = 0 }))
     × (answer run (entry DEVICE 0 0 0 48 ∷ []) ≡ refused FIELD 0)
-    × (answer run (record { id = 0; start = 0; len = 49; msgno = 0; version = 5; kind = DEVICE } ∷ []) ≡ refused VERSION 0)
+    × (answer run (record { id = 0; start = 0; len = 49; msgno = 0; version = 4; kind = DEVICE } ∷ []) ≡ refused VERSION 0)
 unfolding layout.parse layout.print form.big_endian form.bytes_of form.read_many form.print_many form.leb_read utf.completes
 sample = (refl, refl, refl, refl)
 
@@ -135,27 +135,3 @@ slots :
     × (answer run (the_device ∷ slot 18446744073709551615 ∷ slot 18446744073709551615 ∷ []) ≡ refused SLOT_BELOW_LAST 1)
 unfolding layout.parse layout.print form.big_endian form.bytes_of form.read_many form.print_many
 slots = (refl, refl, refl, refl, refl)
-
--- ---- a device of version 4, with this next_slot
-abbrev four : ℕ → List ℕ
-four n = device ++ (replicate 7 0 ++ n ∷ (tombstone ++ carried 2))
-
-abbrev fourth : Entry
-fourth = record { id = 0; start = 0; len = 57; msgno = 0; version = 4; kind = DEVICE }
-
-abbrev slot4 : ℕ → Entry
-slot4 n = entry COURIER n 0 57 37
-
--- a slot below it, and not; none; higher than the slots; the same slot twice above it; the last slot; a depositor first; a tombstone of version 4
-slots-four :
-    (answer (four 8) (fourth ∷ slot4 7 ∷ []) ≡ granted (record { contacts = []; next_contact = 2; next_slot = 8 }))
-    × (answer (four 8) (fourth ∷ slot4 8 ∷ []) ≡ refused SLOT_BELOW_NEXT 1)
-    × (answer (four 0) (fourth ∷ []) ≡ granted (record { contacts = []; next_contact = 2; next_slot = 0 }))
-    × (answer (four 0) (fourth ∷ slot4 0 ∷ []) ≡ refused SLOT_BELOW_NEXT 1)
-    × (answer (four 100) (fourth ∷ slot4 7 ∷ []) ≡ granted (record { contacts = []; next_contact = 2; next_slot = 100 }))
-    × (answer (four 8) (fourth ∷ slot4 9 ∷ slot4 9 ∷ []) ≡ refused SLOT_BELOW_NEXT 1)
-    × (answer (four 8) (fourth ∷ slot4 18446744073709551615 ∷ []) ≡ refused SLOT_BELOW_LAST 1)
-    × (answer (four 8) (fourth ∷ entry COURIER 9 0 94 94 ∷ []) ≡ refused DEPOSITOR 1)
-    × (answer (four 8) (fourth ∷ record { id = 7; start = 57; len = 37; msgno = 0; version = 4; kind = COURIER } ∷ []) ≡ refused VERSION 1)
-unfolding layout.parse layout.print form.big_endian form.bytes_of form.read_many form.print_many
-slots-four = (refl, refl, refl, refl, refl, refl, refl, refl, refl)

@@ -3,20 +3,16 @@
 use Prim.Native.Nat.{ℕ, zero, suc, ◌+◌, ◌≤◌, ◌<◌}
 use mathlib.Core.List.{List}
 use mathlib.Core.Bool.{Bool, true, false, cond, ◌&&◌}
-use mathlib.Core.Option.{Option, none, some, get_or}
 use mathlib.Core.Logic.{◌⊎◌, inl, inr}
 use mathlib.Core.Path.{◌≡◌, refl, ap, subst}
 use native.Mathlib.Omega.{arith}
 use native.Mathlib.Decide.{dec_le}
-use lib.ListN.{length}
-use lib.Dec.{leb, eqb, T_not, eqb→eq, leb→le, nleb→lt}
+use lib.Dec.{leb, eqb, T, T_not, eqb→eq, leb→le, nleb→lt}
 use Rattle.store.specs.declared.Entry.{Entry}
 use Rattle.store.specs.Kinds.{COURIER}
-use Rattle.store.specs.declared.Asked.TheVariants.{Going}
-use Rattle.store.specs.Store.{Store, entry_at, next_slot_in, slots_below, seen, asked, found}
+use Rattle.store.specs.Store.{entry_at, slots_below}
 use Rattle.store.specs.Proved.{LastSlot}
 use Rattle.store.proofs.Tests.{truth, false-not, eq→eqb}
-use Rattle.store.proofs.Accepted.{going-across}
 
 module _ (es : List Entry) where
   -- ---- above every slot
@@ -52,11 +48,3 @@ module _ (es : List Entry) where
       go true true u ih = inr (record { place = n; below = omega arith; «is» = eqb→eq (entry_at es n).kind COURIER (truth (eqb (entry_at es n).kind COURIER) u); last = refl })
       go true false u ih = later ih
       go false t u ih = later ih
-
--- ---- of a store that passes
-pub granted-above : (s : Store) → asked s ≡ Going → (i : ℕ) → i < length s.entries → (entry_at s.entries i).kind ≡ COURIER → (entry_at s.entries i).id < (found s).next_slot
-granted-above s g i b k = go (next_slot_in (seen s) s.entries) refl
-  where
-    go : (o : Option ℕ) → next_slot_in (seen s) s.entries ≡ o → (entry_at s.entries i).id < get_or o (slots_below s.entries (length s.entries))
-    go none e = slots-above s.entries (length s.entries) i b k
-    go (some n) e = (going-across s g).below-next-slot i n b k e

@@ -4,17 +4,17 @@ use Rattle.std.specs.Prelude.{ℕ, suc, ◌+◌, ◌≤◌, ◌<◌, List, [], �
 use Rattle.std.proofs.Math.Option.{some}
 use Rattle.layout.specs.Questions.{ORDER}
 use Rattle.layout.specs.Layout.{print, fits_of}
-use Rattle.rows.specs.Meets.{DeviceVersion, MeetsDevice, MeetsContact, MeetsQueued, MeetsCourier}
+use Rattle.rows.specs.Meets.{MeetsDevice, MeetsContact, MeetsQueued, MeetsCourier}
 use Rattle.store.specs.declared.Entry.{Entry}
 use Rattle.store.specs.Rounds.{First}
 use Rattle.store.specs.Kinds.{DEVICE, CONTACT, QUEUED, COURIER, Kind, device, contact, queued, courier, unknown, kind_of, ValueOf, layout_of, Seen, seen_in}
-use Rattle.store.specs.Store.{Store, entry_at, next_in, next_slot_in, last_slot, all_rounds}
+use Rattle.store.specs.Store.{Store, entry_at, next_in, last_slot, all_rounds}
 
 abbrev pub NotIn : ℕ → List ℕ → Type 0
 NotIn n [] = Unit {0}
 NotIn n (x ∷ xs) = (n ≡ x → ⊥) × NotIn n xs
 
--- ---- 25 to 33 and 51
+-- ---- 25 to 33
 -- entries j and i are of one kind, and one contact or slot
 pub record Twice (es : List Entry) (kind j i : ℕ) : Type 0 where
   pub one : (entry_at es i).kind ≡ kind
@@ -41,7 +41,6 @@ module _ (es : List Entry) (look : Entry → Seen) where
     pub depositors : (i d : ℕ) → i < length es → (entry_at es i).kind ≡ COURIER → (look (entry_at es i)).depositor ≡ some d → d < next_in look es
     pub slots-new : (i j : ℕ) → i < length es → j < i → Twice es COURIER j i → ⊥
     pub below_last : (i : ℕ) → i < length es → (entry_at es i).kind ≡ COURIER → (entry_at es i).id < last_slot
-    pub below-next-slot : (i n : ℕ) → i < length es → (entry_at es i).kind ≡ COURIER → next_slot_in look es ≡ some n → (entry_at es i).id < n
 
 -- ---- 3 to 24 and 54: the entry's row is the print of a value that has its fields' widths and meets its kind's questions, and x is what is seen of it
 -- 7 to 9, 11, 13 to 15, 54 and 17 to 24 (rows/specs/Meets.antt); of an unknown kind there is no row (6)
@@ -52,18 +51,10 @@ MeetsOf queued q = MeetsQueued q
 MeetsOf courier h = MeetsCourier h
 MeetsOf unknown u = ⊥
 
--- 3: a device's version is 3 or 4
-abbrev pub VersionOf : Kind → ℕ → Type 0
-VersionOf device version = DeviceVersion version
-VersionOf contact version = version ≡ 3
-VersionOf queued version = version ≡ 3
-VersionOf courier version = version ≡ 3
-VersionOf unknown version = version ≡ 3
-
 pub record Shows (s : Store) (e : Entry) (x : Seen) : Type 0 where
   pub value : ValueOf (kind_of e.kind)
   -- 3
-  pub version : VersionOf (kind_of e.kind) e.version
+  pub version : e.version ≡ 3
   -- 4 to 6, 10, 12 and 16
   pub fits : fits_of (layout_of (kind_of e.kind) e.version) value []
   pub prints : print (layout_of (kind_of e.kind) e.version) value ≡ s.row_of e

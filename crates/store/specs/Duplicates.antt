@@ -1,5 +1,5 @@
 -- The first entry that has a duplicate before it: another of its kind, and of its contact, message or slot. Questions 26, 30 and 32 are a yes of those before it, and a
--- no of it (Proved.antt); 25 to 33 and 51 end there, so what stands behind it is asked nothing. Assumes nothing.
+-- no of it (Proved.antt); 25 to 33 end there, so what stands behind it is asked nothing. Assumes nothing.
 use Rattle.std.specs.Prelude.{ℕ, List, Bool, true, false, ◌&&◌, length}
 use Rattle.store.specs.declared.Entry.{Entry}
 use Rattle.store.specs.declared.Wanted.{Wanted}

@@ -44,9 +44,8 @@ layout_of unknown version = ask CODE false (done tt)
 
 -- ---- what the questions across rows look at
 pub record Seen : Type 0 where
-  -- a device's; next_slot is version 4's
+  -- a device's
   pub next_contact : ℕ
-  pub next_slot : Option ℕ
   -- a contact's
   pub sent_msgno : ℕ
   pub unacked : List ℕ
@@ -54,21 +53,21 @@ pub record Seen : Type 0 where
   pub depositor : Option ℕ
 
 abbrev pub nothing : Seen
-nothing = record { next_contact = 0; next_slot = none; sent_msgno = 0; unacked = []; depositor = none }
+nothing = record { next_contact = 0; sent_msgno = 0; unacked = []; depositor = none }
 
 -- what is seen of a contact
 abbrev pub contact_sight : (sent : ℕ) → (unacked : List ℕ) → Seen
-contact_sight sent unacked = record { next_contact = 0; next_slot = none; sent_msgno = sent; unacked = unacked; depositor = none }
+contact_sight sent unacked = record { next_contact = 0; sent_msgno = sent; unacked = unacked; depositor = none }
 
 abbrev pub depositor_of : Courier → Option ℕ
 depositor_of (inl c) = some c.depositor
 depositor_of (inr t) = none
 
 abbrev pub seen_in : (k : Kind) → ValueOf k → Seen
-seen_in device d = record { next_contact = d.next_contact; next_slot = d.next_slot; sent_msgno = 0; unacked = []; depositor = none }
+seen_in device d = record { next_contact = d.next_contact; sent_msgno = 0; unacked = []; depositor = none }
 seen_in contact c = contact_sight c.sent_msgno c.unacked
 seen_in queued q = nothing
-seen_in courier h = record { next_contact = 0; next_slot = none; sent_msgno = 0; unacked = []; depositor = depositor_of h }
+seen_in courier h = record { next_contact = 0; sent_msgno = 0; unacked = []; depositor = depositor_of h }
 seen_in unknown v = nothing
 
 -- of a row that was refused nothing is seen

@@ -5,8 +5,6 @@ pub mod Line
 pub mod Accepted
 pub mod Veiled
 pub mod Used
-pub mod Laid
-pub mod Convert
 pub mod Find
 pub mod Duplicates
 pub mod Omitted

@@ -1,7 +1,7 @@
 -- What is proved of restore's definitions (proofs/Proved.antt).
 -- Assumes nothing.
 use Rattle.std.specs.Prelude.{ℕ, ◌+◌, ◌≤◌, ◌<◌, List, map, not, ◌⊎◌, ◌↔◌, ◌≡◌, length, T, ltb}
-use Rattle.std.proofs.Math.Option.{none, some}
+use Rattle.std.proofs.Math.Option.{some}
 use Rattle.layout.specs.Veil.{Outside}
 use Rattle.layout.specs.Layout.{read_row, accepted, print, veiled_bytes}
 use Rattle.layout.specs.RowLaws.{Bytes, Valid}
@@ -11,12 +11,10 @@ use Rattle.store.specs.declared.Entry.{Entry}
 use Rattle.store.specs.declared.Asked.TheVariants.{Going}
 use Rattle.store.specs.Rounds.{Question, first_no, FirstIn, Quiet}
 use Rattle.store.specs.Kinds.{CONTACT, QUEUED, COURIER}
-use Rattle.store.specs.Store.{Store, entry_at, is_of, before, queued_before, part_of, store_of, opened_in, next_slot_in, slots_below, across, asked, seen, found, granted, refused, restore, replaced_passes}
+use Rattle.store.specs.Store.{Store, entry_at, is_of, before, queued_before, part_of, store_of, opened_in, across, asked, found, granted, refused, restore, replaced_passes}
 use Rattle.store.specs.Accepted.{Accepted, FirstNo}
 use Rattle.store.specs.Veiled.{VeilEqual, OpenAgree, OutcomesAlike, FieldsAlike, copied, blanked, Apart, Disjoint}
 use Rattle.store.specs.Used.{used}
-use Rattle.store.specs.Laid.{LaidLaws}
-use Rattle.store.specs.Convert.{ConvertLaws}
 use Rattle.store.specs.Duplicates.{first_duplicate}
 
 -- ---- which stores are granted, and which refusal the others get
@@ -37,13 +35,10 @@ pub record LastSlot (es : List Entry) (n next : ℕ) : Type 0 where
   pub «is» : (entry_at es place).kind ≡ COURIER
   pub last : next ≡ (entry_at es place).id + 1
 
--- ---- next_slot is the device's, or worked out: the highest slot + 1, or 0
+-- ---- next_slot is the highest slot + 1, or 0
 pub record SlotLaws : Type 0 where
-  pub worked : (es : List Entry) (n : ℕ) → (slots_below es n ≡ 0) ⊎ LastSlot es n (slots_below es n)
-  pub worked-above : (es : List Entry) (n i : ℕ) → i < n → (entry_at es i).kind ≡ COURIER → (entry_at es i).id < slots_below es n
-  pub above : (s : Store) → restore s ≡ granted (found s) → (i : ℕ) → i < length s.entries → (entry_at s.entries i).kind ≡ COURIER → (entry_at s.entries i).id < (found s).next_slot
-  pub kept : (s : Store) (n : ℕ) → next_slot_in (seen s) s.entries ≡ some n → (found s).next_slot ≡ n
-  pub least : (s : Store) → next_slot_in (seen s) s.entries ≡ none → (found s).next_slot ≡ slots_below s.entries (length s.entries)
+  pub above : (s : Store) (i : ℕ) → i < length s.entries → (entry_at s.entries i).kind ≡ COURIER → (entry_at s.entries i).id < (found s).next_slot
+  pub least : (s : Store) → ((found s).next_slot ≡ 0) ⊎ LastSlot s.entries (length s.entries) (found s).next_slot
 
 -- ---- veiled bytes do not show
 pub record BlindLaws : Type 0 where
@@ -87,5 +82,3 @@ pub record StoreLaws : Type 0 where
   pub veiled : BlindLaws
   pub opened : OpenedLaws
   pub duplicates : DuplicateLaws
-  pub laid : LaidLaws
-  pub converted : ConvertLaws

@@ -1,9 +1,8 @@
--- Restore: the questions of document 01 from 1 to 33, with 54 and 51 of document 02, in their order, and what a granted restore finds.
+-- Restore: the questions of document 01 from 1 to 33, with 54 of document 02, in their order, and what a granted restore finds.
 -- The RUN is document 01's one run of bytes; a store is the run and its entries. Assumes nothing.
 use Rattle.std.specs.Prelude.{ℕ, zero, suc, ◌+◌, List, [], ◌∷◌, Bool, true, false, cond, ◌&&◌, ◌||◌, not, length, get_or, take, drop, leb, ltb, eqb}
-use Rattle.std.proofs.Math.Option
 use Rattle.std.proofs.Math.Option.{Option, none, some}
-use Rattle.layout.specs.Questions.{ORDER, BOUNDS, CONTACT_BELOW_NEXT, CONTACT_NEW, QUEUED_CONTACT, QUEUED_MSGNO, QUEUED_UNACKED, QUEUED_NEW, DEPOSITOR, SLOT_NEW, SLOT_BELOW_LAST, SLOT_BELOW_NEXT}
+use Rattle.layout.specs.Questions.{ORDER, BOUNDS, CONTACT_BELOW_NEXT, CONTACT_NEW, QUEUED_CONTACT, QUEUED_MSGNO, QUEUED_UNACKED, QUEUED_NEW, DEPOSITOR, SLOT_NEW, SLOT_BELOW_LAST}
 use Rattle.layout.specs.Layout.{Answer, accepted, refused_by, read_row, print}
 use Rattle.rows.specs.Values.{Contact}
 use Rattle.rows.specs.Checks.{any}
@@ -70,7 +69,7 @@ in_order es zero = eqb (entry_at es 0).kind DEVICE
 in_order es (suc i) =
     leb CONTACT (entry_at es (suc i)).kind && leb (entry_at es (suc i)).kind COURIER && leb (entry_at es i).kind (entry_at es (suc i)).kind
 
--- ---- 25 to 33 and 51: of an entry e, the i-th
+-- ---- 25 to 33: of an entry e, the i-th
 abbrev pub any_below : ℕ → (ℕ → Bool) → Bool
 any_below zero p = false
 any_below (suc n) p = p n || any_below n p
@@ -79,16 +78,6 @@ any_below (suc n) p = p n || any_below n p
 abbrev pub next_in : (Entry → Seen) → List Entry → ℕ
 next_in look [] = 0
 next_in look (e ∷ es) = (look e).next_contact
-
--- the next_slot that it holds
-abbrev pub next_slot_in : (Entry → Seen) → List Entry → Option ℕ
-next_slot_in look [] = none
-next_slot_in look (e ∷ es) = (look e).next_slot
-
--- 51: asked only where the device has a next_slot
-abbrev pub below_next : Option ℕ → ℕ → Bool
-below_next none slot = true
-below_next (some n) slot = ltb slot n
 
 -- the highest u64
 abbrev pub last_slot : ℕ
@@ -130,7 +119,6 @@ module _ (es : List Entry) (look : Entry → Seen) where
       ask DEPOSITOR (low_depositor (look e).depositor)
       ∷ ask SLOT_NEW (not (before es i COURIER e.id))
       ∷ ask SLOT_BELOW_LAST (ltb e.id last_slot)
-      ∷ ask SLOT_BELOW_NEXT (below_next (next_slot_in look es) e.id)
       ∷ []
   across_as unknown e i = []
 
@@ -189,12 +177,7 @@ pub record Found : Type 0 where
   pub next_slot : ℕ
 
 abbrev pub found : Store → Found
-found s = record {
-  contacts = contacts_in s s.entries;
-  next_contact = next_in (seen s) s.entries;
-  -- the device's where it has one, else worked out
-  next_slot = Option.get_or (next_slot_in (seen s) s.entries) (slots_below s.entries (length s.entries));
-}
+found s = record { contacts = contacts_in s s.entries; next_contact = next_in (seen s) s.entries; next_slot = slots_below s.entries (length s.entries) }
 
 -- ---- restore
 pub data Outcome : Type 0 where

@@ -33,7 +33,7 @@ fn veil_device(version: u32, row: &[u8], out: &mut [u8]) -> Written
     };
     let mut device = read.device;
     device.beacon_key = [0; 32];
-    device.row(version, out)
+    device.row(out)
 }
 
 // Veiled: s of the own envelope, and the sealed text.

@@ -2,4 +2,3 @@ pub mod Walk
 pub mod Held
 pub mod Again
 pub mod Table
-pub mod Lent

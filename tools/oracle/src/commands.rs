@@ -9,12 +9,12 @@ use std::io::Read;
 use std::path::Path;
 
 const USAGE: &str =
-    "usage: oracle all|leb128|utf8|card|device|queued|courier|contact|received|stores|convert [SEED [TIMES]]
+    "usage: oracle all|leb128|utf8|card|device|queued|courier|contact|received|stores [SEED [TIMES]]
        oracle samples DIR
        oracle store-cases|sheet-cases DIR
        oracle program-samples DIR
        oracle script-cases DIR SCRIPT
-       oracle speed|names-speed|insert-speed|convert-speed|restore-speed [large]
+       oracle speed|names-speed|insert-speed|restore-speed [large]
        oracle scripts|transcript|scripts-rust|sheets|sheets-rust SEED TIMES
        oracle scripts-check|orders-check|sheets-check SEED TIMES PROGRAM [WORD..]
        oracle sheets-speed|calls-speed PROGRAM [WORD..]
@@ -48,7 +48,6 @@ fn of_speed(words: &[&str]) -> Option<Done> {
         ["speed"] => speed::rows::run(),
         ["names-speed"] => speed::names::run(),
         ["insert-speed"] => speed::insert::run(),
-        ["convert-speed"] => speed::convert::run(),
         ["restore-speed"] => speed::restore::run(),
         ["restore-speed", "large"] => speed::restore::run_large(),
         ["calls-speed", ref program @ ..] if !program.is_empty() => {

@@ -2,7 +2,6 @@
 
 mod card;
 mod contact;
-mod convert;
 mod courier;
 mod device;
 mod leb128;
@@ -21,7 +20,7 @@ pub use stores::store_faults;
 
 /// What is compared, in this order. The number says how often the random part is repeated.
 type Run = fn(u64, usize) -> bool;
-const RUNS: [(&str, Run); 10] = [
+const RUNS: [(&str, Run); 9] = [
     ("leb128", |seed, _| leb128::run(seed)),
     ("utf8", |seed, _| utf8::run(seed)),
     ("card", |seed, _| card::run(seed)),
@@ -31,7 +30,6 @@ const RUNS: [(&str, Run); 10] = [
     ("contact", contact::run),
     ("received", received::run),
     ("stores", stores::run),
-    ("convert", convert::run),
 ];
 
 /// Runs the named comparisons, if there are any; whether nothing differed.

@@ -1,7 +1,6 @@
 //! The model: what documents 01 and 02 say of rows, stores, calls and sheets. It shares no code with the Rust or the Rattle.
 
 pub mod calls;
-pub mod convert;
 pub mod covered;
 pub mod lent;
 pub mod memory;

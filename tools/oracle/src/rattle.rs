@@ -14,10 +14,10 @@ use linked as side;
 #[cfg(not(feature = "rattle"))]
 use stand_in as side;
 
-pub use answers::{ConvertAnswer, LONGEST_CARD, RestoreAnswer, WriteAnswer};
+pub use answers::{LONGEST_CARD, RestoreAnswer, WriteAnswer};
 pub use side::{
-    card, check_contact, contact_lists, contains, convert, courier, covers, device, insert, leb128,
-    queued, read_leb128, restore, utf8, veil_contact, veil_courier, veil_device, veil_queued,
+    card, check_contact, contact_lists, contains, courier, covers, device, insert, leb128, queued,
+    read_leb128, restore, utf8, veil_contact, veil_courier, veil_device, veil_queued,
 };
 
 thread_local! {

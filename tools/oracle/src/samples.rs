@@ -3,7 +3,6 @@
 pub mod call_samples;
 pub mod cases;
 pub mod contact_cases;
-mod convert_samples;
 pub mod row_cases;
 mod row_changes;
 pub mod script_cases;

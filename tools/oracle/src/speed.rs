@@ -2,7 +2,6 @@
 
 pub mod calls;
 mod clock;
-pub mod convert;
 pub mod insert;
 pub mod names;
 pub mod restore;

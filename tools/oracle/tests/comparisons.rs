@@ -50,11 +50,6 @@ fn stores() {
     same(&["stores"]);
 }
 
-#[test]
-fn convert() {
-    same(&["convert"]);
-}
-
 /// A thousand lists of calls; and every small set of numbers with every range, in `every_small_set`.
 #[test]
 fn lists_of_calls() {

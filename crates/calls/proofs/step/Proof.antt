@@ -42,7 +42,7 @@ use base.Fml.{GName}
 use borrow.Rule.Slice.Relend.{set_name}
 use Rattle.contact.specs.Contact.{lists}
 use Rattle.calls_dispatch.proofs.Steps.{stepped}
-use Rattle.walks.proofs.Lent.{lends_shared, shared_back}
+use Rattle.calls.proofs.Lent.{lends_shared, shared_back}
 use Rattle.calls_open.specs.contracts.Left as LeftT
 use Rattle.calls_open.proofs.Left.TheLaws as LeftL
 use Rattle.store.specs.declared.Entry.{Entry}

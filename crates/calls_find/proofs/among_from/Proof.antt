@@ -45,7 +45,7 @@ use Rattle.walks.proofs.Walk.{untok, retok, gone, rest_of, drops, drops-go}
 use Rattle.walks.proofs.Held.{Held, number, of_struct, vals, Lies, holds, empty, plus, lends, none, calls-held, into, local}
 use lib.ListN.{take}
 use Rattle.calls_find.specs.Sought.{next_among}
-use Rattle.restore_entries.proofs.Folds.{Folding, begins, goes_on, ends, front-entry, front-inside, front-behind}
+use Rattle.calls_find.proofs.Folds.{Folding, begins, goes_on, ends, front-entry, front-inside, front-behind}
 use Rattle.store.specs.declared.Entry.{Entry}
 use Rattle.store.specs.contracts.Entry as EntryT
 use Rattle.rows.specs.declared.ContactId.{ContactId}

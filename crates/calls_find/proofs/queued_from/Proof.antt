@@ -44,7 +44,7 @@ use Rattle.walks.proofs.Held.{Held, number, of_struct, vals, Lies, holds, empty,
 use lib.ListN.{take}
 use Rattle.store.specs.Store.{entry_at}
 use Rattle.calls_find.specs.Sought.{queued_next}
-use Rattle.restore_entries.proofs.Folds.{Folding, begins, goes_on, ends, front-entry, front-inside, front-behind}
+use Rattle.calls_find.proofs.Folds.{Folding, begins, goes_on, ends, front-entry, front-inside, front-behind}
 use Rattle.calls_find.proofs.Laws.{none-queued, one-fits, one_more}
 use Rattle.store.specs.declared.Entry.{Entry}
 use Rattle.store.specs.contracts.Entry as EntryT

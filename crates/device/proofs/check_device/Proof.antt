@@ -7,21 +7,20 @@ use mathlib.Core.Path.{◌≡◌, sym, ap, subst, ◌∙◌}
 use native.Mathlib.Omega.{arith}
 use lib.ListN.{take, drop}
 use borrow.Author.Rules.{rules}
-use borrow.Author.Tests.{not-true, not-false}
+use borrow.Author.Tests.{eq-eqb, ne_eqb}
 use Rattle.layout.specs.Veil.{plain, veiled}
-use Rattle.layout.specs.Form.{bytes, u8, u16, u32, u64, flag, only_if}
+use Rattle.layout.specs.Form.{bytes, u8, u16, u32, u64, flag}
 use Rattle.layout.specs.Layout.{answer}
 use Rattle.layout.specs.Field.{takes, read_at}
 use Rattle.layout.specs.RowLaws.{Bytes}
 use Rattle.layout.proofs.Front.{number-lawful, flag-lawful}
-use Rattle.layout.proofs.Parts.{only_if-lawful}
 use Rattle.layout.proofs.At.{learn, Took, typed, took, refused-at, bytes_next, number-next}
 use Rattle.layout.proofs.Steps.{Reached, start, field-yes, field-no, ask-yes, ask-no, end-yes, end-no, done-yes}
-use Rattle.rows.specs.Checks.{holds_slot, courier_allowed}
+use Rattle.rows.specs.Checks.{courier_allowed}
 use Rattle.rows.specs.Rows.{device}
 use Rattle.fields.specs.Says.{run_says, Ends, u8_says, u16_says, u32_says, u64_says, flag_says, flag_refusal}
 use Rattle.fields.proofs.Runs.{run-took, run_short}
-use Rattle.device.specs.Device.{config_of, config_says, slot_says}
+use Rattle.device.specs.Device.{config_of, config_says}
 use Rattle.device.proofs.Config.{config-yes, config-no}
 use Rattle.device.specs.declared.CourierConfig.{CourierConfig}
 use Rattle.device.proofs.check_device.Statement.{statement}
@@ -35,7 +34,7 @@ by : (s : tie.After-shared-slice-known) → Bytes (row s)
 by s = typed (row s) s.shared-slice-known.given
 
 abbrev s1 : tie.Else1 → tie.After-shared-slice-known
-s1 c = c.before.before
+s1 c = c.before
 
 abbrev k1 : tie.After-known-told → tie.Else1
 k1 c = c.before.before.before.before
@@ -85,23 +84,14 @@ k8 c = c.before.before.before.before
 abbrev s9 : tie.After-known-told8 → tie.After-shared-slice-known
 s9 c = s8 (k8 c)
 
-abbrev k9 : tie.After-known-told9 → tie.After-known-told8
-k9 c = c.before.before.before.before
+abbrev k9 : tie.Else2 → tie.After-known-told8
+k9 c = c.before
 
-abbrev s10 : tie.After-known-told9 → tie.After-shared-slice-known
+abbrev s10 : tie.Else2 → tie.After-shared-slice-known
 s10 c = s9 (k9 c)
 
-abbrev k10 : tie.Else2 → tie.After-known-told9
-k10 c = c.before
-
-abbrev s11 : tie.Else2 → tie.After-shared-slice-known
-s11 c = s10 (k10 c)
-
 abbrev to-beacon-key : tie.Else2 → tie.After-known-told2
-to-beacon-key c = k3 (k4 (k5 (k6 (k7 (k8 (k9 (k10 c)))))))
-
-abbrev to-COURIER-CONFIG : tie.Else2 → tie.After-known-told8
-to-COURIER-CONFIG c = k9 (k10 c)
+to-beacon-key c = k3 (k4 (k5 (k6 (k7 (k8 (k9 c))))))
 
 abbrev Reading : tie.After-shared-slice-known → Type 1
 Reading s = Reached (device s.before.args.version) (row s) 0
@@ -110,7 +100,7 @@ abbrev r0 : (s : tie.After-shared-slice-known) → Reading s
 r0 s = start
 
 abbrev r1 : (c : tie.Else1) → Reading (s1 c)
-r1 c = ask-yes (r0 (s1 c)).so (sym c.before.is_known.ensures ∙ not-false _ c.if1.false)
+r1 c = ask-yes (r0 (s1 c)).so (eq-eqb _ _ c.if1.false)
 
 beacon-day-read : (c : tie.After-known-told) → read_at u32 (row (s2 c)) 0 ≡ takes c.before.beacon-day.given.0.0 c.before.beacon-day.given.0.1.0
 beacon-day-read c = learn u32_says c.before.before.before.u32-at.ensures c.before.beacon-day.given.1
@@ -148,11 +138,8 @@ r6 c = field-yes (r5 (k5 c)).so (took _ _ flag flag-lawful (by (s6 c)) (learn fl
 abbrev r7 : (c : tie.After-known-told6) → Reading (s7 c)
 r7 c = field-yes (r6 (k6 c)).so (took _ _ u8 (number-lawful 1) (by (s7 c)) (learn u8_says c.before.before.before.byte_at.ensures c.before.copies.given.1))
 
-lifetime-min-took : (c : tie.After-known-told7) → Took u16 (row (s8 c)) (r7 (k7 c)).here c.before.lifetime-min.given.0.0 c.before.lifetime-min.given.0.1.0
-lifetime-min-took c = took _ _ u16 (number-lawful 2) (by (s8 c)) (learn u16_says c.before.before.before.u16-at.ensures c.before.lifetime-min.given.1)
-
 abbrev r8 : (c : tie.After-known-told7) → Reading (s8 c)
-r8 c = field-yes (r7 (k7 c)).so (lifetime-min-took c)
+r8 c = field-yes (r7 (k7 c)).so (took _ _ u16 (number-lawful 2) (by (s8 c)) (learn u16_says c.before.before.before.u16-at.ensures c.before.lifetime-min.given.1))
 
 abbrev config : tie.After-known-told8 → CourierConfig
 config c = config_of (k6 (k7 (k8 c))).before.carries.given.0.0 (k7 (k8 c)).before.copies.given.0.0 (k8 c).before.lifetime-min.given.0.0
@@ -163,19 +150,13 @@ allowed c = config-yes _ _ _ (learn config_says c.before.before.before.new.ensur
 abbrev r9 : (c : tie.After-known-told8) → Reading (s9 c)
 r9 c = ask-yes (r8 (k8 c)).so (allowed c).0
 
-abbrev r10 : (c : tie.After-known-told9) → Reading (s10 c)
-r10 c = field-yes (r9 (k9 c)).so (took _ _ (only_if u64 (holds_slot (s10 c).before.args.version)) (only_if-lawful u64 (number-lawful 8) (holds_slot (s10 c).before.args.version)) (by (s10 c)) (learn slot_says c.before.before.before.slot_at.ensures c.before.next-slot.given.1))
-
-abbrev r11 : (c : tie.Else2) → Reading (s11 c)
-r11 c = end-yes (r10 (k10 c)).so c.if2.false
+abbrev r10 : (c : tie.Else2) → Reading (s10 c)
+r10 c = end-yes (r9 (k9 c)).so c.if2.false
 
 -- ---- what is asked
-is-known-requires : tie.Need-is-known-requires
-is-known-requires c κs = search rules
-
 returns : tie.Need-returns
 returns c =
-    let stop = ask-no (r0 c.before.before).so (sym c.before.is_known.ensures ∙ not-true _ c.if1.true) in
+    let stop = ask-no (r0 c.before).so (ne_eqb _ _ c.if1.true) in
     (sym (ap answer stop), tt)
 
 u32-at-requires : tie.Need-u32-at-requires
@@ -296,35 +277,20 @@ returns-9 c =
     let stop = ask-no (r8 c.before.before.before).so (config-no _ _ _ (learn config_says c.before.before.new.ensures c.enum-told8.given.1)) in
     (sym (ap answer stop), tt)
 
-slot-at-requires : tie.Need-slot-at-requires
-slot-at-requires c κs = (lifetime-min-took (k8 c)).inside
-
-enum-known-next-slot : tie.Need-enum-known-next-slot
-enum-known-next-slot c = search rules
-
-enum-told-9 : tie.Need-enum-told-9
-enum-told-9 c = search rules
-
 returns-10 : tie.Need-returns-10
 returns-10 c =
-    let stop = field-no (r9 c.before.before.before).so (refused-at _ _ (only_if u64 (holds_slot (s9 c.before.before.before).before.args.version)) (learn slot_says c.before.before.slot_at.ensures c.enum-told9.given.1)) in
+    let stop = end-no (r9 c.before).so c.if2.true in
     (sym (ap answer stop), tt)
 
 returns-11 : tie.Need-returns-11
 returns-11 c =
-    let stop = end-no (r10 c.before).so c.if2.true in
-    (sym (ap answer stop), tt)
-
-returns-12 : tie.Need-returns-12
-returns-12 c =
     let key = to-beacon-key c in
-    (rw (allowed (to-COURIER-CONFIG c)).1 (sym (ap answer (done-yes (r11 c).so))), omega (arith, beacon-key-place key, beacon-key-long key, (beacon-key-took key).inside))
+    (rw (allowed c.before).1 (sym (ap answer (done-yes (r10 c).so))), omega (arith, beacon-key-place key, beacon-key-long key, (beacon-key-took key).inside))
 
 pub check-device-spec : {M : Type 1} → statement M
 check-device-spec =
     tie.close
     (tie.spec
-    is-known-requires
     returns
     u32-at-requires
     enum-known-beacon-day
@@ -360,9 +326,5 @@ check-device-spec =
     enum-known-courier
     enum-told-8
     returns-9
-    slot-at-requires
-    enum-known-next-slot
-    enum-told-9
     returns-10
-    returns-11
-    returns-12)
+    returns-11)

@@ -6,11 +6,8 @@ use Rattle.device_row.proofs.device_from.Tie as tie
 copy-32-requires : tie.Need-copy-32-requires
 copy-32-requires c κs = search rules
 
-or-requires : tie.Need-or-requires
-or-requires c κs = search rules
-
 returns : tie.Need-returns
-returns c = rw (c.before.before.copy-32.ensures, c.or.ensures)
+returns c = rw c.before.copy-32.ensures
 
 pub device-from-spec : {M : Type 1} → statement M
-device-from-spec = tie.close (tie.spec copy-32-requires or-requires returns)
+device-from-spec = tie.close (tie.spec copy-32-requires returns)

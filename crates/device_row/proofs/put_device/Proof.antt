@@ -1,11 +1,12 @@
 -- `device_row::put_device` meets its contract: one writer behind another.
-use Prim.Native.Nat.{ℕ, ◌+◌, ◌≤◌}
+use mathlib.Core.Path.{◌≡◌}
 use native.Mathlib.Omega.{arith}
 use lib.ListN.{length}
 use borrow.Author.Rules.{rules}
 use Rattle.put.proofs.Put.{◌then◌, wrote-long}
-use Rattle.device_row.specs.Row.{slot_len}
-use Rattle.device_row.proofs.Image.{image-is, length-parts}
+use Rattle.device_row.specs.Row.{image}
+use Rattle.device_row.specs.declared.Device.{Device}
+use Rattle.device_row.proofs.Image.{image-is, length-image}
 use Rattle.device_row.proofs.put_device.Statement.{statement}
 use Rattle.device_row.proofs.put_device.Tie as tie
 
@@ -19,36 +20,17 @@ key c = c.before.before.before.before
 abbrev contact : tie.After-put-byte → tie.After-put-be2
 contact c = c.before.before.before.before.before
 
-abbrev receipts : tie.After-put-courier → tie.After-put-byte
-receipts c = c.before.before.before.before.before
-
 abbrev typed : tie.After-put-be → tie.After-typed
 typed c = c.before.before.before
 
 abbrev start : tie.After-put-be → tie.Start
 start c = (typed c).before.before
 
--- ---- room for what is left at each
-abbrev slot : tie.Start → ℕ
-slot s = slot_len s.args.version
+abbrev device : tie.After-put-be → Device
+device c = (start c).args.device
 
-room : (c : tie.After-typed) → c.before.before.args.at + (49 + slot c.before.before) ≤ length c.before.before.args.out.now
-room c = let s = c.before.before in omega (arith, length-parts s.args.version s.args.device c.type-inv.ensures.beacon_key, s.requires)
-
-room-key : (c : tie.After-put-be) → c.put-be.result + (45 + slot (start c)) ≤ length c.put-be.new.0
-room-key c = omega (arith, room (typed c), wrote-long c.put-be.ensures.1, c.put-be.ensures.0)
-
-room-contact : (c : tie.After-put-32) → c.put_32.result + (13 + slot (start (day c))) ≤ length c.put_32.new.0
-room-contact c = omega (arith, room-key (day c), wrote-long c.put_32.ensures.1, c.put_32.ensures.0)
-
-room-receipts : (c : tie.After-put-be2) → c.put-be2.result + (5 + slot (start (day (key c)))) ≤ length c.put-be2.new.0
-room-receipts c = omega (arith, room-contact (key c), wrote-long c.put-be2.ensures.1, c.put-be2.ensures.0)
-
-room-courier : (c : tie.After-put-byte) → c.put_byte.result + (4 + slot (start (day (key (contact c))))) ≤ length c.put_byte.new.0
-room-courier c = omega (arith, room-receipts (contact c), wrote-long c.put_byte.ensures.1, c.put_byte.ensures.0)
-
-room-slot : (c : tie.After-put-courier) → c.put-courier.result + slot (start (day (key (contact (receipts c))))) ≤ length c.put-courier.new.0
-room-slot c = omega (arith, room-courier (receipts c), wrote-long c.put-courier.ensures.1, c.put-courier.ensures.0)
+long : (c : tie.After-put-be) → length (image (device c)) ≡ 49
+long c = length-image (device c) (typed c).type-inv.ensures
 
 -- ---- what is asked
 typed-requires : tie.Need-typed-requires
@@ -58,25 +40,60 @@ cast-put-be : tie.Need-overflow-cast-put-be
 cast-put-be c = search rules
 
 put-be-requires : tie.Need-put-be-requires
-put-be-requires c κs = omega (arith, room c.before.before)
+put-be-requires c κs =
+    let t = c.before.before in
+    omega (arith, length-image t.before.before.args.device t.type-inv.ensures)
 
 put-32-requires : tie.Need-put-32-requires
-put-32-requires c κs = omega (arith, room-key c.before.before.before.before.before)
+put-32-requires c κs =
+    let d = c.before.before.before.before.before in
+    omega (arith, long d, wrote-long d.put-be.ensures.1, d.put-be.ensures.0, (start d).requires)
 
 put-be-requires-2 : tie.Need-put-be-requires-2
-put-be-requires-2 c κs = omega (arith, room-contact c.before.before.before)
+put-be-requires-2 c κs =
+    let k = c.before.before.before in
+    let d = day k in
+    omega (arith, long d, wrote-long d.put-be.ensures.1, wrote-long k.put_32.ensures.1, d.put-be.ensures.0, k.put_32.ensures.0, (start d).pre)
 
 flag-byte-requires : tie.Need-flag-byte-requires
 flag-byte-requires c κs = search rules
 
 put-byte-requires : tie.Need-put-byte-requires
-put-byte-requires c κs = omega (arith, room-receipts c.before.before.before.before)
+put-byte-requires c κs =
+    let n = c.before.before.before.before in
+    let k = key n in
+    let d = day k in
+    omega (
+      arith,
+      long d,
+      wrote-long d.put-be.ensures.1,
+      wrote-long k.put_32.ensures.1,
+      wrote-long n.put-be2.ensures.1,
+      d.put-be.ensures.0,
+      k.put_32.ensures.0,
+      n.put-be2.ensures.0,
+      (start d).pre,
+    )
 
 put-courier-requires : tie.Need-put-courier-requires
-put-courier-requires c κs = omega (arith, room-courier c.before.before.before.before)
-
-put-slot-requires : tie.Need-put-slot-requires
-put-slot-requires c κs = omega (arith, room-slot c.before.before.before)
+put-courier-requires c κs =
+    let f = c.before.before.before.before in
+    let n = contact f in
+    let k = key n in
+    let d = day k in
+    omega (
+      arith,
+      long d,
+      wrote-long d.put-be.ensures.1,
+      wrote-long k.put_32.ensures.1,
+      wrote-long n.put-be2.ensures.1,
+      wrote-long f.put_byte.ensures.1,
+      d.put-be.ensures.0,
+      k.put_32.ensures.0,
+      n.put-be2.ensures.0,
+      f.put_byte.ensures.0,
+      (start d).pre,
+    )
 
 same_length : tie.Need-same-length
 same_length c = search rules
@@ -84,15 +101,12 @@ same_length c = search rules
 returns : tie.Need-returns
 returns c =
     let p = c.before.before in
-    let o = p.before.before.before.before in
-    let f = receipts o in
+    let f = p.before.before.before.before.before in
     let n = contact f in
     let k = key n in
     let d = day k in
-    let s = start d in
-    let last = f.put_byte.ensures.1 then (o.put-courier.ensures.1 then p.put-slot.ensures.1) in
-    let w = d.put-be.ensures.1 then (k.put_32.ensures.1 then (n.put-be2.ensures.1 then last)) in
-    rw (image-is s.args.version s.args.device (typed d).typed.ensures, ← f.before.flag-byte.ensures) (w.next-is, w)
+    let w = d.put-be.ensures.1 then (k.put_32.ensures.1 then (n.put-be2.ensures.1 then (f.put_byte.ensures.1 then p.put-courier.ensures.1))) in
+    rw (image-is (device d) (typed d).typed.ensures, ← f.before.flag-byte.ensures) (w.next-is, w)
 
 pub put-device-spec : {M : Type 1} → statement M
 put-device-spec =
@@ -106,6 +120,5 @@ put-device-spec =
     flag-byte-requires
     put-byte-requires
     put-courier-requires
-    put-slot-requires
     same_length
     returns)

@@ -1,4 +1,4 @@
--- `replay::turn` is safe: what it lends has its length again, the run, the records and the output after two calls (`lent`), the first lists after the answer (`answered`).
+-- `replay::turn` is safe: what it lends has its length again, the run, the records and the output after two calls (`lent`).
 -- Assumes nothing.
 use Rattle.std.proofs.Common.{arith, rules}
 use Rattle.replay.proofs.turn.Statement.{statement}
@@ -16,8 +16,8 @@ one-line-requires c κs = search rules
 answer-requires : tie.Need-answer-requires
 answer-requires c κs = search rules
 
-show-requires : tie.Need-show-requires
-show-requires c κs = search rules
+print-requires : tie.Need-print-requires
+print-requires c κs = search rules
 
 pairs-open-requires : tie.Need-pairs-open-requires
 pairs-open-requires c κs = search rules
@@ -39,10 +39,10 @@ same-length-2 c =
     omega (arith, lent, lent.before.before, lent.before.before.before.before)
 
 same-length-3 : tie.Need-same-length-3
-same-length-3 c = let answered = c.before.before.before.before.before.before.before.before.before.before.before.before.before.before.before.before.before.before.before.before.before.before in omega (arith, answered)
+same-length-3 c = search rules
 
 same-length-4 : tie.Need-same-length-4
-same-length-4 c = let answered = c.before.before.before.before.before.before.before.before.before.before.before.before.before.before.before.before.before.before.before.before.before.before in omega (arith, answered)
+same-length-4 c = search rules
 
 same-length-5 : tie.Need-same-length-5
 same-length-5 c = search rules
@@ -72,7 +72,7 @@ turn_spec =
     line-in-requires
     one-line-requires
     answer-requires
-    show-requires
+    print-requires
     pairs-open-requires
     after-requires
     ends-requires

@@ -1,4 +1,4 @@
--- `restore_across::contact_turn` meets its contract: one case for each first no.
+-- `restore_across::settle_contact` meets its contract: one case for each first no.
 use mathlib.Core.Bool.{true}
 use mathlib.Core.Path.{◌≡◌}
 use lib.Dec.{ltb}

@@ -1,17 +1,16 @@
--- `restore_across::courier_turn` meets its contract: one case for each first no.
+-- `restore_across::settle_courier` meets its contract: one case for each first no.
 use mathlib.Core.Bool.{true}
 use mathlib.Core.Path.{◌≡◌, sym, ◌∙◌}
 use native.Mathlib.Omega.{arith}
 use lib.Dec.{ltb}
 use borrow.Author.Rules.{rules}
 use borrow.Author.Tests.{lt-ltb, le-ltb, le-leb, lt-leb, not-true, not-false}
-use Rattle.store.specs.Store.{last_slot, below_next}
-use Rattle.device.specs.Device.{slot_of}
+use Rattle.store.specs.Store.{last_slot}
 use Rattle.restore_across.specs.Across.{low_in, depositor_in}
 use Rattle.restore_across.proofs.courier_turn.Statement.{statement}
 use Rattle.restore_across.proofs.courier_turn.Tie as tie
 
--- 31, 32, 33 and 51 are a yes
+-- 31, 32 and 33 are a yes
 low : (c : tie.Else1) → let a = c.before.before.before.args in low_in a.w.next_contact (depositor_in a.run.now a.e) ≡ true
 low c = sym c.before.low-depositor.ensures ∙ not-false _ c.if1.false
 
@@ -20,9 +19,6 @@ new c = lt-ltb _ _ c.if2.false
 
 below : (c : tie.Else3) → let a = c.before.before.before.before.before.before.args in ltb a.e.id last_slot ≡ true
 below c = let a = c.before.before.before.before.before.before.args in lt-ltb a.e.id last_slot (omega arith)
-
-below-its : (c : tie.Else4) → let a = c.before.before.before.before.before.before.before.before.args in below_next (slot_of a.w.next_slot) a.e.id ≡ true
-below-its c = sym c.before.below_next.ensures ∙ not-false _ c.if4.false
 
 low-depositor-requires : tie.Need-low-depositor-requires
 low-depositor-requires c κs = search rules
@@ -39,31 +35,20 @@ returns-3 c =
     let a = u.before.before.before.before.args in
     rw (low u.before, new u, le-ltb a.e.id last_slot (omega arith))
 
-below-next-requires : tie.Need-below-next-requires
-below-next-requires c κs = search rules
-
-returns-4 : tie.Need-returns-4
-returns-4 c =
-    let b = c.before.before in
-    let u = b.before.before in
-    rw (low u.before, new u, below b, sym c.before.below_next.ensures ∙ not-true _ c.if4.true)
-
 add-after : tie.Need-overflow-add-after
 add-after c = search rules
 
+returns-4 : tie.Need-returns-4
+returns-4 c =
+    let b = c.before.before.before.before in
+    let u = b.before.before in
+    rw (low u.before, new u, below b, le-leb _ _ c.before.if4.true)
+
 returns-5 : tie.Need-returns-5
 returns-5 c =
-    let n = c.before.before.before.before in
-    let b = n.before.before in
+    let b = c.before.before.before in
     let u = b.before.before in
-    rw (low u.before, new u, below b, below-its n, le-leb _ _ c.before.if5.true)
-
-returns-6 : tie.Need-returns-6
-returns-6 c =
-    let n = c.before.before.before in
-    let b = n.before.before in
-    let u = b.before.before in
-    rw (low u.before, new u, below b, below-its n, lt-leb _ _ c.if5.false)
+    rw (low u.before, new u, below b, lt-leb _ _ c.if4.false)
 
 pub courier-turn-spec : {M : Type 1} → statement M
 courier-turn-spec =
@@ -73,8 +58,6 @@ courier-turn-spec =
     returns
     returns-2
     returns-3
-    below-next-requires
-    returns-4
     add-after
-    returns-5
-    returns-6)
+    returns-4
+    returns-5)

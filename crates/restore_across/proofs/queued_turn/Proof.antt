@@ -1,4 +1,4 @@
--- `restore_across::queued_turn` meets its contract: one case for each first no.
+-- `restore_across::settle_queued` meets its contract: one case for each first no.
 use mathlib.Core.Bool.{true, false}
 use mathlib.Core.Path.{◌≡◌, sym, ap, subst, ◌∙◌}
 use lib.Dec.{leb, ltb, eqb}

@@ -19,10 +19,6 @@ const SHOWN: usize = 1600;
 pub struct Compare<T> {
     store: Store,
     tally: Tally,
-    /// The version of rows, unless another is said.
-    version: u32,
-    /// Rows of a version that the Rust does not know.
-    unknown: u64,
     /// Rows that the Rust is not held to, and how many of these it accepts.
     aside: u64,
     aside_accepted: u64,
@@ -31,24 +27,18 @@ pub struct Compare<T> {
 
 impl<T: Row> Compare<T> {
     pub fn new(random: &mut Random) -> Self {
-        Self::named(random, T::NAME, 3)
-    }
-
-    /// Of rows of another version than 3.
-    pub fn named(random: &mut Random, name: &'static str, version: u32) -> Self {
         Self {
             store: sides::store(random),
-            tally: Tally::new(name, "rows"),
-            version,
-            unknown: 0,
+            tally: Tally::new(T::NAME, "rows"),
             aside: 0,
             aside_accepted: 0,
             kind: PhantomData,
         }
     }
 
+    /// A row of version 3.
     pub fn visit(&mut self, row: &[u8]) {
-        self.versioned(self.version, row);
+        self.versioned(3, row);
     }
 
     /// A row of any version, all sides.
@@ -56,9 +46,7 @@ impl<T: Row> Compare<T> {
         let reading = T::model(version, row);
         let due = number(&reading);
         let mut faults = model_faults(version, row, &reading);
-        if !T::in_rust(version) {
-            self.unknown += 1;
-        } else if questions::NOT_IN_RUST.contains(&due) {
+        if questions::NOT_IN_RUST.contains(&due) {
             self.aside += 1;
             self.aside_accepted += u64::from(T::rust(&self.store, version, row).is_some());
         } else {
@@ -110,10 +98,6 @@ impl<T: Row> Compare<T> {
     /// rows that it is not held to.
     pub fn finish(self) -> bool {
         let same = self.tally.print_all(T::ANSWERS);
-        if self.unknown > 0 {
-            let name = self.tally.name;
-            println!("{name}: the Rust is not asked about {} rows", self.unknown);
-        }
         if self.aside > 0 {
             println!(
                 "{}: {} rows that the Rust is not held to, of which it accepts {}",
@@ -128,7 +112,7 @@ impl<T: Row> Compare<T> {
     /// The row, longer by a byte or two, of other versions, and cut at every length.
     pub fn around(&mut self, row: &[u8]) {
         self.visit(row);
-        for version in [0, 1, 2, 3, 4, 5, 259, 260, u32::MAX] {
+        for version in [0, 1, 2, 4, 259, u32::MAX] {
             self.versioned(version, row);
             self.versioned(version, &[]);
         }

@@ -30,11 +30,6 @@ pub trait Row: Sized + PartialEq {
         Vec::new()
     }
 
-    /// Whether the Rust knows rows of this version, or refuses them as the documents do.
-    fn in_rust(_version: u32) -> bool {
-        true
-    }
-
     /// Whether the store around the row takes the value: question 31.
     fn taken(&self) -> bool {
         true
@@ -63,10 +58,6 @@ impl Row for rows::Device {
 
     fn rattle_veil(version: u32, row: &[u8], out: &mut [u8]) -> u32 {
         rattle::veil_device(version, row, out)
-    }
-
-    fn in_rust(version: u32) -> bool {
-        version != 4
     }
 }
 

@@ -10,9 +10,8 @@ use crate::model::store::{CONTACT, COURIER, DEVICE, Entry, QUEUED, Refusal, Stor
 /// What is visited: a store, and its refusal where that is known beforehand.
 type Visit<'a> = dyn FnMut(Store, Option<Refusal>) + 'a;
 
-/// Slots at both ends, and what is above, between and below them.
+/// Slots at both ends.
 const SLOTS: [u64; 4] = [0, 1, u64::MAX - 1, u64::MAX];
-const NEXT_SLOTS: [u64; 5] = [0, 1, 2, u64::MAX - 1, u64::MAX];
 
 pub fn every(random: &mut Random, visit: &mut Visit) {
     let shelf = Shelf::new(random);
@@ -21,9 +20,7 @@ pub fn every(random: &mut Random, visit: &mut Visit) {
     contacts(&shelf, visit);
     queued(&shelf, visit);
     courier(&shelf, visit);
-    remembered(&shelf, visit);
     faults(&shelf, visit);
-    faults_remembered(&shelf, visit);
 }
 
 /// A run with one row of each kind, and the entries of them.
@@ -31,25 +28,11 @@ struct Shelf {
     run: Vec<u8>,
     /// With next_contact 0 to 4.
     devices: Vec<Entry>,
-    /// Of version 4, with next_contact 1 and each of `NEXT_SLOTS`; then with next_contact 4 and 0, and next_slot 10.
-    remembering: Vec<Entry>,
     /// Has sent 4, of which 2 is unacked.
     contact: Entry,
     queued: Entry,
     /// A tombstone, and rows carried for contacts 0 and 1.
     courier: Vec<Entry>,
-}
-
-/// Devices of version 4, as the shelf has them.
-fn remembering(device: &Device) -> Vec<Device> {
-    let first = NEXT_SLOTS.map(|next_slot| (1, next_slot));
-    let numbers = first.into_iter().chain([(4, 10), (0, 10)]);
-    let devices = numbers.map(|(next_contact, next_slot)| Device {
-        next_contact,
-        next_slot: Some(next_slot),
-        ..device.clone()
-    });
-    devices.collect()
 }
 
 impl Shelf {
@@ -65,8 +48,9 @@ impl Shelf {
             ..row_build::contact(random, EMPTY)
         };
         let carried = row_build::carried(random, 0);
-        let devices = [&devices[..], &remembering(&devices[0])].concat();
-        let mut items: Vec<Item> = devices.iter().map(store_build::device_item).collect();
+        let mut items: Vec<Item> = devices
+            .map(|device| item(DEVICE, 0, 0, device.row(), 0))
+            .to_vec();
         items.push(item(CONTACT, 0, 0, contact.row(), 0));
         items.push(item(
             QUEUED,
@@ -85,10 +69,9 @@ impl Shelf {
         Self {
             run,
             devices: entries[..5].to_vec(),
-            remembering: entries[5..12].to_vec(),
-            contact: entries[12],
-            queued: entries[13],
-            courier: entries[14..].to_vec(),
+            contact: entries[5],
+            queued: entries[6],
+            courier: entries[7..].to_vec(),
         }
     }
 
@@ -211,38 +194,6 @@ fn courier(shelf: &Shelf, visit: &mut Visit) {
     }
 }
 
-/// 51: every list of up to three courier rows under each next_slot of a version 4 device.
-fn remembered(shelf: &Shelf, visit: &mut Visit) {
-    let rows = |slot: u64| (0..3).map(move |row| (slot, row));
-    let all: Vec<(u64, usize)> = SLOTS.into_iter().flat_map(rows).collect();
-    for (device, next_slot) in shelf.remembering.iter().zip(NEXT_SLOTS) {
-        for rows in lists(&all, 3) {
-            let mut entries = vec![*device];
-            entries.extend(rows.iter().map(|(slot, row)| shelf.slot(*slot, *row)));
-            visit(shelf.store(entries), slot_refusal(&rows, next_slot));
-        }
-    }
-}
-
-/// The refusal, if these rows have one: row by row 31 of the one carried for contact 1, 32, 33 and 51.
-fn slot_refusal(rows: &[(u64, usize)], next_slot: u64) -> Option<Refusal> {
-    let number = |at: usize| {
-        let (slot, row) = rows[at];
-        let taken = rows[..at].iter().any(|before| before.0 == slot);
-        match slot {
-            _ if row == 2 => 31,
-            _ if taken => 32,
-            u64::MAX => 33,
-            _ if slot >= next_slot => 51,
-            _ => 0,
-        }
-    };
-    let index = (0..rows.len()).find(|at| number(*at) != 0)?;
-    let number = number(index);
-    let index = 1 + index;
-    Some(Refusal { number, index })
-}
-
 /// What is wrong with an entry.
 #[derive(Clone, Copy, PartialEq)]
 enum Fault {
@@ -271,45 +222,7 @@ fn faults(shelf: &Shelf, visit: &mut Visit) {
         }
         let wrong = |(entry, fault): (&Entry, &Fault)| with_fault(shelf, *entry, *fault);
         let entries = good.iter().zip(&faults).map(wrong).collect();
-        visit(
-            shelf.store(entries),
-            refusal(&faults, [25, 25, 25, 28, 33, 33]),
-        );
-    }
-}
-
-/// The same under a device of version 4: five entries, of which the last two have slots that are too high for 51 where they have a
-/// fault across, and version 4 is none for all but the device.
-fn faults_remembered(shelf: &Shelf, visit: &mut Visit) {
-    let [.., device, none_below] = shelf.remembering[..] else {
-        panic!("the shelf has more");
-    };
-    let good = [
-        device,
-        shelf.contact(1),
-        shelf.queued(1, 4),
-        shelf.slot(9, 1),
-        shelf.slot(3, 0),
-    ];
-    use Fault::{Across, Cut, Kind, None, Place, Version};
-    for faults in lists(&[None, Kind, Place, Version, Cut, Across], good.len()) {
-        if faults.len() < good.len() {
-            continue;
-        }
-        let wrong = |(entry, fault): (&Entry, &Fault)| match (fault, entry.kind) {
-            (Across, DEVICE) => none_below,
-            (Across, COURIER) => Entry {
-                id: 10 + entry.id,
-                ..*entry
-            },
-            (Version, CONTACT..) => Entry {
-                version: 4,
-                ..*entry
-            },
-            _ => with_fault(shelf, *entry, *fault),
-        };
-        let entries = good.iter().zip(&faults).map(wrong).collect();
-        visit(shelf.store(entries), refusal(&faults, [25, 25, 28, 51, 51]));
+        visit(shelf.store(entries), refusal(&faults));
     }
 }
 
@@ -336,8 +249,8 @@ fn with_fault(shelf: &Shelf, entry: Entry, fault: Fault) -> Entry {
     }
 }
 
-/// All of 1, all of 2, row by row, then across, with the number of each entry; the device's fault is the first contact's no.
-fn refusal<const COUNT: usize>(faults: &[Fault], across: [u32; COUNT]) -> Option<Refusal> {
+/// All of 1, all of 2, row by row, then across; the device's fault is the first contact's no.
+fn refusal(faults: &[Fault]) -> Option<Refusal> {
     let first = |of: &[Fault]| faults.iter().position(|fault| of.contains(fault));
     let at = |number, index| Some(Refusal { number, index });
     if let Some(index) = first(&[Fault::Kind]) {
@@ -357,7 +270,7 @@ fn refusal<const COUNT: usize>(faults: &[Fault], across: [u32; COUNT]) -> Option
         );
     }
     match first(&[Fault::Across])? {
-        0 => at(across[0], 1),
-        index => at(across[index], index),
+        0 => at(25, 1),
+        index => at([25, 25, 25, 28, 33, 33][index], index),
     }
 }

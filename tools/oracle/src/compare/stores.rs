@@ -6,20 +6,19 @@ use crate::compare::tally::Tally;
 use crate::generate::inputs::Random;
 use crate::generate::row_build::FULL;
 use crate::generate::store_break;
-use crate::generate::store_build::{self, Counts, Plan};
+use crate::generate::store_build::{self, Counts};
 use crate::generate::store_damage;
 use crate::hex::hex;
 use crate::model::questions;
 use crate::model::store::{self, Answer, CONTACT, COURIER, DEVICE, Entry, Refusal, Store};
-use crate::original::stores::{Rows, fitting, of_version_3};
+use crate::original::stores::{Rows, fitting};
 use crate::rattle::{self, RestoreAnswer};
 
 /// Random stores for each of `times`.
 const GENERATED: usize = 60_000;
 const HUNDRED: usize = 100;
-/// How many numbers restore can answer, and how many of these, the last, of questions across the rows.
+/// How many numbers restore can answer.
 const NUMBERS: usize = questions::OF_RESTORE.len();
-const ACROSS: usize = 10;
 /// Every so many random stores one is large.
 const LARGE_EVERY: usize = 500;
 const LARGE: Counts = Counts {
@@ -50,9 +49,8 @@ pub fn run(seed: u64, times: usize) -> bool {
     compare.finish()
 }
 
-/// Of a hundred, 35 have one question broken on purpose, each another, and 24 several; 20 are valid, and 21 damaged. Half of
-/// them have a device of version 4.
-pub fn generated(random: &mut Random, index: usize) -> (Store, Option<Refusal>) {
+/// Of a hundred, 34 have one question broken on purpose, each another, and 25 several; 20 are valid, and 21 damaged.
+fn generated(random: &mut Random, index: usize) -> (Store, Option<Refusal>) {
     if index % LARGE_EVERY == LARGE_EVERY - 1 {
         return large(random);
     }
@@ -60,14 +58,14 @@ pub fn generated(random: &mut Random, index: usize) -> (Store, Option<Refusal>) 
     match place {
         0..NUMBERS => {
             let number = questions::OF_RESTORE[place];
-            let plan = rich(random);
+            let plan = store_build::rich(random);
             let (store, refusal) = store_break::aimed(random, plan, number);
             (store, Some(refusal))
         }
         NUMBERS..59 => {
             let count = 2 + random.below(3);
             let numbers: Vec<u32> = (0..count).map(|_| several(random)).collect();
-            let plan = rich(random);
+            let plan = store_build::rich(random);
             let (mut store, _) = store_break::broken(random, plan, &numbers);
             if random.below(4) == 0 {
                 store_damage::damaged(random, &mut store);
@@ -75,8 +73,7 @@ pub fn generated(random: &mut Random, index: usize) -> (Store, Option<Refusal>) 
             (store, None)
         }
         _ => {
-            let mut plan = store_build::any(random);
-            plan.remember_some(random);
+            let plan = store_build::any(random);
             let items = plan.items(random);
             let mut store = store_build::laid(random, items);
             if place >= 79 {
@@ -87,17 +84,11 @@ pub fn generated(random: &mut Random, index: usize) -> (Store, Option<Refusal>) 
     }
 }
 
-fn rich(random: &mut Random) -> Plan {
-    let mut plan = store_build::rich(random);
-    plan.remember_some(random);
-    plan
-}
-
 /// A number to break beside others: those that are asked late more often, and 20, which is long, never.
 fn several(random: &mut Random) -> u32 {
     let number = match random.below(3) {
-        0 => questions::OF_RESTORE[random.below(NUMBERS - ACROSS)],
-        _ => across(random),
+        0 => questions::OF_RESTORE[random.below(25)],
+        _ => 25 + random.below(9) as u32,
     };
     if number == questions::SKIPPED_COUNT {
         questions::SKIPPED
@@ -106,18 +97,12 @@ fn several(random: &mut Random) -> u32 {
     }
 }
 
-/// 25 to 33, and 51.
-fn across(random: &mut Random) -> u32 {
-    questions::OF_RESTORE[NUMBERS - 1 - random.below(ACROSS)]
-}
-
-/// Many rows: what is new, and whose a queued row is, must be found far back. Half of them have a no of 25 to 33 or 51.
+/// Many rows: what is new, and whose a queued row is, must be found far back. Half of them have a no of 25 to 33.
 fn large(random: &mut Random) -> (Store, Option<Refusal>) {
     let counts = random.pick(&[LARGE, VERY_LARGE]);
-    let mut plan = store_build::plan(random, counts, FULL);
-    plan.remember_some(random);
+    let plan = store_build::plan(random, counts, FULL);
     if random.flag() {
-        let number = across(random);
+        let number = 25 + random.below(9) as u32;
         let (store, refusal) = store_break::aimed(random, plan, number);
         return (store, Some(refusal));
     }
@@ -130,17 +115,8 @@ struct Compare {
     tally: Tally,
     accepted: u64,
     known: u64,
-    remembering: Remembering,
     rust_asked: u64,
     rust_accepted: u64,
-}
-
-/// Stores with a device of version 4, and which of them are granted: with the next_slot that version 3 works out, or a higher one.
-#[derive(Default)]
-struct Remembering {
-    all: u64,
-    worked_out: u64,
-    higher: u64,
 }
 
 impl Compare {
@@ -149,7 +125,6 @@ impl Compare {
             tally: Tally::new("stores", "stores"),
             accepted: 0,
             known: 0,
-            remembering: Remembering::default(),
             rust_asked: 0,
             rust_accepted: 0,
         }
@@ -163,7 +138,6 @@ impl Compare {
             rust,
         } = found(store, seed);
         self.accepted += u64::from(due.is_ok());
-        self.remembering.count(store, &due);
         self.rust_asked += u64::from(rust.is_some());
         self.rust_accepted += u64::from(rust == Some(true));
         let differs = !faults.is_empty();
@@ -195,38 +169,7 @@ impl Compare {
             "stores: {} accepted; {} with a refusal known beforehand; the Rust was asked about {} and accepts {}",
             self.accepted, self.known, self.rust_asked, self.rust_accepted
         );
-        self.remembering.print() && same
-    }
-}
-
-impl Remembering {
-    fn count(&mut self, store: &Store, due: &Answer) {
-        let device = store.entries.first();
-        if !device.is_some_and(|device| device.kind == DEVICE && device.version == 4) {
-            return;
-        }
-        self.all += 1;
-        if let Ok(granted) = due {
-            let higher = granted.next_slot > store.next_slot();
-            *(if higher {
-                &mut self.higher
-            } else {
-                &mut self.worked_out
-            }) += 1;
-        }
-    }
-
-    /// Prints the counts; whether both came.
-    fn print(&self) -> bool {
-        let Self {
-            all,
-            worked_out,
-            higher,
-        } = self;
-        println!(
-            "stores: {all} with a device of version 4, of which the Rust is asked in version 3; {worked_out} granted with the next_slot that version 3 works out, {higher} with a higher one"
-        );
-        *worked_out > 0 && *higher > 0
+        same
     }
 }
 
@@ -240,7 +183,6 @@ struct Found {
 fn found(store: &Store, seed: u64) -> Found {
     let due = store.restore();
     let mut faults = rattle_faults(store, &due);
-    faults.extend(version_faults(store, &due));
     let (rust, rust_faults) = rust_faults(store, &due);
     faults.extend(rust_faults);
     let other = changed_unnoticed(store, seed);
@@ -277,36 +219,22 @@ fn rattle_faults(store: &Store, due: &Answer) -> Vec<String> {
     faults
 }
 
-/// With its device in version 3 the model answers the same of a store, but for refusals of the device's row, 51 and next_slot.
-fn version_faults(store: &Store, due: &Answer) -> Option<String> {
-    let other = of_version_3(store).restore();
-    let same = match (due, &other) {
-        (Ok(one), Ok(other)) => one.next_contact == other.next_contact,
-        (Err(one), Err(other)) => one == other,
-        _ => false,
-    };
-    let slot = questions::SLOT_BELOW_NEXT;
-    let aside = due.is_err_and(|refusal| refusal.index == 0 || refusal.number == slot);
-    (!same && !aside).then(|| format!("of version 3 the model answers {other:?}"))
-}
-
 /// Whether the Rust accepts what it can be asked about, and what differs: acceptance, and on acceptance every row written
-/// again, next_contact and next_slot. 33 and 54 are left out, and a device of version 4 is asked about in version 3.
+/// again, next_contact and next_slot. 33 and 54 are left out.
 fn rust_faults(store: &Store, due: &Answer) -> (Option<bool>, Vec<String>) {
-    let unfit = [questions::KINDS, questions::IN_RUN].contains(&store::number(due));
-    let fit = if unfit {
-        fitting(store)
-    } else {
-        Some(store.clone())
-    };
-    let Some(fit) = fit.map(|fit| of_version_3(&fit)) else {
-        return (None, Vec::new());
-    };
-    let due = fit.restore();
+    let mut fit = None;
+    let mut due = *due;
+    if [questions::KINDS, questions::IN_RUN].contains(&store::number(&due)) {
+        fit = fitting(store);
+        match &fit {
+            Some(fit) => due = fit.restore(),
+            None => return (None, Vec::new()),
+        }
+    }
     if questions::NOT_IN_RUST.contains(&store::number(&due)) {
         return (None, Vec::new());
     }
-    let rows = Rows::of(&fit);
+    let rows = Rows::of(fit.as_ref().unwrap_or(store));
     let rust = rows.restore();
     let accepted = rust.is_some();
     let faults = match (&rust, due) {
@@ -331,7 +259,7 @@ fn rust_faults_of(store: &Store, due: &Answer) -> Vec<String> {
 }
 
 /// The same store but for bytes that every row holding them veils, bytes in no row, and fields that a kind has no use for.
-pub fn changed_unnoticed(store: &Store, seed: u64) -> Store {
+fn changed_unnoticed(store: &Store, seed: u64) -> Store {
     let mut random = Random::new(seed);
     let blank = random.flag();
     let mut other = store.clone();
@@ -352,11 +280,6 @@ pub fn changed_unnoticed(store: &Store, seed: u64) -> Store {
 }
 
 fn described(store: &Store, due: &Answer, faults: &[String]) -> String {
-    format!("{}\n  due {due:?}\n{}", faults.join(", "), shown(store))
-}
-
-/// The entries, and the run as far as it is shown.
-pub fn shown(store: &Store) -> String {
     let entry = |entry: &Entry| {
         let Entry {
             id,
@@ -369,9 +292,10 @@ pub fn shown(store: &Store) -> String {
         format!("kind {kind} id {id} msgno {msgno} version {version} start {start} length {len}")
     };
     let entries: Vec<String> = store.entries.iter().map(entry).collect();
-    let run = hex(&store.run[..store.run.len().min(SHOWN)]);
+    let shown = hex(&store.run[..store.run.len().min(SHOWN)]);
     format!(
-        "  entries: {}\n  run of {}: {run}",
+        "{}\n  due {due:?}\n  entries: {}\n  run of {}: {shown}",
+        faults.join(", "),
         entries.join("; "),
         store.run.len()
     )

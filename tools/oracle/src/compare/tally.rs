@@ -6,7 +6,7 @@ use std::collections::BTreeMap;
 const SHOWN: u64 = 5;
 
 pub struct Tally {
-    pub name: &'static str,
+    name: &'static str,
     unit: &'static str,
     cases: u64,
     different: u64,

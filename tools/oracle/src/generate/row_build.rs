@@ -86,17 +86,6 @@ pub fn device(random: &mut Random) -> Device {
         enabled: random.flag(),
         copies: 1 + random.below(16) as u8,
         lifetime_min: 60 + random.below(10_021) as u16,
-        next_slot: None,
-    }
-}
-
-/// Of version 4, with any next_slot.
-pub fn remembering(random: &mut Random) -> Device {
-    let any = random.next();
-    let next_slot = random.pick(&[0, 1, 255, 1 << 32, u64::MAX - 1, u64::MAX, any]);
-    Device {
-        next_slot: Some(next_slot),
-        ..device(random)
     }
 }
 

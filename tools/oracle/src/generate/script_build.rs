@@ -5,14 +5,12 @@ use crate::generate::inputs::Random;
 use crate::generate::row_build::{self, SMALL, Size};
 use crate::generate::script_stores;
 use crate::model::calls::Call;
-use crate::model::convert::{Room, convert};
 use crate::model::memory::{HAS, Lengths};
-use crate::model::questions;
 use crate::model::rows::{self, Contact, Range};
 use crate::model::runner::Runner;
-use crate::model::script::{Given, Step};
+use crate::model::script::Step;
 use crate::model::sheet::{self, Line};
-use crate::model::store::{CONTACT, DEVICE, Store};
+use crate::model::store::{CONTACT, Store};
 
 struct Builder<'a> {
     random: &'a mut Random,
@@ -40,7 +38,7 @@ pub fn script(random: &mut Random, number: u64) -> Vec<Step> {
             builder.calls(3);
         }
         let store = script_stores::granted(builder.random);
-        builder.push(Step::Restore(store));
+        builder.push(store);
         if builder.one_in(6) {
             builder.calls(2);
         }
@@ -94,8 +92,8 @@ impl Builder<'_> {
     }
 
     fn refused_restore(&mut self) {
-        let store = script_stores::refused(self.random);
-        self.push(Step::Restore(store));
+        let step = script_stores::refused(self.random);
+        self.push(step);
     }
 
     /// Up to so many calls of any kind.
@@ -122,62 +120,14 @@ impl Builder<'_> {
             54..62 => Step::Call(Call::Take),
             62..68 => Step::Call(Call::Statement),
             68..74 => Step::Call(Call::Write),
-            74..81 => Step::State,
-            81..88 => Step::Lend(self.lengths()),
-            88..91 => self.conversion(),
+            74..82 => Step::State,
+            82..91 => Step::Lend(self.lengths()),
             91..94 => return self.open_call(),
             94 => return self.refused_restore(),
             95..99 => self.veil_or_read(),
             _ => self.open_missing(),
         };
         self.push(step);
-    }
-
-    /// A store to convert: as it is restored, a new one, or one that is refused.
-    fn conversion(&mut self) -> Step {
-        let restored = self.runner.ledger.store().cloned();
-        let given = match (self.random.below(16), restored) {
-            (0, _) if self.one_in(12) => script_stores::swollen(self.random),
-            (0..2, _) => script_stores::refused_by(self.random, questions::SLOT_BELOW_NEXT),
-            (2..4, _) => script_stores::refused(self.random),
-            (4..8, Some(store)) => Given::Raw(store),
-            _ => script_stores::granted(self.random),
-        };
-        let wanted = match self.random.below(9) {
-            0 => self
-                .random
-                .pick(&[0, 1, 2, 5, 256 + 3, 256 + 4, 1 << 31, u32::MAX]),
-            place => 3 + place as u32 % 2,
-        };
-        let room = self.room(&given.store(), wanted);
-        Step::Convert {
-            wanted,
-            room,
-            given,
-        }
-    }
-
-    /// What converting needs, a little more or less, or anything.
-    fn room(&mut self, store: &Store, wanted: u32) -> Room {
-        let most = Room {
-            bytes: usize::MAX,
-            entries: usize::MAX,
-        };
-        let made = convert(store, wanted, most).unwrap_or_else(|_| store.clone());
-        let mut near = |size: usize| {
-            let more = self.random.pick(&[1, 7, 1000, usize::MAX]);
-            let more = size.saturating_add(more);
-            match self.random.below(12) {
-                0 => 0,
-                1 => size.saturating_sub(1),
-                2..6 => more,
-                _ => size,
-            }
-        };
-        Room {
-            bytes: near(made.run.len()),
-            entries: near(made.entries.len()),
-        }
     }
 
     fn contact_ids(&self) -> Vec<u64> {
@@ -321,21 +271,13 @@ impl Builder<'_> {
         let lines = self.runner.ledger.store().and_then(sheet::lines_of);
         match lines {
             Some(lines) if !lines.is_empty() => lines[self.random.below(lines.len())].clone(),
-            _ => self.device_row(),
-        }
-    }
-
-    fn device_row(&mut self) -> Line {
-        let device = match self.random.flag() {
-            true => row_build::device(self.random),
-            false => row_build::remembering(self.random),
-        };
-        Line {
-            kind: DEVICE,
-            id: 0,
-            msgno: 0,
-            version: device.version(),
-            blob: device.row(),
+            _ => Line {
+                kind: 0,
+                id: 0,
+                msgno: 0,
+                version: 3,
+                blob: row_build::device(self.random).row(),
+            },
         }
     }
 

@@ -3,30 +3,26 @@
 use crate::generate::inputs::Random;
 use crate::model::calls::Call;
 use crate::model::rows;
-use crate::model::script::{self, Given, Step};
+use crate::model::script::{self, Step};
 use crate::model::sheet;
-use crate::model::store::{Entry, Store};
+use crate::model::store::Store;
 
 /// The same steps with other veiled bytes, and other bytes in no row.
 pub fn twin(random: &mut Random, steps: &[Step], number: u64) -> Vec<Step> {
     let blank = random.flag();
-    let mut changed = |step: &Step| match (step, step.given()) {
-        (Step::Script(_), _) => Step::Script(number),
-        (_, Some(given)) => step.with(other(random, blank, given)),
-        _ => step.clone(),
+    let mut changed = |step: &Step| match step {
+        Step::Script(_) => Step::Script(number),
+        Step::Restore(lines) => {
+            let store = with_other_bytes(random, blank, &sheet::store_of(lines));
+            Step::Restore(sheet::lines_of(&store).expect("the rows of a sheet"))
+        }
+        Step::RawRestore(store) => Step::RawRestore(with_other_bytes(random, blank, store)),
+        step => step.clone(),
     };
     steps.iter().map(&mut changed).collect()
 }
 
-fn other(random: &mut Random, blank: bool, given: &Given) -> Given {
-    let store = with_other_bytes(random, blank, &given.store());
-    match given {
-        Given::Sheet(_) => Given::Sheet(sheet::lines_of(&store).expect("the rows of a sheet")),
-        Given::Raw(_) => Given::Raw(store),
-    }
-}
-
-pub fn with_other_bytes(random: &mut Random, blank: bool, store: &Store) -> Store {
+fn with_other_bytes(random: &mut Random, blank: bool, store: &Store) -> Store {
     let mut other = store.clone();
     for (byte, unnoticed) in other.run.iter_mut().zip(store.unnoticed()) {
         if unnoticed {
@@ -38,28 +34,8 @@ pub fn with_other_bytes(random: &mut Random, blank: bool, store: &Store) -> Stor
 
 /// Whether these answers to a step are alike: the same, or rows of the same bytes outside the veiled ones.
 pub fn alike(step: &Step, one: &str, other: &str) -> bool {
-    one == other
-        || match step {
-            Step::Call(Call::Write) | Step::State => blanked(one) == blanked(other),
-            Step::Convert { .. } => {
-                let stores = [one, other].map(blanked_store);
-                stores[0].is_some() && stores[0] == stores[1]
-            }
-            _ => false,
-        }
-}
-
-/// The store that is printed, with the veiled bytes of its rows zero.
-fn blanked_store(answer: &str) -> Option<Store> {
-    let mut words = answer.split(' ').skip(1);
-    let run = sheet::blob(words.next()?.as_bytes())?;
-    let entries: Option<Vec<Entry>> = words.map(|word| script::entry(word, ':')).collect();
-    let mut store = Store {
-        run,
-        entries: entries?,
-    };
-    store.run = rows::blanked(&store.run, &store.unnoticed());
-    Some(store)
+    let shows_row = matches!(step, Step::Call(Call::Write) | Step::State);
+    one == other || (shows_row && blanked(one) == blanked(other))
 }
 
 /// The answer with the veiled bytes of its row, the longest word, zero.

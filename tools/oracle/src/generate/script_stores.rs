@@ -5,11 +5,10 @@ use crate::generate::row_build::{self, EMPTY, FULL, LARGE, MIDDLE, SMALL, Size};
 use crate::generate::store_break;
 use crate::generate::store_build::{self, Counts, Plan};
 use crate::generate::store_damage;
-use crate::model::memory::HAS_CONVERTED;
 use crate::model::number_set::NumberSet;
 use crate::model::questions;
-use crate::model::rows::{Contact, Device, Range};
-use crate::model::script::Given;
+use crate::model::rows::{Contact, Range};
+use crate::model::script::Step;
 use crate::model::sheet::{self, BLOB_BYTES, LINES, Line};
 use crate::model::store::Store;
 use std::collections::BTreeSet;
@@ -23,11 +22,8 @@ const LONG: Size = Size {
     ..LARGE
 };
 
-/// The longest text that is carried, among the allowed lengths.
-const CARRIED: usize = 6;
-
 /// A granted store; one in so many is long, or as large as a program surely has room for.
-pub fn granted(random: &mut Random) -> Given {
+pub fn granted(random: &mut Random) -> Step {
     loop {
         let plan = match random.below(400) {
             0 => {
@@ -43,66 +39,34 @@ pub fn granted(random: &mut Random) -> Given {
             _ => store_build::packed(items),
         };
         if fits(&store) {
-            return given(random, store);
+            return restoring(random, store);
         }
     }
 }
 
 /// A store that is broken on purpose or damaged; now and then damage does nothing.
-pub fn refused(random: &mut Random) -> Given {
-    if random.below(3) > 0 {
-        let number = random.pick(&questions::OF_RESTORE);
-        let seldom = number == questions::SKIPPED_COUNT && random.below(10) > 0;
-        let number = if seldom { questions::SKIPPED } else { number };
-        return refused_by(random, number);
-    }
+pub fn refused(random: &mut Random) -> Step {
     loop {
-        let plan = plan(random, false);
-        let items = plan.items(random);
-        let mut store = store_build::packed(items);
-        store_damage::damaged(random, &mut store);
+        let store = match random.below(3) {
+            0 => {
+                let plan = plan(random, false);
+                let items = plan.items(random);
+                let mut store = store_build::packed(items);
+                store_damage::damaged(random, &mut store);
+                store
+            }
+            _ => {
+                let number = random.pick(&questions::OF_RESTORE);
+                let seldom = number == questions::SKIPPED_COUNT && random.below(10) > 0;
+                let number = if seldom { questions::SKIPPED } else { number };
+                let plan = store_build::rich(random);
+                store_break::aimed(random, plan, number).0
+            }
+        };
         if fits(&store) {
-            return given(random, store);
+            return restoring(random, store);
         }
     }
-}
-
-pub fn refused_by(random: &mut Random, number: u32) -> Given {
-    loop {
-        let mut plan = store_build::rich(random);
-        plan.remember_some(random);
-        let store = store_break::aimed(random, plan, number).0;
-        if fits(&store) {
-            return given(random, store);
-        }
-    }
-}
-
-/// Carried rows that are all one, as long as may be: laid one behind the other they need more than there is to convert into,
-/// or nearly as much.
-pub fn swollen(random: &mut Random) -> Given {
-    let device = match random.flag() {
-        true => row_build::device(random),
-        false => Device {
-            next_slot: Some(LINES as u64),
-            ..row_build::device(random)
-        },
-    };
-    let row = row_build::carried(random, CARRIED);
-    let row = store_build::deposited(row, 0);
-    let device = Device {
-        next_contact: 1,
-        ..device
-    };
-    let whole = (HAS_CONVERTED.bytes - device.row().len()) / row.row().len();
-    let count = random.pick(&[whole - 1, whole, whole, whole + 1, LINES - 1]);
-    let plan = Plan {
-        device,
-        contacts: Vec::new(),
-        queued: Vec::new(),
-        courier: (0..count as u64).map(|slot| (slot, row.clone())).collect(),
-    };
-    Given::Raw(store_build::shared(plan.items(random)))
 }
 
 /// Whether a program surely has room for it.
@@ -111,10 +75,12 @@ fn fits(store: &Store) -> bool {
 }
 
 /// As sheet lines, where they can say it, or as run and entries.
-fn given(random: &mut Random, store: Store) -> Given {
+fn restoring(random: &mut Random, store: Store) -> Step {
     match sheet::lines_of(&store) {
-        Some(lines) if random.below(4) > 0 && fits(&sheet::store_of(&lines)) => Given::Sheet(lines),
-        _ => Given::Raw(store),
+        Some(lines) if random.below(4) > 0 && fits(&sheet::store_of(&lines)) => {
+            Step::Restore(lines)
+        }
+        _ => Step::RawRestore(store),
     }
 }
 
@@ -144,7 +110,6 @@ fn plan(random: &mut Random, long: bool) -> Plan {
         }
         plan.queued = store_build::queued(random, &plan.contacts, counts.queued);
     }
-    plan.remember_some(random);
     plan
 }
 
@@ -165,9 +130,6 @@ fn full(random: &mut Random, rows: usize) -> Plan {
     renumber(random, contact);
     let mut tombstone = || row_build::tombstone(random);
     plan.courier = (2..rows as u64).map(|slot| (slot, tombstone())).collect();
-    if plan.device.next_slot.is_some() {
-        plan.device.next_slot = Some(rows as u64);
-    }
     if rows == LINES {
         return plan;
     }

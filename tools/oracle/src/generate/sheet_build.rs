@@ -6,10 +6,9 @@ use crate::generate::script_stores;
 use crate::generate::store_break;
 use crate::generate::store_build;
 use crate::model::questions;
-use crate::model::rows::Device;
-use crate::model::script::Given;
+use crate::model::script::Step;
 use crate::model::sheet::{self, BLOB_BYTES, LINES, Line};
-use crate::model::store::{COURIER, DEVICE, Refusal};
+use crate::model::store::{COURIER, Refusal};
 
 /// A sheet, and what is printed where that is known beforehand.
 pub struct Made {
@@ -21,15 +20,15 @@ fn made(sheet: Vec<u8>, due: Option<String>) -> Made {
     Made { sheet, due }
 }
 
-/// Of a hundred, 28 are of granted stores, 34 of stores with one question broken, 25 with a line broken, 7 damaged, 2 with
+/// Of a hundred, 28 are of granted stores, 33 of stores with one question broken, 25 with a line broken, 8 damaged, 2 with
 /// the highest number of its width, and 4 at the limits.
 pub fn sheet(random: &mut Random, index: usize) -> Made {
     match index % 100 {
         0..28 => made(text(&granted(random)), None),
-        28..62 => refused(random, questions::OF_RESTORE[index % 100 - 27]),
-        62..87 => broken(random),
-        87 | 88 => made(widest(random), None),
-        89..96 => {
+        28..61 => refused(random, questions::OF_RESTORE[index % 100 - 27]),
+        61..86 => broken(random),
+        86 | 87 => made(widest(random), None),
+        88..96 => {
             let mut sheet = text(&granted(random));
             damage(random, &mut sheet);
             made(sheet, None)
@@ -45,7 +44,7 @@ fn text(lines: &[Line]) -> Vec<u8> {
 
 fn granted(random: &mut Random) -> Vec<Line> {
     loop {
-        if let Given::Sheet(lines) = script_stores::granted(random) {
+        if let Step::Restore(lines) = script_stores::granted(random) {
             return lines;
         }
     }
@@ -59,8 +58,7 @@ fn refused(random: &mut Random, number: u32) -> Made {
         number
     };
     loop {
-        let mut plan = store_build::rich(random);
-        plan.remember_some(random);
+        let plan = store_build::rich(random);
         let (store, Refusal { number, index }) = store_break::aimed(random, plan, number);
         let Some(lines) = sheet::lines_of(&store) else {
             continue;
@@ -205,7 +203,7 @@ fn damage(random: &mut Random, sheet: &mut Vec<u8>) {
 /// 511 to 514 lines of a store that is granted but for that. The line past the limit may have an earlier no.
 fn many_lines(random: &mut Random) -> Made {
     let count = random.pick(&[LINES - 1, LINES, LINES + 1, LINES + 2]);
-    let mut lines = vec![device_line(random, count as u64)];
+    let mut lines = vec![line(0, 0, row_build::device(random).row())];
     for slot in 1..count as u64 {
         lines.push(line(COURIER, slot, row_build::tombstone(random).row()));
     }
@@ -221,18 +219,6 @@ fn many_lines(random: &mut Random) -> Made {
     let number = random.pick(&[questions::LINE, questions::DECIMAL, questions::BLOB]);
     texts[LINES] = broken_line(random, &lines[LINES], number);
     made(texts.concat(), Some(format!("X,{number},{}\n", LINES + 1)))
-}
-
-/// Of version 3, or of version 4 with this next_slot.
-fn device_line(random: &mut Random, next_slot: u64) -> Line {
-    let device = Device {
-        next_slot: random.flag().then_some(next_slot),
-        ..row_build::device(random)
-    };
-    Line {
-        version: device.version(),
-        ..line(DEVICE, 0, device.row())
-    }
 }
 
 fn line(kind: u32, id: u64, blob: Vec<u8>) -> Line {

@@ -1,7 +1,7 @@
 //! Stores in which a question is broken on purpose, and the place of the no that this makes.
 //!
 //! A plan must be one in which every question can be broken: see `store_build::rich`.
-//! Values are broken in the plan (17 to 33, 51 and 54), rows and kinds in the items (1, 3 to 16), places in the laid store (2); so
+//! Values are broken in the plan (17 to 33, and 54), rows and kinds in the items (1, 3 to 16), places in the laid store (2); so
 //! several breaks are made in this order.
 
 use crate::generate::inputs::Random;
@@ -45,7 +45,7 @@ pub fn broken(random: &mut Random, mut plan: Plan, numbers: &[u32]) -> (Store, V
     (store, places)
 }
 
-/// 17 to 33, 51 and 54.
+/// 17 to 33, and 54.
 fn in_plan(random: &mut Random, plan: &mut Plan, number: u32) -> usize {
     match number {
         17..25 | questions::CHAIN_COUNT => {
@@ -55,13 +55,7 @@ fn in_plan(random: &mut Random, plan: &mut Plan, number: u32) -> usize {
         }
         25 | 26 => 1 + in_contacts(random, plan, number),
         27..31 => 1 + plan.contacts.len() + in_queued(random, plan, number),
-        _ => {
-            let at = match number {
-                questions::SLOT_BELOW_NEXT => below_next(random, plan),
-                _ => in_courier(random, plan, number),
-            };
-            1 + plan.contacts.len() + plan.queued.len() + at
-        }
+        _ => 1 + plan.contacts.len() + plan.queued.len() + in_courier(random, plan, number),
     }
 }
 
@@ -200,26 +194,8 @@ fn in_queued(random: &mut Random, plan: &mut Plan, number: u32) -> usize {
     at
 }
 
-/// 51: the index of the first courier row whose slot is not below a next_slot that is too low for some of them.
-fn below_next(random: &mut Random, plan: &mut Plan) -> usize {
-    let slot = plan.courier[random.below(plan.courier.len())].0;
-    let next_slot = random.pick(&[slot, slot, slot.saturating_sub(1), slot / 2, 0]);
-    plan.device.next_slot = Some(next_slot);
-    let below = |row: &&(u64, Courier)| row.0 < next_slot;
-    plan.courier.iter().take_while(below).count()
-}
-
-/// 31 to 33: the index among the courier rows. What is asked later is often broken too: where the device is of version 4, its
-/// next_slot may be as low as the rows before this one let it be.
+/// 31 to 33: the index among the courier rows.
 fn in_courier(random: &mut Random, plan: &mut Plan, number: u32) -> usize {
-    let at = of_courier(random, plan, number);
-    if plan.device.next_slot.is_some() && random.flag() {
-        plan.device.next_slot = Some(store_build::after(&plan.courier[..at]));
-    }
-    at
-}
-
-fn of_courier(random: &mut Random, plan: &mut Plan, number: u32) -> usize {
     let count = plan.courier.len();
     let next_contact = plan.device.next_contact;
     let mut at = random.below(count);
@@ -265,8 +241,7 @@ fn in_items(random: &mut Random, items: &mut [Item], number: u32) -> usize {
     let at = random.pick(&places);
     let item = &mut items[at];
     match number {
-        3 => item.entry.version = unknown_version(random, item.entry.kind),
-        4 | 16 if item.entry.kind == DEVICE && random.flag() => in_device(item, number),
+        3 => item.entry.version = random.pick(&[0, 1, 2, 4, 256 + 3, u32::MAX]),
         7..=10 => in_card(random, &mut item.row, number),
         12 => in_index(random, item),
         13 => in_sealed(random, item),
@@ -282,21 +257,6 @@ fn in_items(random: &mut Random, items: &mut [Item], number: u32) -> usize {
         _ => in_field(random, item, number),
     }
     at
-}
-
-/// 4 is none of rows other than a device's.
-fn unknown_version(random: &mut Random, kind: u32) -> u32 {
-    match kind {
-        DEVICE => random.pick(&[0, 1, 2, 5, 256 + 3, 256 + 4, u32::MAX]),
-        _ => random.pick(&[0, 1, 2, 4, 4, 256 + 3, u32::MAX]),
-    }
-}
-
-/// 4 or 16: a device row of the other version's length.
-fn in_device(item: &mut Item, number: u32) {
-    item.entry.version = if number == questions::END { 3 } else { 4 };
-    let size = if number == questions::END { 57 } else { 49 };
-    item.row.resize(size, 0xa5);
 }
 
 fn set(row: &mut [u8], at: usize, bytes: &[u8]) {

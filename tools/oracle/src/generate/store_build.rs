@@ -273,24 +273,10 @@ pub fn deposited(mut row: Courier, of: u64) -> Courier {
 }
 
 impl Plan {
-    /// A device of version 4 for half of the plans. Its next_slot is what version 3 would work out, or higher.
-    pub fn remember_some(&mut self, random: &mut Random) {
-        if random.flag() {
-            self.remember(random);
-        }
-    }
-
-    pub fn remember(&mut self, random: &mut Random) {
-        let least = after(&self.courier);
-        let more = random.pick(&[0, 0, 0, 1, 92, 1 << 32, u64::MAX]);
-        self.device.next_slot = Some(least.saturating_add(more));
-    }
-
     /// The entries with their rows, in order. What a kind has no use for holds anything.
     pub fn items(&self, random: &mut Random) -> Vec<Item> {
         let any = random.next();
-        let mut items = vec![device_item(&self.device)];
-        (items[0].entry.id, items[0].entry.msgno) = (any, any as u32);
+        let mut items = vec![item(DEVICE, any, any as u32, self.device.row(), 0)];
         for (id, contact) in &self.contacts {
             items.push(item(CONTACT, *id, random.number(), contact.row(), 0));
         }
@@ -306,19 +292,6 @@ impl Plan {
         }
         items
     }
-}
-
-/// The slot after the highest of these, or 0.
-pub fn after(courier: &[(u64, Courier)]) -> u64 {
-    let highest = courier.iter().map(|(slot, _)| *slot).max();
-    highest.map_or(0, |slot| slot.saturating_add(1))
-}
-
-/// In the version that holds the value.
-pub fn device_item(device: &Device) -> Item {
-    let mut item = item(DEVICE, 0, 0, device.row(), 0);
-    item.entry.version = device.version();
-    item
 }
 
 pub fn item(kind: u32, id: u64, msgno: u32, row: Vec<u8>, sealed: usize) -> Item {

@@ -233,7 +233,7 @@ fn cover(opened: &mut Opened, from: u32, to: u32, lent: &mut Lent) -> Granted {
     Granted::Covered(after.contiguous != before.contiguous, added)
 }
 
-/// 1 to 33, 51 and 54.
+/// 1 to 33.
 fn passes(store: &Store) -> bool {
     store.restore().is_ok()
 }

@@ -1,7 +1,6 @@
 //! What a list of calls can be lent.
 
 use crate::model::calls::{CHAIN, Lent, SKIPPED};
-use crate::model::convert::Room;
 
 /// The lent lengths: chains, skipped keys, pairs above contiguous, unacked numbers, pairs of expired ones, bytes of output.
 pub type Lengths = [usize; 6];
@@ -9,11 +8,6 @@ pub type Lengths = [usize; 6];
 /// What is there to be lent. It is enough for every row of a store that a sheet can hold, so that no answer to a script
 /// that asks for no more shows how much there is.
 pub const HAS: Lengths = [256, 500, 7_680, 15_360, 7_680, 65_536];
-/// What there is to convert a store into. Rows that share bytes may need more.
-pub const HAS_CONVERTED: Room = Room {
-    bytes: 1_048_576,
-    entries: 512,
-};
 /// What places hold that no call has written.
 const FILL: u8 = 0xa5;
 const FILL_NUMBER: u32 = 0xa5a5_a5a5;

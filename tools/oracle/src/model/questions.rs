@@ -3,19 +3,18 @@
 //! refuses. The rows themselves are in rows.rs.
 
 /// What restore can answer, in the order of its questions.
-pub const OF_RESTORE: [u32; 35] = [
+pub const OF_RESTORE: [u32; 34] = [
     1, 2, 3, 4, 5, 6, 7, 8, 9, 10, 11, 12, 13, 14, 15, 16, 54, 17, 18, 19, 20, 21, 22, 23, 24, 25,
-    26, 27, 28, 29, 30, 31, 32, 33, 51,
+    26, 27, 28, 29, 30, 31, 32, 33,
 ];
-/// Refusals to which the Rust is not held: it has no limit of chains (02, A10), overflows where 33 is a no, and knows no
-/// device of version 4 (02, A7).
-pub const NOT_IN_RUST: [u32; 3] = [CHAIN_COUNT, SLOT_BELOW, SLOT_BELOW_NEXT];
+/// Refusals to which the Rust is not held: it has no limit of chains (02, A10), and overflows where 33 is a no.
+pub const NOT_IN_RUST: [u32; 2] = [CHAIN_COUNT, SLOT_BELOW];
 
 /// Is entry 0 a device, and every later kind 1 to 3 and not below the one before?
 pub const KINDS: u32 = 1;
 /// Does start + length stay within the run?
 pub const IN_RUN: u32 = 2;
-/// Version 3? Of a device, and of the version that is wanted: 3 or 4 (02, A7)?
+/// Version 3?
 pub const VERSION: u32 = 3;
 /// Field wholly in the row?
 pub const WHOLE: u32 = 4;
@@ -79,8 +78,6 @@ pub const DEPOSITOR: u32 = 31;
 pub const SLOT_NEW: u32 = 32;
 /// Slot below 2^64 - 1?
 pub const SLOT_BELOW: u32 = 33;
-/// Slot below the next_slot of a version 4 device? Asked after 33 (02, A7).
-pub const SLOT_BELOW_NEXT: u32 = 51;
 /// Store restored, a contact open, and would what is handed in pass?
 pub const STORE: u32 = 34;
 /// open: contact in the store?
@@ -103,9 +100,6 @@ pub const DECIMAL: u32 = 42;
 pub const BLOB: u32 = 43;
 /// At most 61,440 blob bytes, 512 lines?
 pub const SHEET_ROOM: u32 = 44;
-
-/// From 4 to 3: would restore work next_slot out again (02, A7)?
-pub const SLOT_LOST: u32 = 52;
 
 /// The number where the answer is no.
 pub fn ask(number: u32, yes: bool) -> Result<(), u32> {

@@ -2,12 +2,12 @@
 
 use crate::hex::hex;
 use crate::model::calls::{Call, Granted, Ledger};
-use crate::model::convert::{Room, convert};
-use crate::model::memory::{HAS, HAS_CONVERTED, Lengths, Memory};
+use crate::model::memory::{HAS, Lengths, Memory};
 use crate::model::questions::{self, ask};
 use crate::model::rows::{self, Reading};
-use crate::model::script::{Step, Steps, entry_text};
-use crate::model::store::{CONTACT, COURIER, DEVICE, QUEUED, Refusal, Store};
+use crate::model::script::{Step, Steps};
+use crate::model::sheet;
+use crate::model::store::{CONTACT, COURIER, DEVICE, QUEUED, Store};
 
 pub struct Runner {
     pub ledger: Ledger,
@@ -45,12 +45,8 @@ impl Runner {
                 self.lengths = *lengths;
                 return None;
             }
-            Step::Restore(given) => self.restore(&given.store()),
-            Step::Convert {
-                wanted,
-                room,
-                given,
-            } => converted(&given.store(), *wanted, *room),
+            Step::Restore(lines) => self.restore(&sheet::store_of(lines)),
+            Step::RawRestore(store) => self.restore(store),
             Step::Call(call) => self.call(*call),
             Step::Veil {
                 kind,
@@ -72,7 +68,7 @@ impl Runner {
     fn restore(&mut self, store: &Store) -> String {
         match self.ledger.restore(store) {
             Ok(()) => "yes".into(),
-            Err(refusal) => refused(refusal),
+            Err(refusal) => format!("no {} {}", refusal.number, refusal.index),
         }
     }
 
@@ -113,25 +109,6 @@ impl Runner {
         };
         format!("{} {} {places}", opened.id, hex(&opened.fields().row()))
     }
-}
-
-fn refused(Refusal { number, index }: Refusal) -> String {
-    format!("no {number} {index}")
-}
-
-/// The run and the entries that are written; the ledger has no part in it.
-fn converted(store: &Store, wanted: u32, room: Room) -> String {
-    let room = Room {
-        bytes: room.bytes.min(HAS_CONVERTED.bytes),
-        entries: room.entries.min(HAS_CONVERTED.entries),
-    };
-    let made = match convert(store, wanted, room) {
-        Ok(made) => made,
-        Err(refusal) => return refused(refusal),
-    };
-    let entries = made.entries.iter().map(|entry| entry_text(entry, ":"));
-    let words: Vec<String> = [hex(&made.run)].into_iter().chain(entries).collect();
-    words.join(" ")
 }
 
 fn answer(bytes: Result<Vec<u8>, u32>) -> String {

@@ -2,29 +2,17 @@
 
 use crate::hex::hex;
 use crate::model::calls::Call;
-use crate::model::convert::Room;
 use crate::model::memory::Lengths;
 use crate::model::sheet::{self, BLOB_BYTES, LINES, Line};
 use crate::model::store::{Entry, Store};
 use std::fmt;
 
-/// How a store is handed in: as the lines of a sheet, or as run and entries.
-#[derive(Debug, Clone, PartialEq)]
-pub enum Given {
-    Sheet(Vec<Line>),
-    Raw(Store),
-}
-
 #[derive(Debug, Clone, PartialEq)]
 pub enum Step {
     /// `script K`: nothing is restored, everything is lent.
     Script(u64),
-    Restore(Given),
-    Convert {
-        wanted: u32,
-        room: Room,
-        given: Given,
-    },
+    Restore(Vec<Line>),
+    RawRestore(Store),
     Lend(Lengths),
     Call(Call),
     Veil {
@@ -48,14 +36,20 @@ impl fmt::Display for Step {
     fn fmt(&self, out: &mut fmt::Formatter) -> fmt::Result {
         match self {
             Self::Script(number) => write!(out, "script {number}"),
-            Self::Restore(given) => write!(out, "{}restore {given}", given.front()),
-            Self::Convert {
-                wanted,
-                room: Room { bytes, entries },
-                given,
-            } => {
-                let front = given.front();
-                write!(out, "{front}convert {wanted} {bytes} {entries} {given}")
+            Self::Restore(lines) => {
+                let text = sheet::text_of(lines);
+                let text = format!("restore {}\n{text}", lines.len());
+                write!(out, "{}", text.trim_end_matches('\n'))
+            }
+            Self::RawRestore(store) => {
+                write!(
+                    out,
+                    "rawrestore {} {}",
+                    store.entries.len(),
+                    hex(&store.run)
+                )?;
+                let mut entries = store.entries.iter();
+                entries.try_for_each(|entry| write!(out, "\n{}", entry_line(entry)))
             }
             Self::Lend(lengths) => write!(out, "lend {}", joined(lengths, " ")),
             Self::Call(call) => write!(out, "{}", call_line(*call)),
@@ -79,51 +73,21 @@ impl fmt::Display for Step {
     }
 }
 
-impl fmt::Display for Given {
-    /// The end of the step's line, and the lines behind it, the last without its LF.
-    fn fmt(&self, out: &mut fmt::Formatter) -> fmt::Result {
-        match self {
-            Self::Sheet(lines) => {
-                let text = format!("{}\n{}", lines.len(), sheet::text_of(lines));
-                write!(out, "{}", text.trim_end_matches('\n'))
-            }
-            Self::Raw(store) => {
-                write!(out, "{} {}", store.entries.len(), hex(&store.run))?;
-                let mut entries = store.entries.iter();
-                entries.try_for_each(|entry| write!(out, "\n{}", entry_text(entry, " ")))
-            }
-        }
-    }
-}
-
-impl Given {
-    pub fn store(&self) -> Store {
-        match self {
-            Self::Sheet(lines) => sheet::store_of(lines),
-            Self::Raw(store) => store.clone(),
-        }
-    }
-
-    /// What stands in front of the step's word.
-    fn front(&self) -> &'static str {
-        match self {
-            Self::Sheet(_) => "",
-            Self::Raw(_) => "raw",
-        }
-    }
-}
-
 fn joined(lengths: &[usize], between: &str) -> String {
     let words: Vec<String> = lengths.iter().map(usize::to_string).collect();
     words.join(between)
 }
 
-/// Kind, contact or slot, msgno, version, start, length.
-pub fn entry_text(entry: &Entry, between: &str) -> String {
-    let (kind, msgno, version) = (entry.kind.into(), entry.msgno.into(), entry.version.into());
-    let (start, len) = (entry.start as u64, entry.len as u64);
-    let words = [kind, entry.id, msgno, version, start, len].map(|number| number.to_string());
-    words.join(between)
+fn entry_line(entry: &Entry) -> String {
+    let Entry {
+        id,
+        start,
+        len,
+        msgno,
+        version,
+        kind,
+    } = entry;
+    format!("{kind} {id} {msgno} {version} {start} {len}")
 }
 
 fn call_line(call: Call) -> String {
@@ -139,23 +103,6 @@ fn call_line(call: Call) -> String {
 }
 
 impl Step {
-    /// The store that is handed in.
-    pub fn given(&self) -> Option<&Given> {
-        match self {
-            Self::Restore(given) | Self::Convert { given, .. } => Some(given),
-            _ => None,
-        }
-    }
-
-    /// The same step with another store handed in, where there is one.
-    pub fn with(&self, other: Given) -> Self {
-        let mut step = self.clone();
-        if let Self::Restore(given) | Self::Convert { given, .. } = &mut step {
-            *given = other;
-        }
-        step
-    }
-
     /// The first word, for counting.
     pub fn name(&self) -> String {
         let text = self.to_string();
@@ -188,7 +135,7 @@ impl<'a> Steps<'a> {
         self.lines.next()
     }
 
-    /// The lines that a store is handed in by, each as `part` reads it.
+    /// The lines that a restore is followed by, each as `part` reads it.
     fn follow<T>(
         &mut self,
         count: usize,
@@ -200,46 +147,23 @@ impl<'a> Steps<'a> {
         (0..count).map(|_| part(self.line()?)).collect()
     }
 
-    fn sheet(&mut self, count: &str) -> Option<Given> {
-        let mut room = BLOB_BYTES;
-        let lines = self.follow(decimal(count)?, |line| {
-            let line = sheet_line(line)?;
-            room = room.checked_sub(line.blob.len())?;
-            Some(line)
-        })?;
-        Some(Given::Sheet(lines))
-    }
-
-    fn raw(&mut self, count: &str, run: &str) -> Option<Given> {
-        let run = bytes(run)?;
-        let entries = self.follow(decimal(count)?, |line| entry(line, ' '))?;
-        Some(Given::Raw(Store { run, entries }))
-    }
-
     /// The step that begins with this line.
     fn step(&mut self, line: &str) -> Option<Step> {
         let words: Vec<&str> = line.split(' ').collect();
         Some(match *words.as_slice() {
             ["script", number] => Step::Script(decimal(number)?),
-            ["restore", count] => Step::Restore(self.sheet(count)?),
-            ["rawrestore", count, run] => Step::Restore(self.raw(count, run)?),
-            ["convert", ref numbers @ .., count] => {
-                let (wanted, room) = wanted(numbers)?;
-                let given = self.sheet(count)?;
-                Step::Convert {
-                    wanted,
-                    room,
-                    given,
-                }
+            ["restore", count] => {
+                let mut room = BLOB_BYTES;
+                Step::Restore(self.follow(decimal(count)?, |line| {
+                    let line = sheet_line(line)?;
+                    room = room.checked_sub(line.blob.len())?;
+                    Some(line)
+                })?)
             }
-            ["rawconvert", ref numbers @ .., count, run] => {
-                let (wanted, room) = wanted(numbers)?;
-                let given = self.raw(count, run)?;
-                Step::Convert {
-                    wanted,
-                    room,
-                    given,
-                }
+            ["rawrestore", count, run] => {
+                let run = bytes(run)?;
+                let entries = self.follow(decimal(count)?, entry)?;
+                Step::RawRestore(Store { run, entries })
             }
             ["lend", ref lengths @ ..] => Step::Lend(numbers(lengths)?),
             ["veil", kind, version, out, row] => Step::Veil {
@@ -266,18 +190,6 @@ impl Iterator for Steps<'_> {
             }
         }
     }
-}
-
-/// The wanted version, and what is lent.
-fn wanted(words: &[&str]) -> Option<(u32, Room)> {
-    let [wanted, bytes, entries] = *words else {
-        return None;
-    };
-    let room = Room {
-        bytes: decimal(bytes)?,
-        entries: decimal(entries)?,
-    };
-    Some((decimal(wanted)?, room))
 }
 
 fn call(words: &[&str]) -> Option<Call> {
@@ -346,9 +258,8 @@ fn sheet_line(line: &str) -> Option<Line> {
     lines.into_iter().next()
 }
 
-/// As `entry_text` writes it.
-pub fn entry(line: &str, between: char) -> Option<Entry> {
-    let words: Vec<&str> = line.split(between).collect();
+fn entry(line: &str) -> Option<Entry> {
+    let words: Vec<&str> = line.split(' ').collect();
     let [kind, id, msgno, version, start, len] = *words.as_slice() else {
         return None;
     };

@@ -103,7 +103,7 @@ fn decimal(digits: &[u8], width: Width) -> Option<u64> {
 }
 
 /// Pairs of lowercase hexadecimal digits.
-pub fn blob(digits: &[u8]) -> Option<Vec<u8>> {
+fn blob(digits: &[u8]) -> Option<Vec<u8>> {
     let value = |digit: u8| b"0123456789abcdef".iter().position(|one| *one == digit);
     let pair = |pair: &[u8]| match pair {
         [high, low] => Some((16 * value(*high)? + value(*low)?) as u8),

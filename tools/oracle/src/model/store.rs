@@ -1,5 +1,5 @@
-//! A model of restore: questions 1 and 2 of all entries, 3 to 24 and 54 of each row in turn by rows.rs, then 25 to 33 and 51
-//! across the rows, with number and place; next_contact and next_slot; and which bytes of the run may change without being noticed.
+//! A model of restore: questions 1 and 2 of all entries, 3 to 24 of each row in turn by rows.rs, then 25 to 33 across the
+//! rows, with number and place; next_contact and next_slot; and which bytes of the run may change without being noticed.
 //!
 //! How it was made: from document 01 alone, with no Rattle of restore or of stores read before or since. Its author had read
 //! the Rust's `Device::restore`, which has neither numbers nor places and asks each row across before the next is read.
@@ -62,8 +62,6 @@ pub fn number(answer: &Answer) -> u32 {
 enum Row {
     Device {
         next_contact: u64,
-        /// Of version 4.
-        next_slot: Option<u64>,
     },
     Contact {
         sent_msgno: u32,
@@ -97,25 +95,17 @@ impl Store {
             ask(questions::IN_RUN, self.row(at).is_some())
         })?;
         let rows = each(places.clone(), |at| self.read(at))?;
-        let Row::Device {
-            next_contact,
-            next_slot,
-        } = rows[0]
-        else {
-            unreachable!("question 1");
+        let next_contact = match rows[0] {
+            Row::Device { next_contact } => next_contact,
+            _ => unreachable!("question 1"),
         };
-        let mut across = Across::new(next_contact, next_slot);
+        let mut across = Across::new(next_contact);
         each(places, |at| across.ask(&self.entries[at], &rows[at]))?;
+        let next_slot = across.slots.last().map_or(0, |highest| highest + 1);
         Ok(Granted {
             next_contact,
-            next_slot: next_slot.unwrap_or_else(|| self.next_slot()),
+            next_slot,
         })
-    }
-
-    /// The next_slot that version 3 works out: the highest slot + 1, or 0. Of a store in which 33 is yes.
-    pub fn next_slot(&self) -> u64 {
-        let courier = self.entries.iter().filter(|entry| entry.kind == COURIER);
-        courier.map(|entry| entry.id + 1).max().unwrap_or(0)
     }
 
     /// Entry 0 is a device; a later kind is 1 to 3 and not below the one before.
@@ -134,18 +124,14 @@ impl Store {
         (end <= self.run.len() as u128).then(|| &self.run[start..start + len])
     }
 
-    /// 3 to 24 and 54 of an entry whose kind is known and whose row is in the run.
+    /// 3 to 24 of an entry whose kind is known and whose row is in the run.
     fn read(&self, at: usize) -> Result<Row, u32> {
         let Entry { version, kind, .. } = self.entries[at];
         let row = self.row(at).expect("question 2");
         Ok(match kind {
-            DEVICE => {
-                let device = rows::device(version, row).answer?;
-                Row::Device {
-                    next_contact: device.next_contact,
-                    next_slot: device.next_slot,
-                }
-            }
+            DEVICE => Row::Device {
+                next_contact: rows::device(version, row).answer?.next_contact,
+            },
             CONTACT => {
                 let contact = rows::contact(version, row).answer?;
                 Row::Contact {
@@ -191,7 +177,6 @@ impl Store {
 /// What the entries so far have brought.
 struct Across {
     next_contact: u64,
-    next_slot: Option<u64>,
     /// sent_msgno and unacked of each.
     contacts: BTreeMap<u64, (u32, Vec<u32>)>,
     queued: BTreeSet<(u64, u32)>,
@@ -199,17 +184,16 @@ struct Across {
 }
 
 impl Across {
-    fn new(next_contact: u64, next_slot: Option<u64>) -> Self {
+    fn new(next_contact: u64) -> Self {
         Self {
             next_contact,
-            next_slot,
             contacts: BTreeMap::new(),
             queued: BTreeSet::new(),
             slots: BTreeSet::new(),
         }
     }
 
-    /// 25 to 33 of one entry, in number order, then 51.
+    /// 25 to 33 of one entry, in number order.
     fn ask(&mut self, entry: &Entry, row: &Row) -> Result<(), u32> {
         let Entry { id, msgno, .. } = *entry;
         match row {
@@ -234,8 +218,6 @@ impl Across {
                 ask(questions::DEPOSITOR, below)?;
                 ask(questions::SLOT_NEW, self.slots.insert(id))?;
                 ask(questions::SLOT_BELOW, id < u64::MAX)?;
-                let below = self.next_slot.is_none_or(|next_slot| id < next_slot);
-                ask(questions::SLOT_BELOW_NEXT, below)?;
             }
         }
         Ok(())

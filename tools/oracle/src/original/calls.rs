@@ -1,7 +1,7 @@
 //! The unchanged Rust beside the model: what of a list of calls it has too.
 //!
-//! Granted or refused with 3 to 32, but for 54, a store is one that `Device::restore` accepts or refuses, with its device in
-//! version 3. Of an open contact there are `Received::contains`, `covers` and `insert`, `next_msgno` with 39, `row`, and the fields that the `S` line counts. The
+//! Granted or refused with 3 to 32, but for 54, a store is one that `Device::restore` accepts or refuses. Of an open contact there are
+//! `Received::contains`, `covers` and `insert`, `next_msgno` with 39, `row`, and the fields that the `S` line counts. The
 //! Rust has neither lent lengths nor a mark: where the model refuses by 34, 36, 37, 38 or 40 it is not asked.
 
 use crate::hex::hex;
@@ -10,9 +10,10 @@ use crate::model::number_set::{NumberSet, numbers_in};
 use crate::model::questions;
 use crate::model::rows::Range;
 use crate::model::script::Step;
+use crate::model::sheet;
 use crate::model::store::{self, Store};
 use crate::original::parts::core::ContactId;
-use crate::original::stores::{Rows, of_version_3};
+use crate::original::stores::Rows;
 use crate::state;
 use std::collections::BTreeMap;
 
@@ -31,7 +32,8 @@ impl Shadow {
                 self.contact = None;
                 Vec::new()
             }
-            Step::Restore(given) => self.restore(&given.store()),
+            Step::Restore(lines) => self.restore(&sheet::store_of(lines)),
+            Step::RawRestore(store) => self.restore(store),
             Step::Call(call) => self.call(*call, answer, ledger),
             _ => Vec::new(),
         }
@@ -60,7 +62,7 @@ impl Shadow {
         if answer.is_ok() {
             self.contact = None;
         }
-        let rust = Rows::of(&of_version_3(store)).restore();
+        let rust = Rows::of(store).restore();
         self.compare("restore", rust.is_some(), answer.is_ok())
     }
 
@@ -86,7 +88,7 @@ impl Shadow {
         let Some(store) = ledger.store().filter(|_| answer != "= no 36") else {
             return Vec::new();
         };
-        let device = Rows::of(&of_version_3(store)).restore();
+        let device = Rows::of(store).restore();
         let contacts = device.map_or(Vec::new(), |device| device.contacts);
         let mut found = contacts.into_iter().filter(|one| one.id == ContactId(id));
         let found = found.next();

@@ -61,7 +61,6 @@ impl Store {
             enabled: device.courier.enabled,
             copies: device.courier.copies,
             lifetime_min: device.courier.lifetime_min,
-            next_slot: None,
         };
         Some((value, device.row().blob))
     }

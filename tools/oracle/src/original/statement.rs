@@ -22,19 +22,6 @@ struct Rows {
     bytes: usize,
 }
 
-/// The sheet with a device of version 3, as `stores::of_version_3` has it.
-pub fn of_version_3(sheet: &[u8]) -> Vec<u8> {
-    let end = sheet.iter().position(|byte| *byte == b'\n');
-    let (device, rest) = sheet.split_at(end.unwrap_or(sheet.len()));
-    match device.strip_prefix(b"D,4,") {
-        Some(blob) => {
-            let kept = blob.len().saturating_sub(2 * size_of::<u64>());
-            [b"D,3,", &blob[..kept], rest].concat()
-        }
-        None => sheet.to_vec(),
-    }
-}
-
 pub fn statement(sheet: &[u8]) -> String {
     let mut rows = Rows::default();
     let mut rest = sheet;

@@ -28,19 +28,6 @@ pub fn fitting(store: &Store) -> Option<Store> {
     })
 }
 
-/// The store with a device of version 3: the Rust knows no other (02, A7). One of version 4 loses its last field, next_slot; all
-/// else that restore asks of the store stays, but for 51.
-pub fn of_version_3(store: &Store) -> Store {
-    let mut store = store.clone();
-    if let Some(device) = store.entries.first_mut()
-        && (device.kind, device.version) == (DEVICE, 4)
-    {
-        device.version = 3;
-        device.len = device.len.saturating_sub(size_of::<u64>());
-    }
-    store
-}
-
 impl Rows {
     /// Of a store that passes 1 and 2.
     pub fn of(store: &Store) -> Self {

@@ -204,8 +204,7 @@ fn group(random: &mut Random) -> Group {
 /// A store, and one of its contacts opened, with everything lent.
 fn opened(random: &mut Random) -> (Vec<Step>, Runner) {
     loop {
-        let store = script_stores::granted(random);
-        let mut steps = vec![Step::Script(1), Step::Restore(store)];
+        let mut steps = vec![Step::Script(1), script_stores::granted(random)];
         let mut runner = Runner::new();
         steps.iter().for_each(|step| drop(runner.step(step)));
         let store = runner.ledger.store().expect("the store is granted");

@@ -1,7 +1,6 @@
 //! The shortest list of calls that still differs.
 
-use crate::model::script::{Given, Step};
-use crate::model::sheet::Line;
+use crate::model::script::Step;
 use crate::model::store::{Entry, Store};
 use crate::programs::answers::{answers, printed, text};
 use crate::programs::program::Program;
@@ -23,32 +22,27 @@ fn smallest(program: Program, steps: &[Step]) -> Vec<Step> {
     };
     let mut steps = without(steps.to_vec(), 1, &mut still);
     for at in 0..steps.len() {
-        if let Some(given) = steps[at].given().cloned() {
-            let given = fewer(given, &mut |given| {
-                still(&with(&steps, at, steps[at].with(given)))
-            });
-            steps[at] = steps[at].with(given);
+        match steps[at].clone() {
+            Step::Restore(lines) => {
+                let lines = without(lines, 0, &mut |lines| {
+                    still(&with(&steps, at, Step::Restore(lines.to_vec())))
+                });
+                steps[at] = Step::Restore(lines);
+            }
+            Step::RawRestore(Store { run, entries }) => {
+                let of = |entries: &[Entry]| {
+                    let (run, entries) = (run.clone(), entries.to_vec());
+                    Step::RawRestore(Store { run, entries })
+                };
+                let entries = without(entries, 0, &mut |entries| {
+                    still(&with(&steps, at, of(entries)))
+                });
+                steps[at] = of(&entries);
+            }
+            _ => {}
         }
     }
     without(steps, 1, &mut still)
-}
-
-/// Of a store that is handed in as few lines as can be.
-fn fewer(given: Given, still: &mut impl FnMut(Given) -> bool) -> Given {
-    match given {
-        Given::Sheet(lines) => {
-            let still = &mut |lines: &[Line]| still(Given::Sheet(lines.to_vec()));
-            Given::Sheet(without(lines, 0, still))
-        }
-        Given::Raw(Store { run, entries }) => {
-            let of = |entries: &[Entry]| {
-                let (run, entries) = (run.clone(), entries.to_vec());
-                Given::Raw(Store { run, entries })
-            };
-            let entries = without(entries, 0, &mut |entries| still(of(entries)));
-            of(&entries)
-        }
-    }
 }
 
 fn with(steps: &[Step], at: usize, step: Step) -> Vec<Step> {

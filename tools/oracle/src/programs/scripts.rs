@@ -7,6 +7,7 @@ use crate::model::calls::Call;
 use crate::model::memory::HAS;
 use crate::model::runner::{Runner, replay};
 use crate::model::script::{Step, Steps};
+use crate::model::sheet;
 use crate::model::store::Store;
 use crate::original::calls::{self, Shadow};
 use crate::programs::answers::{answers, printed, text, transcript};
@@ -23,7 +24,7 @@ const BATCH: usize = 250;
 const SHOWN: usize = 3;
 
 /// What `replay` is to end at: a line that is none, with its number.
-const NONE: [&str; 42] = [
+const NONE: [&str; 27] = [
     "fly\n",
     "script 1\n\n# a comment\n= an answer\nfly\nopen 1\n",
     "open\n",
@@ -51,37 +52,16 @@ const NONE: [&str; 42] = [
     "read 1 3 1,2,3,4,05 -\n",
     "read 0 3 1,2,3,4,5 -\n",
     "read 4 3 - -\n",
-    "convert 3 0 0\n",
-    "convert 3 0 0 0 -\n",
-    "convert 03 0 0 0\n",
-    "convert 4294967296 0 0 0\n",
-    "convert 3 18446744073709551616 0 0\n",
-    "convert 3 0 18446744073709551616 0\n",
-    "convert 3 0 0 513\n",
-    "state\nconvert 3 100 1 1\nD,03,\n",
-    "convert 3 100 1 1\n# no comment\n",
-    "convert 4294967295 18446744073709551615 18446744073709551615 0\nconvert 4 0 0 2\nD,3,\n",
-    "rawconvert 3 0 0 0\n",
-    "rawconvert 3 0 0 0 \n",
-    "rawconvert 3 0 0 0 0g\n",
-    "rawconvert 4294967296 0 0 0 -\n",
-    "state\nrawconvert 3 0 0 1 -\n0:0:0:3:0:0\n",
 ];
 
 /// More of them, longer than a line of the source.
-fn long_none() -> [String; 6] {
+fn long_none() -> [String; 4] {
     let blob = |bytes: usize| "00".repeat(bytes);
     let sheet_line = |bytes: usize| format!("D,3,{}\n", blob(bytes));
     [
         // The third line goes beyond 61,440 bytes.
         format!("restore 4\n{}{}D\n", sheet_line(40_000), sheet_line(30_000)),
         format!("state\nrawrestore 0 {}\n", blob(61_441)),
-        format!(
-            "convert 3 1 1 3\n{}{}D\n",
-            sheet_line(61_440),
-            sheet_line(1)
-        ),
-        format!("state\nrawconvert 3 1 1 0 {}\n", blob(61_441)),
         format!("# {}\n= {}\nfly\n", blob(200_000), blob(400_000)),
         format!("state\nveil 0 3 0 {}\n", blob(1_000_000)),
     ]
@@ -140,19 +120,10 @@ pub const COVER: [&str; 8] = [
     "no 38",
 ];
 
-/// What convert answers: the device's version and the wanted one, or the number.
-pub const CONVERT: [&str; 8] = [
-    "3 to 3", "3 to 4", "4 to 3", "4 to 4", "no 3", "no 40", "no 51", "no 52",
-];
-
-const ROW_4: &str = "row of version 4";
-
 /// What must have come.
-const MUST: [(&str, &[&str]); 14] = [
-    ("restore", &["yes, version 3", "yes, version 4", "no"]),
-    ("rawrestore", &["yes, version 3", "yes, version 4", "no"]),
-    ("convert", &CONVERT),
-    ("rawconvert", &CONVERT),
+const MUST: [(&str, &[&str]); 12] = [
+    ("restore", &["yes", "no"]),
+    ("rawrestore", &["yes", "no"]),
     ("open", &["yes", "no 34", "no 35", "no 36"]),
     ("cover", &COVER),
     ("contains", &["true", "false", "no 34"]),
@@ -160,11 +131,8 @@ const MUST: [(&str, &[&str]); 14] = [
     ("take", &["number", "no 34", "no 39"]),
     ("statement", &["S", "no 34", "no 40"]),
     ("write", &["row", "no 34", "no 40"]),
-    (
-        "veil",
-        &["row", ROW_4, "no 3", "no 4", "no 6", "no 40", "no 54"],
-    ),
-    ("read", &["row", ROW_4, "no 3", "no 4", "no 36", "no 54"]),
+    ("veil", &["row", "no 3", "no 4", "no 6", "no 40", "no 54"]),
+    ("read", &["row", "no 3", "no 4", "no 36", "no 54"]),
     ("state", &["none", "row"]),
 ];
 
@@ -211,7 +179,8 @@ pub fn stated<'a>(answers: &'a [(&Step, String)]) -> Vec<(Store, &'a str)> {
     let (mut store, mut lines) = (None, Vec::new());
     for (step, answer) in answers {
         match (step, answer.as_str()) {
-            (Step::Restore(given), "= yes") => store = Some(given.store()),
+            (Step::Restore(lines), "= yes") => store = Some(sheet::store_of(lines)),
+            (Step::RawRestore(raw), "= yes") => store = Some(raw.clone()),
             (_, line) if line.starts_with("= S,") => {
                 let store = store.clone().expect("a store is restored");
                 lines.push((store, &line[2..]));
@@ -222,20 +191,11 @@ pub fn stated<'a>(answers: &'a [(&Step, String)]) -> Vec<(Store, &'a str)> {
     lines
 }
 
-/// The answer without what it is about, and the version of a device; of a store's refusal without number and place.
+/// The answer without what it is about; of a store's refusal without number and place.
 pub fn class(step: &Step, answer: &str) -> String {
     let word = answer.split(' ').next().unwrap_or("");
     match (step, word) {
-        (Step::Restore(_), "no") => "no".into(),
-        (Step::Restore(given), _) => format!("yes, version {}", given.store().entries[0].version),
-        (Step::Convert { .. }, "no") => {
-            let words: Vec<&str> = answer.split(' ').take(2).collect();
-            words.join(" ")
-        }
-        (Step::Convert { wanted, given, .. }, _) => {
-            let version = given.store().entries[0].version;
-            format!("{version} to {wanted}")
-        }
+        (Step::Restore(_) | Step::RawRestore(_), "no") => "no".into(),
         (Step::Call(Call::Cover(from, to)), "true" | "false") => {
             let count: u64 = answer[word.len() + 1..].parse().expect("a count");
             let new = match count {
@@ -249,7 +209,6 @@ pub fn class(step: &Step, answer: &str) -> String {
         (_, "no" | "yes" | "true" | "false" | "none") => answer.into(),
         (_, line) if line.starts_with("S,") => "S".into(),
         (Step::Call(Call::Take), _) => "number".into(),
-        (Step::Veil { version: 4, .. } | Step::Read { version: 4, .. }, _) => ROW_4.into(),
         _ => "row".into(),
     }
 }

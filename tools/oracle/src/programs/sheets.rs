@@ -14,8 +14,6 @@ use std::io::Write;
 /// A sheet is handed to the program in at most so many pieces, and what is left.
 const PIECES: usize = 8;
 
-const GRANTED: [&str; 2] = ["granted", "granted, version 4"];
-
 /// So many sheets for each of TIMES.
 const SHEETS: usize = 2_000;
 const SHOWN: usize = 3;
@@ -50,13 +48,12 @@ pub fn print(seed: u64, times: u64) -> std::io::Result<bool> {
     done.map(|()| true)
 }
 
-/// A refusal's letter and number; all else is granted, with a device of version 3 or 4.
-pub fn class(sheet: &[u8], due: &str) -> String {
+/// A refusal's letter and number; all else is granted.
+pub fn class(due: &str) -> String {
     let words: Vec<&str> = due.split(',').collect();
     match words[0] {
         "R" | "X" => format!("{} {}", words[0], words[1]),
-        _ if sheet.starts_with(b"D,4,") => GRANTED[1].into(),
-        _ => GRANTED[0].into(),
+        _ => "granted".into(),
     }
 }
 
@@ -72,7 +69,7 @@ struct Due {
 impl Due {
     fn count(&mut self, sheet: &[u8], due: &str) {
         self.sheets += 1;
-        *self.answers.entry(class(sheet, due)).or_default() += 1;
+        *self.answers.entry(class(due)).or_default() += 1;
         let lines: Vec<&str> = due.lines().filter(|line| line.starts_with('S')).collect();
         self.lines += lines.len() as u64;
         if let (false, Ok(rows)) = (lines.is_empty(), sheet::read(sheet)) {
@@ -91,7 +88,7 @@ impl Due {
         let refusals = refusals.filter(|number| *number != questions::IN_RUN);
         let mut all: Vec<String> = refusals.map(|number| format!("R {number}")).collect();
         all.extend((41..=44).map(|number| format!("X {number}")));
-        all.extend(GRANTED.map(String::from));
+        all.push("granted".into());
         let missing: Vec<&String> = all
             .iter()
             .filter(|answer| !self.answers.contains_key(*answer))
@@ -106,7 +103,7 @@ impl Due {
 /// The model beside the Rust, and beside what is known beforehand.
 pub fn compare_rust(seed: u64, times: u64) -> bool {
     let mut due = Due::default();
-    let (mut known, mut remembering, mut faults) = (0, 0, Vec::new());
+    let (mut known, mut faults) = (0, Vec::new());
     each(seed, times, |made| {
         let model = sheet::statement(&made.sheet);
         due.count(&made.sheet, &model);
@@ -116,10 +113,9 @@ pub fn compare_rust(seed: u64, times: u64) -> bool {
                 faults.push(shown(&made.sheet, &format!("made to be {before}"), &model));
             }
         }
-        let sheet = statement::of_version_3(&made.sheet);
-        remembering += u64::from(sheet != made.sheet);
-        if let Some((model, rust)) = rust_fault(&sheet) {
-            faults.push(shown(&sheet, &rust, &model));
+        let rust = statement::statement(&made.sheet);
+        if !same(&model, &rust) {
+            faults.push(shown(&made.sheet, &rust, &model));
         }
     });
     let all = due.print();
@@ -127,23 +123,14 @@ pub fn compare_rust(seed: u64, times: u64) -> bool {
         println!("{fault}");
     }
     println!(
-        "sheets: {remembering} with a device of version 4, of which the Rust is asked in version 3"
-    );
-    println!(
         "sheets: {known} known beforehand, {} different",
         faults.len()
     );
     faults.is_empty() && all
 }
 
-/// What the model and the Rust print for a sheet whose device is not of version 4, if they differ.
-pub fn rust_fault(sheet: &[u8]) -> Option<(String, String)> {
-    let (model, rust) = (sheet::statement(sheet), statement::statement(sheet));
-    (!same(&model, &rust)).then_some((model, rust))
-}
-
 /// The Rust refuses without number and place, and some refusals it is not held to.
-fn same(model: &str, rust: &str) -> bool {
+pub fn same(model: &str, rust: &str) -> bool {
     let unnumbered = model.starts_with("R,") && rust == "R,?,?\n";
     let aside = |number: u32| model.starts_with(&format!("R,{number},"));
     model == rust || unnumbered || questions::NOT_IN_RUST.into_iter().any(aside)

@@ -1,6 +1,6 @@
 //! What the C functions answer.
 
-use crate::model::store::{self, Refusal, Store};
+use crate::model::store;
 
 /// Caps, day, beacon key, name length, the longest name, the static key.
 pub const LONGEST_CARD: usize = 1 + 4 + 32 + 1 + 48 + 1184;
@@ -39,36 +39,6 @@ impl From<store::Answer> for RestoreAnswer {
                 next_slot: 0,
                 index: refusal.index,
                 number: refusal.number,
-            },
-        }
-    }
-}
-
-/// What convert answers, laid out as the C function hands it back: 0 with how many bytes and entries were written, or the number
-/// of the question with the entry's index; 0 for what is not said.
-#[repr(C)]
-#[derive(Debug, Clone, Copy, PartialEq, Eq)]
-pub struct ConvertAnswer {
-    pub bytes: usize,
-    pub entries: usize,
-    pub index: usize,
-    pub number: u32,
-}
-
-impl From<&Result<Store, Refusal>> for ConvertAnswer {
-    fn from(made: &Result<Store, Refusal>) -> Self {
-        match made {
-            Ok(made) => ConvertAnswer {
-                bytes: made.run.len(),
-                entries: made.entries.len(),
-                index: 0,
-                number: 0,
-            },
-            Err(Refusal { number, index }) => ConvertAnswer {
-                bytes: 0,
-                entries: 0,
-                index: *index,
-                number: *number,
             },
         }
     }

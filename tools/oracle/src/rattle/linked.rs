@@ -1,10 +1,10 @@
-//! The C functions of the six static libraries, each behind a safe function.
+//! The C functions of the five static libraries, each behind a safe function.
 //! Nothing checks these declarations against the Rattle source: keep them in step by hand.
 
 use crate::model::lent::Lists;
 use crate::model::rows::Range;
 use crate::model::store::{Entry, Store};
-use crate::rattle::answers::{ConvertAnswer, LONGEST_CARD, RestoreAnswer, WriteAnswer};
+use crate::rattle::answers::{LONGEST_CARD, RestoreAnswer, WriteAnswer};
 
 // A slice passes as its pointer, then its length.
 unsafe extern "C" {
@@ -70,17 +70,6 @@ unsafe extern "C" {
         entries: *const Entry,
         entries_len: usize,
     ) -> RestoreAnswer;
-    fn sicklestar_convert(
-        run: *const u8,
-        run_len: usize,
-        entries: *const Entry,
-        entries_len: usize,
-        wanted: u32,
-        run_out: *mut u8,
-        run_out_len: usize,
-        made: *mut Entry,
-        made_len: usize,
-    ) -> ConvertAnswer;
     fn sicklestar_contains(
         contiguous: u32,
         above: *const u32,
@@ -236,24 +225,6 @@ pub fn restore(store: &Store) -> RestoreAnswer {
             store.run.len(),
             store.entries.as_ptr(),
             store.entries.len(),
-        )
-    }
-}
-
-/// Writes to the fronts of `run` and `entries`.
-pub fn convert(store: &Store, wanted: u32, run: &mut [u8], entries: &mut [Entry]) -> ConvertAnswer {
-    // SAFETY: all slices are alive, of these lengths, and apart; an `Entry` and the answer are laid out as in C.
-    unsafe {
-        sicklestar_convert(
-            store.run.as_ptr(),
-            store.run.len(),
-            store.entries.as_ptr(),
-            store.entries.len(),
-            wanted,
-            run.as_mut_ptr(),
-            run.len(),
-            entries.as_mut_ptr(),
-            entries.len(),
         )
     }
 }

@@ -1,12 +1,11 @@
 //! The model under the names of the C functions.
 
-use crate::model::convert::{self, Room};
 use crate::model::covered::Covered;
 use crate::model::lent::Lists;
 use crate::model::questions;
 use crate::model::rows::{self, Range, Reading};
-use crate::model::store::{Entry, Store};
-use crate::rattle::answers::{ConvertAnswer, LONGEST_CARD, RestoreAnswer, WriteAnswer};
+use crate::model::store::Store;
+use crate::rattle::answers::{LONGEST_CARD, RestoreAnswer, WriteAnswer};
 
 pub fn read_leb128(input: &[u8], answer: &mut [u64; 2]) -> u32 {
     match questions::read_leb128(input) {
@@ -95,19 +94,6 @@ pub fn contact_lists(version: u32, row: &[u8], lists: &mut Lists, out: &mut [u8]
 
 pub fn restore(store: &Store) -> RestoreAnswer {
     store.restore().into()
-}
-
-pub fn convert(store: &Store, wanted: u32, run: &mut [u8], entries: &mut [Entry]) -> ConvertAnswer {
-    let room = Room {
-        bytes: run.len(),
-        entries: entries.len(),
-    };
-    let made = convert::convert(store, wanted, room);
-    if let Ok(made) = &made {
-        run[..made.run.len()].copy_from_slice(&made.run);
-        entries[..made.entries.len()].copy_from_slice(&made.entries);
-    }
-    ConvertAnswer::from(&made)
 }
 
 fn covered(contiguous: u32, above: &[u32], count: usize) -> Covered {

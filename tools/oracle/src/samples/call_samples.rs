@@ -4,10 +4,9 @@ use crate::generate::inputs::Random;
 use crate::generate::script_pairs;
 use crate::hex::hex;
 use crate::model::runner::Runner;
-use crate::model::script::{Given, Step, Steps};
+use crate::model::script::{Step, Steps};
 use crate::model::sheet::Line;
-use crate::samples::convert_samples;
-use crate::samples::sheet_samples::{self, chained, port_4};
+use crate::samples::sheet_samples::{self, chained};
 use std::path::Path;
 
 const TEXT: &str = include_str!("calls.txt");
@@ -17,11 +16,19 @@ const SEED: u64 = 9;
 
 fn store(name: &str) -> Vec<Line> {
     match name {
+        "port" => sheet_samples::port(),
         "last-numbers" => sheet_samples::last_numbers(),
         "two-contacts" => sheet_samples::two(),
         "expired" => sheet_samples::expired_ranges(),
         "expired-acked" => sheet_samples::expired_acked(),
-        "port-veiled" => veiled(sheet_samples::port()),
+        "port-veiled" => {
+            let port = [Step::Restore(sheet_samples::port())];
+            let twin = script_pairs::twin(&mut Random::new(SEED), &port, 0);
+            let [Step::Restore(lines)] = twin.as_slice() else {
+                panic!("a restore stays one");
+            };
+            lines.clone()
+        }
         "port-unacked" => {
             let mut lines = sheet_samples::port();
             lines[2].msgno = 3;
@@ -41,24 +48,8 @@ fn store(name: &str) -> Vec<Line> {
             lines[0].blob.push(0);
             lines
         }
-        "port-4-veiled" => veiled(port_4(8)),
         _ => panic!("no store of the name {name}"),
     }
-}
-
-/// Other veiled bytes.
-fn veiled(lines: Vec<Line>) -> Vec<Line> {
-    let store = [Step::Restore(Given::Sheet(lines))];
-    let twin = script_pairs::twin(&mut Random::new(SEED), &store, 0);
-    let [Step::Restore(Given::Sheet(lines))] = twin.as_slice() else {
-        panic!("a restore stays one");
-    };
-    lines.clone()
-}
-
-/// The store of this name: one of version 4 or to be converted, or one that is restored alone.
-fn given(name: &str) -> Given {
-    convert_samples::given(name).unwrap_or_else(|| Given::Sheet(store(name)))
 }
 
 /// The port's store with so many chains, the last one current.
@@ -88,33 +79,13 @@ fn chained_rows() -> [(&'static str, Vec<u8>); 7] {
     ]
 }
 
-/// Device rows of version 4; the longer names first.
-fn device_rows() -> [(&'static str, Vec<u8>); 4] {
-    let row = port_4(8)[0].blob.clone();
-    let unfit = [&row[..46], &[0, 5, 0xa0]].concat();
-    [
-        ("@device-4-58", [&row[..], &[0]].concat()),
-        ("@device-4-56", row[..56].to_vec()),
-        ("@device-4-49-copies-0", unfit),
-        ("@device-4", row),
-    ]
-}
-
-/// The step of a line of the text: `restore NAME` or `convert WANTED RUN ENTRIES NAME`, which is `rawrestore` or `rawconvert` where
-/// a sheet cannot say it; or with `@NAME` for a row of the port's store or one of `chained_rows` and `device_rows`.
+/// The step of a line of the text: `restore NAME`, or with `@NAME` for a row of the port's store or one of `chained_rows`.
 fn step(line: &str) -> Step {
-    let words: Vec<&str> = line.split(' ').collect();
-    match *words.as_slice() {
-        ["restore", name] => return Step::Restore(given(name)),
-        ["convert", ref numbers @ .., name] => {
-            let none = format!("convert {} 0", numbers.join(" "));
-            let step = Steps::of(&none).next().and_then(Result::ok);
-            return step.expect("three numbers").with(given(name));
-        }
-        _ => {}
+    if let Some(name) = line.strip_prefix("restore ") {
+        return Step::Restore(store(name));
     }
     let mut line = line.to_string();
-    for (name, row) in chained_rows().into_iter().chain(device_rows()) {
+    for (name, row) in chained_rows() {
         line = line.replace(name, &hex(&row));
     }
     for (at, name) in ["@device", "@contact", "@queued", "@tombstone"]

@@ -33,13 +33,12 @@ pub fn lines() -> Vec<String> {
     lines
 }
 
-/// The number is 01's or 02's; whether the row is accepted, and how it is written, the Rust says too, but for refusals to which it is not held
-/// and versions that it does not know.
+/// The number is 01's or 02's; whether the row is accepted, and how it is written, the Rust says too, but for refusals to which it is not held.
 fn line<T: Row>(store: &Store, letter: char, version: u32, row: &[u8]) -> String {
     let answer = T::model(version, row).answer;
     let rust = T::rust(store, version, row);
     let number = answer.err().unwrap_or(0);
-    if T::in_rust(version) && !questions::NOT_IN_RUST.contains(&number) {
+    if !questions::NOT_IN_RUST.contains(&number) {
         assert_eq!(rust.is_some(), number == 0, "the Rust and 01 differ");
     }
     if let Some((_, again)) = rust {
@@ -77,26 +76,6 @@ fn devices(random: &mut Random) -> Rows {
     let unfit = set(&row, 46, &[0, 0, 0]).1;
     rows.extend(cut(&unfit, [47, 48]));
     rows.push(longer(&unfit, &[0]));
-    rows.extend(remembering(&row));
-    rows
-}
-
-/// Version 4: this row with next_slot behind it.
-fn remembering(row: &[u8]) -> Rows {
-    let of = |next_slot: u64| [row, &next_slot.to_be_bytes()].concat();
-    let mut rows: Rows = [0, 1, 1 << 32, u64::MAX]
-        .map(|next_slot| (4, of(next_slot)))
-        .to_vec();
-    let whole = of(8);
-    rows.extend([3, 5, 260].map(|version| (version, whole.clone())));
-    rows.extend([0, 44, 48, 49, 50, 56].map(|size| (4, whole[..size].to_vec())));
-    rows.extend([&[0][..], &[0; 8]].map(|more| (4, [&whole, more].concat())));
-    // The flag and the settings come before what is missing or too much behind them.
-    for (at, byte) in [(45, 2), (46, 0), (46, 17), (47, 0xff)] {
-        let unfit = set(&whole, at, &[byte]).1;
-        rows.extend([49, 56, 57].map(|size| (4, unfit[..size].to_vec())));
-        rows.push((4, longer(&unfit, &[0]).1));
-    }
     rows
 }
 

@@ -4,7 +4,7 @@ pub type Rows = Vec<(u32, Vec<u8>)>;
 
 /// Other versions, with a row and without one.
 pub fn versions(row: &[u8]) -> Rows {
-    let versions = [0, 1, 2, 4, 5, 259, u32::MAX];
+    let versions = [0, 1, 2, 4, 259, u32::MAX];
     let mut rows: Rows = versions.map(|version| (version, row.to_vec())).to_vec();
     rows.push((2, Vec::new()));
     rows

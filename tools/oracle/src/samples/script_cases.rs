@@ -1,11 +1,11 @@
-//! What the gate has `replay` run: a raw store on the first line, the script of samples/, then of short random lists those with an answer that none before
+//! What the gate has `replay` run: the script of samples/, then of short random lists those with an answer that none before
 //! them has, the shortest first, and last a line that is none. The transcript is the model's.
 
 use crate::model::runner::replay;
 use crate::model::script::Step;
 use crate::programs::answers::{answers, text};
 use crate::programs::expired;
-use crate::programs::scripts::{CONVERT, COVER, class, each, stated};
+use crate::programs::scripts::{COVER, class, each, stated};
 use std::collections::BTreeSet;
 use std::path::Path;
 
@@ -14,10 +14,6 @@ const SEED: u64 = 1;
 const TIMES: u64 = 1;
 /// The most bytes of a list.
 const LONGEST: usize = 5_000;
-/// A raw store on the first line of all, which `replay` once read from the wrong half of its run.
-const FIRST: &str = "rawrestore 1 00000000000000000000000000000000000000000000000000000000000000000000000000000000000000000101102760
-0 0 0 3 0 49
-";
 const LISTS: &str = "
 # Lists of calls made by tools/oracle (scripts 1 1): the shortest with an answer that none before them has.
 ";
@@ -44,13 +40,8 @@ pub fn write(folder: &Path, script: &str) -> std::io::Result<()> {
     for kind in expired::WAYS.map(String::from).into_iter().chain(covers) {
         assert!(seen.contains(&kind), "no short list has {kind}");
     }
-    for answer in CONVERT {
-        let has = |step| seen.contains(&named(step, "", answer));
-        let some = has("convert") || has("rawconvert");
-        assert!(some, "no short list converts with {answer}");
-    }
     let chosen: String = lists.iter().map(|steps| text(steps)).collect();
-    let input = [FIRST, script, LISTS, &chosen, NONE].concat();
+    let input = [script, LISTS, &chosen, NONE].concat();
     println!("stdin: {} lists, {} bytes", lists.len(), input.len());
     std::fs::create_dir_all(folder)?;
     std::fs::write(folder.join("stdout"), replay(&input))?;

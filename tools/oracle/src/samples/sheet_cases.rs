@@ -27,7 +27,7 @@ impl Cases {
     fn add(&mut self, sheet: &[u8], due: &str) {
         let line = format!("T {} {}\n", hex(sheet), hex(due.as_bytes()));
         if !self.lines.contains(&line) {
-            *self.answers.entry(class(sheet, due)).or_default() += 1;
+            *self.answers.entry(class(due)).or_default() += 1;
             self.lines.push(line);
         }
     }
@@ -43,7 +43,7 @@ pub fn write(folder: &Path) -> Result<(), Box<dyn std::error::Error>> {
     let mut taken: BTreeMap<String, usize> = BTreeMap::new();
     sheets::each(SEED, TIMES, |made| {
         let due = sheet::statement(&made.sheet);
-        let count = taken.entry(class(&made.sheet, &due)).or_default();
+        let count = taken.entry(class(&due)).or_default();
         if made.sheet.len() <= LONGEST && *count < EACH {
             *count += 1;
             cases.add(&made.sheet, &due);

@@ -1,4 +1,4 @@
-//! Sheets for samples/, from descriptions: document 01's, a larger one, one about expired ranges, two of version 4, and refused ones.
+//! Sheets for samples/, from descriptions: document 01's, a larger one, one about expired ranges, and refused ones.
 
 use crate::generate::cards;
 use crate::generate::inputs::Random;
@@ -199,30 +199,6 @@ pub fn port() -> Vec<Line> {
     lines(2, &[peer], &[(1, 2, false)], &[(7, None)])
 }
 
-/// The port's device: of version 3, or of version 4 with this next_slot.
-pub fn port_device(next_slot: Option<u64>) -> Device {
-    let device = rows::device(3, &port()[0].blob).answer;
-    Device {
-        next_slot,
-        ..device.expect("the port's device")
-    }
-}
-
-pub fn device_line(device: &Device) -> Line {
-    Line {
-        version: device.version(),
-        blob: device.row(),
-        ..port()[0].clone()
-    }
-}
-
-/// The port's store with a device of version 4.
-pub fn port_4(next_slot: u64) -> Vec<Line> {
-    let mut lines = port();
-    lines[0] = device_line(&port_device(Some(next_slot)));
-    lines
-}
-
 /// The port's contact with so many chains of different gens, the last `current` of them not superseded.
 pub fn chained(count: usize, current: usize) -> Contact {
     let row = &port()[1].blob;
@@ -347,8 +323,6 @@ pub fn sheets() -> Vec<Named> {
         ("last-numbers", text(last_numbers())),
         ("two-contacts", text(two())),
         ("expired", text(expired_ranges())),
-        ("next-slot", text(port_4(100))),
-        ("next-slot-alone", text(port_4(12)[..1].to_vec())),
         ("empty", String::new()),
     ];
     sheets.extend(refused().map(|(name, lines)| (name, text(lines))));
@@ -359,7 +333,7 @@ pub fn sheets() -> Vec<Named> {
 /// The port's store with one thing changed, which restore refuses.
 fn refused() -> impl Iterator<Item = (&'static str, Vec<Line>)> {
     type Change = fn(&mut Vec<Line>);
-    let changes: [(&str, Change); 13] = [
+    let changes: [(&str, Change); 9] = [
         ("refused-order", |lines| lines.swap(1, 2)),
         ("refused-version", |lines| lines[1].version = 2),
         ("refused-cut", |lines| lines[1].blob.truncate(100)),
@@ -378,16 +352,6 @@ fn refused() -> impl Iterator<Item = (&'static str, Vec<Line>)> {
         ("refused-unacked", |lines| lines[2].msgno = 3),
         ("refused-no-contact", |lines| lines[2].id = 0),
         ("refused-slot", |lines| lines[3].id = u64::MAX),
-        ("refused-slot-next", |lines| *lines = port_4(7)),
-        ("refused-next-slot-cut", |lines| lines[0].version = 4),
-        ("refused-next-slot-3", |lines| {
-            *lines = port_4(8);
-            lines[0].version = 3;
-        }),
-        ("refused-version-4", |lines| {
-            *lines = port_4(8);
-            lines[1].version = 4;
-        }),
     ];
     changes.into_iter().map(|(name, change)| {
         let mut lines = port();
@@ -421,8 +385,8 @@ fn unread() -> [Named; 7] {
 pub fn write(folder: &std::path::Path) -> std::io::Result<()> {
     for (name, sheet) in sheets() {
         let due = sheet::statement(sheet.as_bytes());
-        let fault = sheets::rust_fault(&statement::of_version_3(sheet.as_bytes()));
-        assert_eq!(fault, None, "{name}");
+        let rust = statement::statement(sheet.as_bytes());
+        assert!(sheets::same(&due, &rust), "{name}: {due} and {rust}");
         print!("{name}.sheet: {} bytes: {due}", sheet.len());
         std::fs::write(folder.join(format!("{name}.sheet")), &sheet)?;
         std::fs::write(folder.join(format!("{name}.statement")), due)?;

@@ -22,9 +22,6 @@ pub fn all(shelf: &Shelf) -> Vec<Store> {
         queued(shelf),
         courier(shelf),
         order(shelf),
-        remembered(shelf),
-        remembered_order(shelf),
-        remembered_rows(shelf),
     ]
     .concat()
 }
@@ -400,89 +397,4 @@ fn order(shelf: &Shelf) -> Vec<Store> {
     let mut stores = vec![outside, unknown, both];
     stores.extend(more.map(store_build::shared));
     stores
-}
-
-/// Devices of version 4: next_slot is kept, and 51 is asked of each courier row after 32 and 33.
-fn remembered(shelf: &Shelf) -> Vec<Store> {
-    let lists: [(u64, &[u64]); 15] = [
-        (0, &[]),
-        (100, &[]),
-        (MAX, &[]),
-        (8, &[7]),
-        (100, &[7, 3]),
-        (MAX, &[MAX - 1, 0]),
-        (WIDE + 1, &[WIDE, 1]),
-        (0, &[0]),
-        (8, &[8]),
-        (8, &[7, 9, 8]),
-        (WIDE, &[1, WIDE]),
-        (MAX - 1, &[MAX - 1]),
-        (MAX, &[MAX]),
-        (8, &[9, 9]),
-        (8, &[7, 7, 9]),
-    ];
-    let of = |(next_slot, slots): (u64, &[u64])| {
-        let slots = slots.iter().map(|slot| shelf.slot(*slot));
-        let device = shelf.remembering(1, next_slot);
-        with(&[device].into_iter().chain(slots).collect::<Vec<Item>>())
-    };
-    lists.map(of).to_vec()
-}
-
-/// 51 and other questions across the rows.
-fn remembered_order(shelf: &Shelf) -> Vec<Store> {
-    let device = || shelf.remembering(1, 8);
-    let carried = |slot| shelf.carried(slot, 5);
-    vec![
-        with(&[
-            device(),
-            shelf.contact(0),
-            shelf.own(0, 1),
-            shelf.carried(7, 0),
-        ]),
-        with(&[
-            device(),
-            shelf.contact(0),
-            shelf.queued(0, 1),
-            shelf.slot(8),
-        ]),
-        // 31 and 51 of one row; and of two rows.
-        with(&[device(), carried(9)]),
-        with(&[device(), shelf.slot(8), carried(1)]),
-        with(&[device(), carried(1), shelf.slot(8)]),
-        // 25 and 28 come before a slot, and a row that cannot be read before all of them.
-        with(&[device(), shelf.contact(1), shelf.slot(8)]),
-        with(&[
-            device(),
-            shelf.contact(0),
-            shelf.queued(0, 5),
-            shelf.slot(8),
-        ]),
-        with(&[device(), shelf.slot(8), cut(shelf.slot(1), 36)]),
-    ]
-}
-
-/// Rows under a device of version 4: 3 of those that have none but 3, and the device's own row.
-fn remembered_rows(shelf: &Shelf) -> Vec<Store> {
-    let device = || shelf.remembering(1, 8);
-    let beside = [
-        shelf.contact(0),
-        shelf.queued(0, 1),
-        shelf.slot(0),
-        shelf.carried(0, 0),
-    ];
-    let beside = beside.map(|row| with(&[device(), version(row, 4)]));
-    let alone = [
-        cut(device(), 49),
-        cut(device(), 56),
-        longer(device(), &[0]),
-        version(device(), 3),
-        version(device(), 5),
-        version(shelf.device(1), 4),
-        set(device(), 46, &[0]),
-        set(cut(device(), 49), 46, &[0]),
-        set(device(), 44, &[2]),
-    ];
-    let alone = alone.map(|device| with(&[device, shelf.slot(9)]));
-    [&beside[..], &alone].concat()
 }

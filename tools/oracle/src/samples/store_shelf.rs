@@ -50,15 +50,6 @@ impl Shelf {
         item(DEVICE, 0, 0, device.row(), 0)
     }
 
-    /// Of version 4.
-    pub fn remembering(&self, next_contact: u64, next_slot: u64) -> Item {
-        store_build::device_item(&Device {
-            next_contact,
-            next_slot: Some(next_slot),
-            ..self.device.clone()
-        })
-    }
-
     pub fn contact(&self, id: u64) -> Item {
         item(CONTACT, id, 0, self.contact.row(), 0)
     }

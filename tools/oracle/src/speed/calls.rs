@@ -12,7 +12,7 @@ use crate::generate::store_build::{self, Counts, Plan};
 use crate::model::memory::HAS;
 use crate::model::rows::{Contact, Device, Range};
 use crate::model::runner;
-use crate::model::script::{Given, Step};
+use crate::model::script::Step;
 use crate::model::sheet::{self, Line};
 use crate::programs::program::Program;
 use crate::speed::clock::{median, programs_time};
@@ -125,7 +125,7 @@ impl Script {
     }
 
     fn restore(&self) -> String {
-        format!("{}\n", Step::Restore(Given::Sheet(self.lines.clone())))
+        format!("{}\n", Step::Restore(self.lines.clone()))
     }
 
     fn of(&self, repeated: &str, times: usize) -> String {

@@ -121,7 +121,7 @@ fn line(random: &mut Random, plan: &Plan, order: &str) -> (f64, f64) {
 }
 
 /// All that restore is handed, read once.
-pub fn sum(store: &Store) -> u64 {
+fn sum(store: &Store) -> u64 {
     let words = store.run.chunks_exact(8);
     let word = |bytes: &[u8]| u64::from_le_bytes(bytes.try_into().expect("eight bytes"));
     let run = words.map(word).fold(0, u64::wrapping_add);
@@ -149,7 +149,7 @@ fn assert_granted(store: &Store, rows: &Rows) {
 }
 
 /// Ids, (contact, msgno) and slots rise.
-pub fn ascending(random: &mut Random, counts: Counts) -> Plan {
+fn ascending(random: &mut Random, counts: Counts) -> Plan {
     let ids = 0..counts.contacts as u64;
     let size = Size { unacked: 8, ..FULL };
     let contact = |id| (id, row_build::contact(random, size));
@@ -183,7 +183,7 @@ pub fn ascending(random: &mut Random, counts: Counts) -> Plan {
 }
 
 /// Nanoseconds of one call.
-pub fn each<T>(mut call: impl FnMut() -> T) -> f64 {
+fn each<T>(mut call: impl FnMut() -> T) -> f64 {
     let mut calls = 1;
     let mut time = timed(&mut call, calls);
     while time < RUN {

@@ -21,13 +21,10 @@ use Rattle.device_row.proofs.Device.row.Tie as tie
 abbrev start : tie.After-known-told → tie.Start
 start c = c.before.before.before.before.before
 
-abbrev version : tie.After-known-told → ℕ
-version c = (start c).args.version
-
 abbrev self : tie.After-known-told → Device
 self c = (start c).args.self
 
-size : (c : tie.After-known-told) → asked (device (version c)) (image (version c) (self c)) ≡ wrote c.before.size.given.0.0
+size : (c : tie.After-known-told) → asked (device 3) (image (self c)) ≡ wrote c.before.size.given.0.0
 size c = learn written_says c.before.before.before.device-size.ensures c.before.size.given.1
 
 device-size-requires : tie.Need-device-size-requires
@@ -45,13 +42,13 @@ returns c =
     let s = c.before.before.before.before in
     let out = s.args.out.now in
     let no = learn written_says c.before.before.device-size.ensures told in
-    ap (λ (r : Written). leaves r out) told ∙ sym (writes-refused (device s.args.version) (image s.args.version s.args.self) out no)
+    ap (λ (r : Written). leaves r out) told ∙ sym (writes-refused (device 3) (image s.args.self) out no)
 
 returns-2 : tie.Need-returns-2
-returns-2 c = sym (writes_short (device (version c.before)) (image (version c.before) (self c.before)) _ (size c.before) c.if1.true)
+returns-2 c = sym (writes_short (device 3) (image (self c.before)) _ (size c.before) c.if1.true)
 
 put-device-requires : tie.Need-put-device-requires
-put-device-requires c κs = let k = c.before.before in omega (arith, asked-length (device (version k)) (image (version k) (self k)) (size k))
+put-device-requires c κs = let k = c.before.before in omega (arith, asked-length (device 3) (image (self k)) (size k))
 
 same_length : tie.Need-same-length
 same_length c = search rules
@@ -61,10 +58,10 @@ returns-3 c =
     let p = c.before.before in
     let k = p.before.before.before in
     let out = (start k).args.out.now in
-    let n = asked-length (device (version k)) (image (version k) (self k)) (size k) in
-    let now-is = p.put-device.ensures.1.now-is ∙ put_front out (image (version k) (self k)) (omega arith) in
+    let n = asked-length (device 3) (image (self k)) (size k) in
+    let now-is = p.put-device.ensures.1.now-is ∙ put_front out (image (self k)) (omega arith) in
     ap (λ (l : List ℕ). leaves (Length k.before.size.given.0.0) l) now-is
-    ∙ sym (writes-row (device (version k)) (image (version k) (self k)) out (size k) p.before.before.if1.false)
+    ∙ sym (writes-row (device 3) (image (self k)) out (size k) p.before.before.if1.false)
 
 pub row-spec : {M : Type 1} → statement M
 row-spec = tie.close (tie.spec device-size-requires enum-known-size enum_told returns returns-2 put-device-requires same_length returns-3)

@@ -140,17 +140,8 @@ pub fn versioned<T>(
     row: &[u8],
     fields: impl FnOnce(&mut Cursor) -> Result<T, u32>,
 ) -> Reading<T> {
-    of_versions(&[3], version, row, fields)
-}
-
-pub fn of_versions<T>(
-    known: &[u32],
-    version: u32,
-    row: &[u8],
-    fields: impl FnOnce(&mut Cursor) -> Result<T, u32>,
-) -> Reading<T> {
     reading(row, |cursor| {
-        ask(questions::VERSION, known.contains(&version))?;
+        ask(questions::VERSION, version == 3)?;
         fields(cursor)
     })
 }

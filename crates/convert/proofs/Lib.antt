@@ -1,3 +1,0 @@
-pub mod Slots
-pub mod Stands
-pub mod Ends

@@ -1,4 +1,0 @@
-pub mod Turns
-pub mod Steps
-pub mod Device
-pub mod Enough
