@@ -18,7 +18,7 @@ const LF: u8 = b'\n';
 const COMMA: u8 = b',';
 
 // What a text says.
-#[derive(Drop)]
+#[derive(Clone, Copy)]
 pub enum Said {
     Number(u64),
     Nothing,

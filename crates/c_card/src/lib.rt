@@ -11,7 +11,7 @@ use rows::{Verdict, Written};
 
 // Granted: number is 0, and length is how many bytes were written. Refused: number is the question's, and length is 0.
 #[repr(C)]
-#[derive(Drop)]
+#[derive(Clone, Copy)]
 pub struct WriteAnswer {
     pub length: usize,
     pub number: u32,

@@ -10,7 +10,7 @@ use store::Entry;
 
 // Granted: number is 0, and next_contact and next_slot are the store's. Refused: number is the question's, and index the entry's. What is not said is 0.
 #[repr(C)]
-#[derive(Drop)]
+#[derive(Clone, Copy)]
 pub struct RestoreAnswer {
     pub next_contact: u64,
     pub next_slot: u64,

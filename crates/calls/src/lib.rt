@@ -18,7 +18,7 @@ use rows::ContactId;
 use store::Entry;
 
 // What restore leaves: its answer, and the mark for the next call.
-#[derive(Drop)]
+#[derive(Clone, Copy)]
 pub struct RestoreLeft {
     pub answer: Restored,
     pub mark: Mark,

@@ -10,7 +10,7 @@ use calls_open::Answer;
 use rows::ContactId;
 
 // An answer.
-#[derive(Drop)]
+#[derive(Clone, Copy)]
 pub struct Numbers {
     pub tag: u64,
     pub a: u64,
@@ -21,7 +21,7 @@ pub struct Numbers {
 }
 
 // What the numbers of a call say.
-#[derive(Drop)]
+#[derive(Clone, Copy)]
 pub enum Decoded {
     Restore,
     Made(Call),

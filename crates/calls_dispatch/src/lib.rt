@@ -10,7 +10,7 @@ use contact::Contact;
 use rows::ContactId;
 
 // A call on a restored store, with its own arguments.
-#[derive(Drop)]
+#[derive(Clone, Copy)]
 pub enum Call {
     Open(ContactId),
     Cover(u32, u32),
@@ -22,7 +22,7 @@ pub enum Call {
 }
 
 // What was asked before a call's own questions: whether it may go on, or the number of the question that was a no.
-#[derive(Drop)]
+#[derive(Clone, Copy)]
 pub enum Gate {
     Through,
     Refused(u8),
@@ -30,7 +30,7 @@ pub enum Gate {
 
 // What a call has to know of the store: whose row it is about, that contact's entry, how many of its rows are queued (for statement alone), and
 // what was asked before the call's own questions.
-#[derive(Drop)]
+#[derive(Clone, Copy)]
 pub struct Facts {
     pub sought: Sought,
     pub queued: u64,

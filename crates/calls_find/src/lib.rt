@@ -11,7 +11,7 @@ use rows::ContactId;
 use store::{Entry, Wanted};
 
 // A contact's entry; all zeros where there is none.
-#[derive(Drop)]
+#[derive(Clone, Copy)]
 pub struct Sought {
     pub entry: Entry,
     pub found: bool,

@@ -17,7 +17,7 @@ use rows::{ContactId, Verdict, Written};
 
 // Open answers yes; cover whether contiguous moved, and how many numbers were not covered before; contains and covers a truth; take the
 // number taken; write the length written; statement the length of the line. A no is the question's number.
-#[derive(Drop)]
+#[derive(Clone, Copy)]
 pub enum Answer {
     Yes,
     Advanced(bool, u64),
@@ -29,7 +29,7 @@ pub enum Answer {
 }
 
 // What a call leaves by value. What it leaves in lent lists stands there.
-#[derive(Drop)]
+#[derive(Clone, Copy)]
 pub struct Left {
     pub contact: Contact,
     pub mark: Mark,

@@ -22,7 +22,7 @@ use sheet::RECORD;
 
 // Between calls: the mark, the opened fields, and where the store of the last granted restore stands: len bytes of the lent run from start on, and n
 // entries of the lent records from the first-th on.
-#[derive(Drop)]
+#[derive(Clone, Copy)]
 pub struct Session {
     pub contact: Contact,
     pub mark: Mark,
@@ -33,7 +33,7 @@ pub struct Session {
 }
 
 // What a call leaves. Where the numbers are no call, it is not known, and has no answer.
-#[derive(Drop)]
+#[derive(Clone, Copy)]
 pub struct CallLeft {
     pub session: Session,
     pub known: bool,

@@ -2,7 +2,7 @@
 use rows::ContactId;
 
 // Whether a store is restored, and which contact is open.
-#[derive(Drop)]
+#[derive(Clone, Copy)]
 pub enum Mark {
     Fresh,
     Restored,

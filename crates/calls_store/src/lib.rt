@@ -13,14 +13,14 @@ use rows::{ContactId, Written};
 use store::{Entry, Omitted};
 
 // A contact's entry, and the answer to 34.
-#[derive(Drop)]
+#[derive(Clone, Copy)]
 pub struct Passed {
     pub sought: Sought,
     pub passed: bool,
 }
 
 // What 34 is asked of: of nothing, since nothing is restored or opened; of the store as it stands; or with the opened fields in place of a contact's row.
-#[derive(Drop)]
+#[derive(Clone, Copy)]
 pub enum Asking {
     Nothing,
     Stored,

@@ -17,7 +17,7 @@ use layout::question;
 use rows::{Verdict, Written};
 
 // A card. name_len says how much of name is a value, and bit 1 of caps (KCI) whether static_ek is one: what is left out is 0.
-#[derive(Drop)]
+#[derive(Clone, Copy)]
 pub struct Card {
     pub beacon_day: u32,
     pub caps: u8,
@@ -28,7 +28,7 @@ pub struct Card {
 }
 
 // A card's numbers. Its runs stand at fixed places of the input: beacon_key at 5, name at 38, and static_ek behind the name.
-#[derive(Drop)]
+#[derive(Clone, Copy)]
 pub struct CardAt {
     pub beacon_day: u32,
     pub caps: u8,
@@ -39,20 +39,20 @@ const BEACON_KEY_AT: usize = 5;
 
 const NAME_AT: usize = 38;
 
-#[derive(Drop)]
+#[derive(Clone, Copy)]
 enum CardField {
     Value(CardAt, usize),
     Refused(u8),
 }
 
-#[derive(Drop)]
+#[derive(Clone, Copy)]
 pub enum CardCheck {
     Fields(CardAt),
     Refused(u8),
 }
 
 // The card is all zeros where the verdict is a refusal.
-#[derive(Drop)]
+#[derive(Clone, Copy)]
 pub struct Decoded {
     pub verdict: Verdict,
     pub card: Card,

@@ -20,7 +20,7 @@ use layout::question;
 use rows::{Dir, PairingRole, Verdict, Verification};
 
 // The send chain's numbers; its key stands beside it. Absent until the first Resume.
-#[derive(Drop)]
+#[derive(Clone, Copy)]
 pub enum SendChain {
     Absent,
     Present { gen_: u8, dir: Dir, idx: u32 },
@@ -28,7 +28,7 @@ pub enum SendChain {
 
 // A contact but for the items of its lists, which the caller lends: chains to expired say how many items of each there are.
 // What a flag leaves out is 0: pending_chain_key and pending_msg_seed, and send_key.
-#[derive(Drop)]
+#[derive(Clone, Copy)]
 pub struct Contact {
     pub resume_index: u64,
     pub chains: usize,
@@ -59,14 +59,14 @@ pub struct Contact {
 }
 
 // The contact is all zeros where the verdict is a refusal.
-#[derive(Drop)]
+#[derive(Clone, Copy)]
 pub struct ContactRead {
     pub verdict: Verdict,
     pub contact: Contact,
 }
 
 // A contact row's numbers, and where its runs and lists stand in the row.
-#[derive(Drop)]
+#[derive(Clone, Copy)]
 pub struct ContactAt {
     pub paired: PairedAt,
     pub keys: KeysAt,
@@ -74,7 +74,7 @@ pub struct ContactAt {
     pub numbers: NumbersAt,
 }
 
-#[derive(Drop)]
+#[derive(Clone, Copy)]
 pub enum ContactCheck {
     Fields(ContactAt),
     Refused(u8),
@@ -304,7 +304,7 @@ impl Contact {
 // ---- a checked row's contact
 
 // The keys of a Resume that awaits its confirmation; 0 where there is none.
-#[derive(Drop)]
+#[derive(Clone, Copy)]
 struct PendingKeys {
     present: bool,
     chain_key: [u8; 32],
@@ -312,7 +312,7 @@ struct PendingKeys {
 }
 
 // The send chain, and its key; 0 where there is none.
-#[derive(Drop)]
+#[derive(Clone, Copy)]
 struct Send {
     chain: SendChain,
     key: [u8; 32],

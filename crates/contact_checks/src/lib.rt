@@ -14,7 +14,7 @@ ghost use Rattle.contact_checks.specs.Cells.{chain_width, superseded_at, gens, s
 const FEW: usize = 256;
 
 // What is asked of the chains: 17 and 18.
-#[derive(Drop)]
+#[derive(Clone, Copy)]
 pub struct ChainsAsked {
     pub one_current: bool,
     pub gens_distinct: bool,

@@ -21,7 +21,7 @@ const SEND_BYTES: usize = 38;
 const NUMBERS_BYTES: usize = 16;
 
 // The last number sent, and where the numbers that are not acknowledged stand in the row.
-#[derive(Drop)]
+#[derive(Clone, Copy)]
 pub struct SentAt {
     pub unacked: ListAt,
     pub sent_msgno: u32,

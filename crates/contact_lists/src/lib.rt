@@ -20,14 +20,14 @@ const RANGE_BYTES: usize = 8;
 const NUMBER_BYTES: usize = 4;
 
 // The items of a list: from first up to next.
-#[derive(Drop)]
+#[derive(Clone, Copy)]
 pub struct ListAt {
     pub first: usize,
     pub next: usize,
     pub count: usize,
 }
 
-#[derive(Drop)]
+#[derive(Clone, Copy)]
 pub enum ListField {
     Value(ListAt),
     Refused(u8),

@@ -20,14 +20,14 @@ use layout::question;
 use rows::{Dir, PairingRole, Verification};
 
 // A card in the row: from start up to end, with its fields' places in that part.
-#[derive(Drop)]
+#[derive(Clone, Copy)]
 pub struct CardOffset {
     pub start: usize,
     pub end: usize,
     pub at: CardAt,
 }
 
-#[derive(Drop)]
+#[derive(Clone, Copy)]
 enum CardField {
     Value(CardOffset, usize),
     Refused(u8),
@@ -63,7 +63,7 @@ fn card_at(row: &[u8], at: usize) -> CardField
 }
 
 // Who the contact is.
-#[derive(Drop)]
+#[derive(Clone, Copy)]
 pub struct PairedAt {
     pub pair_id: usize,
     pub th: usize,
@@ -73,7 +73,7 @@ pub struct PairedAt {
     pub verification: Verification,
 }
 
-#[derive(Drop)]
+#[derive(Clone, Copy)]
 pub enum PairedField {
     Value(PairedAt, usize),
     Refused(u8),
@@ -134,7 +134,7 @@ pub fn paired_at(row: &[u8], at: usize) -> PairedField
 }
 
 // Its keys, and the last number sent.
-#[derive(Drop)]
+#[derive(Clone, Copy)]
 pub struct KeysAt {
     pub resume_index: u64,
     pub door_a_to_b: usize,
@@ -144,7 +144,7 @@ pub struct KeysAt {
     pub sent_msgno: u32,
 }
 
-#[derive(Drop)]
+#[derive(Clone, Copy)]
 pub enum KeysField {
     Value(KeysAt, usize),
     Refused(u8),
@@ -198,20 +198,20 @@ pub fn keys_at(row: &[u8], at: usize) -> KeysField
 }
 
 // The keys of a Resume that awaits its confirmation: where chain_key and msg_seed start.
-#[derive(Drop)]
+#[derive(Clone, Copy)]
 pub enum PendingAt {
     Absent,
     Present(usize, usize),
 }
 
 // Where its keys start, and the next position.
-#[derive(Drop)]
+#[derive(Clone, Copy)]
 enum PendingKeysField {
     Value(usize, usize, usize),
     Short,
 }
 
-#[derive(Drop)]
+#[derive(Clone, Copy)]
 enum PendingField {
     Value(PendingAt, usize),
     Refused(u8),
@@ -260,7 +260,7 @@ fn pending_at(row: &[u8], at: usize) -> PendingField
 }
 
 // The send chain's numbers, and where its key starts.
-#[derive(Drop)]
+#[derive(Clone, Copy)]
 pub struct SendChainAt {
     pub key: usize,
     pub idx: u32,
@@ -268,13 +268,13 @@ pub struct SendChainAt {
     pub dir: Dir,
 }
 
-#[derive(Drop)]
+#[derive(Clone, Copy)]
 pub enum SendAt {
     Absent,
     Present(SendChainAt),
 }
 
-#[derive(Drop)]
+#[derive(Clone, Copy)]
 enum SendChainField {
     Value(SendChainAt, usize),
     Refused(u8),
@@ -292,7 +292,7 @@ impl SendChainField {
     }
 }
 
-#[derive(Drop)]
+#[derive(Clone, Copy)]
 enum SendField {
     Value(SendAt, usize),
     Refused(u8),
@@ -357,7 +357,7 @@ fn send_at(row: &[u8], at: usize) -> SendField
 }
 
 // What it awaits and sends, and its chains.
-#[derive(Drop)]
+#[derive(Clone, Copy)]
 pub struct ChainedAt {
     pub chains: ListAt,
     pub skipped: ListAt,
@@ -365,7 +365,7 @@ pub struct ChainedAt {
     pub send: SendAt,
 }
 
-#[derive(Drop)]
+#[derive(Clone, Copy)]
 pub enum ChainedField {
     Value(ChainedAt, usize),
     Refused(u8),
@@ -415,7 +415,7 @@ pub fn chained_at(row: &[u8], at: usize) -> ChainedField
 }
 
 // The message numbers.
-#[derive(Drop)]
+#[derive(Clone, Copy)]
 pub struct NumbersAt {
     pub above: ListAt,
     pub unacked: ListAt,
@@ -426,7 +426,7 @@ pub struct NumbersAt {
     pub contiguous: u32,
 }
 
-#[derive(Drop)]
+#[derive(Clone, Copy)]
 pub enum NumbersField {
     Value(NumbersAt, usize),
     Refused(u8),

@@ -11,7 +11,7 @@ use layout::question;
 use rows::ContactId;
 
 // What a courier row holds.
-#[derive(Drop)]
+#[derive(Clone, Copy)]
 pub enum Kind {
     Carried,
     Tombstone,
@@ -23,7 +23,7 @@ pub const CARRIED: u8 = 0;
 pub const TOMBSTONE: u8 = 1;
 
 // The numbers of a carried envelope, and where its runs start.
-#[derive(Drop)]
+#[derive(Clone, Copy)]
 pub struct CarriedAt {
     pub depositor: ContactId,
     pub tag: usize,
@@ -34,39 +34,39 @@ pub struct CarriedAt {
 }
 
 // The numbers of a tombstone, and where its runs start.
-#[derive(Drop)]
+#[derive(Clone, Copy)]
 pub struct TombstoneAt {
     pub tag: usize,
     pub s: usize,
     pub expiry_min: u32,
 }
 
-#[derive(Drop)]
+#[derive(Clone, Copy)]
 pub enum HeldAt {
     Carried(CarriedAt),
     Tombstone(TombstoneAt),
 }
 
-#[derive(Drop)]
+#[derive(Clone, Copy)]
 enum KindField {
     Value(Kind, usize),
     Refused(u8),
 }
 
 // What is carried ends where the row ends.
-#[derive(Drop)]
+#[derive(Clone, Copy)]
 enum CarriedField {
     Value(CarriedAt),
     Refused(u8),
 }
 
-#[derive(Drop)]
+#[derive(Clone, Copy)]
 enum TombstoneField {
     Value(TombstoneAt, usize),
     Short,
 }
 
-#[derive(Drop)]
+#[derive(Clone, Copy)]
 pub enum CourierCheck {
     Fields(HeldAt),
     Refused(u8),

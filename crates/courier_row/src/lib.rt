@@ -15,7 +15,7 @@ use layout::question;
 use rows::{ContactId, Verdict, Written};
 
 // A courier row but for its sealed text. Carried: depositor, tag, c, expiry_min, copies. A tombstone: tag, s, expiry_min. 0 stands where the kind leaves a field out.
-#[derive(Drop)]
+#[derive(Clone, Copy)]
 pub struct Held {
     pub depositor: ContactId,
     pub expiry_min: u32,
@@ -27,7 +27,7 @@ pub struct Held {
 }
 
 // What reading leaves: the sealed text stands from sealed_at on. After a refusal all is 0; there, and of a tombstone, sealed_at is the row's end.
-#[derive(Drop)]
+#[derive(Clone, Copy)]
 pub struct HeldRead {
     pub sealed_at: usize,
     pub verdict: Verdict,

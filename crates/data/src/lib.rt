@@ -11,7 +11,7 @@ ghost use Rattle.data.specs.Says.{leb128_says};
 use layout::question;
 use rows::Written;
 
-#[derive(Drop)]
+#[derive(Clone, Copy)]
 pub enum Leb128Field {
     Value(u32, usize),
     Refused(u8),

@@ -8,7 +8,7 @@ use fields::{FlagField, RunField, U8Field, U16Field, U32Field, U64Field};
 use layout::question;
 
 // The device's courier settings: the envelope lifetime in minutes, the copy budget, and whether it carries at all.
-#[derive(Drop)]
+#[derive(Clone, Copy)]
 pub struct CourierConfig {
     pub lifetime_min: u16,
     pub copies: u8,
@@ -16,7 +16,7 @@ pub struct CourierConfig {
 }
 
 // What CourierConfig::new answers: the settings, or that question 11 refused them.
-#[derive(Drop)]
+#[derive(Clone, Copy)]
 pub enum ConfigAnswer {
     Config(CourierConfig),
     Refused,
@@ -72,7 +72,7 @@ impl CourierConfig {
 }
 
 // A device row's numbers.
-#[derive(Drop)]
+#[derive(Clone, Copy)]
 pub struct DeviceAt {
     pub next_contact: u64,
     pub beacon_day: u32,
@@ -80,7 +80,7 @@ pub struct DeviceAt {
     pub read_receipts: bool,
 }
 
-#[derive(Drop)]
+#[derive(Clone, Copy)]
 pub enum DeviceCheck {
     Fields(DeviceAt),
     Refused(u8),

@@ -13,7 +13,7 @@ use device::{ConfigAnswer, CourierConfig, DeviceAt, DeviceCheck};
 use layout::question;
 use rows::{Verdict, Written};
 
-#[derive(Drop)]
+#[derive(Clone, Copy)]
 pub struct Device {
     pub next_contact: u64,
     pub beacon_day: u32,
@@ -26,7 +26,7 @@ pub struct Device {
 const BEACON_KEY_AT: usize = 4;
 
 // The device is all zeros where the verdict is a refusal.
-#[derive(Drop)]
+#[derive(Clone, Copy)]
 pub struct DeviceRead {
     pub verdict: Verdict,
     pub device: Device,

@@ -11,7 +11,7 @@ use layout::question;
 use rows::{Verdict, Written};
 
 // An envelope but for ct: tag, c, expiry in Unix minutes, copies.
-#[derive(Drop)]
+#[derive(Clone, Copy)]
 pub struct Envelope {
     pub expiry_min: u32,
     pub copies: u8,
@@ -20,7 +20,7 @@ pub struct Envelope {
 }
 
 // What decoding leaves: ct stands from ct_at on. After a refusal all is 0, and ct_at is the body's end.
-#[derive(Drop)]
+#[derive(Clone, Copy)]
 pub struct EnvelopeRead {
     pub ct_at: usize,
     pub verdict: Verdict,

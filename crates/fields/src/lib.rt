@@ -11,62 +11,62 @@ use layout::question;
 use rows::{Dir, PairingRole, Verification};
 
 // Where a run of bytes starts, and where it ends: the next position. Short: it is not wholly in the row.
-#[derive(Drop)]
+#[derive(Clone, Copy)]
 pub enum RunField {
     Value(usize, usize),
     Short,
 }
 
-#[derive(Drop)]
+#[derive(Clone, Copy)]
 pub enum U8Field {
     Value(u8, usize),
     Short,
 }
 
-#[derive(Drop)]
+#[derive(Clone, Copy)]
 pub enum U16Field {
     Value(u16, usize),
     Short,
 }
 
-#[derive(Drop)]
+#[derive(Clone, Copy)]
 pub enum U32Field {
     Value(u32, usize),
     Short,
 }
 
-#[derive(Drop)]
+#[derive(Clone, Copy)]
 pub enum U64Field {
     Value(u64, usize),
     Short,
 }
 
-#[derive(Drop)]
+#[derive(Clone, Copy)]
 pub enum FlagField {
     Value(bool, usize),
     Refused(u8),
 }
 
-#[derive(Drop)]
+#[derive(Clone, Copy)]
 pub enum RoleField {
     Value(PairingRole, usize),
     Refused(u8),
 }
 
 // The mode is always the same, so there is only the next position.
-#[derive(Drop)]
+#[derive(Clone, Copy)]
 pub enum ModeField {
     Value(usize),
     Refused(u8),
 }
 
-#[derive(Drop)]
+#[derive(Clone, Copy)]
 pub enum VerificationField {
     Value(Verification, usize),
     Refused(u8),
 }
 
-#[derive(Drop)]
+#[derive(Clone, Copy)]
 pub enum DirField {
     Value(Dir, usize),
     Refused(u8),

@@ -11,7 +11,7 @@ use fields::{FlagField, RunField, U8Field, U32Field, U64Field};
 use layout::question;
 
 // An own envelope's numbers, and where its runs start.
-#[derive(Drop)]
+#[derive(Clone, Copy)]
 pub struct EnvelopeAt {
     pub tag: usize,
     pub s: usize,
@@ -21,26 +21,26 @@ pub struct EnvelopeAt {
 }
 
 // Whether a row has an own envelope.
-#[derive(Drop)]
+#[derive(Clone, Copy)]
 pub enum OwnEnvelopeAt {
     Absent,
     Present(EnvelopeAt),
 }
 
-#[derive(Drop)]
+#[derive(Clone, Copy)]
 enum EnvelopeField {
     Value(EnvelopeAt, usize),
     Refused(u8),
 }
 
-#[derive(Drop)]
+#[derive(Clone, Copy)]
 enum OwnEnvelopeField {
     Value(OwnEnvelopeAt, usize),
     Refused(u8),
 }
 
 // A queued row's numbers, and where its runs start.
-#[derive(Drop)]
+#[derive(Clone, Copy)]
 pub struct QueuedAt {
     pub created_s: u64,
     pub sealed: usize,
@@ -49,7 +49,7 @@ pub struct QueuedAt {
     pub envelope: OwnEnvelopeAt,
 }
 
-#[derive(Drop)]
+#[derive(Clone, Copy)]
 pub enum QueuedCheck {
     Fields(QueuedAt),
     Refused(u8),

@@ -14,7 +14,7 @@ use queued::{OwnEnvelopeAt, QueuedAt, QueuedCheck};
 use rows::{Verdict, Written};
 
 // The numbers of a sender's own envelope, if there is one.
-#[derive(Drop)]
+#[derive(Clone, Copy)]
 pub enum OwnEnvelope {
     Absent,
     Present {
@@ -25,7 +25,7 @@ pub enum OwnEnvelope {
 }
 
 // A queued row but for its sealed text. tag and s are the envelope's: 0 where there is none.
-#[derive(Drop)]
+#[derive(Clone, Copy)]
 pub struct Outgoing {
     pub created_s: u64,
     pub idx: u32,
@@ -36,7 +36,7 @@ pub struct Outgoing {
 }
 
 // What reading leaves: the sealed text stands from sealed_at on. After a refusal all is 0, and sealed_at is the row's end.
-#[derive(Drop)]
+#[derive(Clone, Copy)]
 pub struct QueuedRead {
     pub sealed_at: usize,
     pub verdict: Verdict,

@@ -12,21 +12,21 @@ ghost use Rattle.reader.specs.Reader.{range_says, ended, end_says};
 use fields::{DirField, FlagField, RunField, U8Field, U16Field, U32Field, U64Field};
 use layout::question;
 
-#[derive(Drop)]
+#[derive(Clone, Copy)]
 struct Reader<'a> {
     row: &'a [u8],
     at: usize,
 }
 
 // A range: from, to, and the position behind it.
-#[derive(Drop)]
+#[derive(Clone, Copy)]
 pub enum RangeField {
     Value(u32, u32, usize),
     Short,
 }
 
 // The position after an item, or after several.
-#[derive(Drop)]
+#[derive(Clone, Copy)]
 pub enum EndField {
     Value(usize),
     Refused(u8),

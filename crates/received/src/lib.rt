@@ -17,7 +17,7 @@ pub const MAX_RANGES: usize = 65_535;
 // What a cover leaves. from..to is the range that it makes with those that it touches or overlaps; before and after are how many others stay.
 // 1..contiguous counts as the first range, as 0..contiguous: before is 0 where it is part of from..to, which then is no range above.
 // moved says whether contiguous did, and added how many numbers were not covered before.
-#[derive(Drop)]
+#[derive(Clone, Copy)]
 pub struct Change {
     pub before: usize,
     pub after: usize,
@@ -30,14 +30,14 @@ pub struct Change {
 }
 
 // Refused: the question whose answer is no.
-#[derive(Drop)]
+#[derive(Clone, Copy)]
 pub enum Planned {
     Change(Change),
     Refused(u8),
 }
 
 // A range, and the index of the first range behind it.
-#[derive(Drop)]
+#[derive(Clone, Copy)]
 struct Merged {
     next: usize,
     from: u32,

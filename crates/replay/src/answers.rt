@@ -8,7 +8,7 @@ use libc::STDOUT_FILENO;
 use rows::{ContactId, Written};
 
 // What a line leaves: the session, and the line that is to be printed.
-#[derive(Drop)]
+#[derive(Clone, Copy)]
 pub struct Answered {
     pub session: Session,
     pub said: Written,

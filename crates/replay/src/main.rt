@@ -41,7 +41,7 @@ const UNKNOWN: u64 = 103;
 
 // ---- what is kept between lines, beside the session and the memory
 
-#[derive(Drop)]
+#[derive(Clone, Copy)]
 struct Script {
     // the number of the last line
     number: u64,
@@ -200,7 +200,7 @@ fn finish(s: Script, failed: bool, line: &mut [u8]) {
     }
 }
 
-#[derive(Drop)]
+#[derive(Clone, Copy)]
 struct Left {
     session: Session,
     s: Script,

@@ -11,7 +11,7 @@ pub const LINE: u8 = 1;
 
 pub const END: u8 = 2;
 
-#[derive(Drop)]
+#[derive(Clone, Copy)]
 pub struct Window {
     // the bytes from at up to held are yet to be looked at
     at: usize,

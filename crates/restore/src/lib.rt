@@ -15,7 +15,7 @@ use restore_across::Across;
 use store::{Asked, Entry, Omitted};
 
 // next_contact and next_slot; or the number of the question whose answer is no, and the entry's index.
-#[derive(Drop)]
+#[derive(Clone, Copy)]
 pub enum Restored {
     Granted(u64, u64),
     Refused(u8, usize),

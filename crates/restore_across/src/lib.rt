@@ -15,14 +15,14 @@ use layout::question;
 use store::{Asked, Entry, Omitted, Wanted};
 
 // What is asked of a queued row's contact: sent_msgno, and where in its row the unacked numbers start and how many they are.
-#[derive(Drop)]
+#[derive(Clone, Copy)]
 pub struct Owner {
     pub unacked: usize,
     pub count: usize,
     pub sent_msgno: u32,
 }
 
-#[derive(Drop)]
+#[derive(Clone, Copy)]
 pub struct Progress {
     pub next_contact: u64,
     // one above the highest slot so far
@@ -32,7 +32,7 @@ pub struct Progress {
     pub owner: Owner,
 }
 
-#[derive(Drop)]
+#[derive(Clone, Copy)]
 pub enum Across {
     Going(Progress),
     Refused(u8, usize),

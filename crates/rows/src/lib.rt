@@ -1,17 +1,17 @@
 // What rows are made of: the enums behind their code bytes, the sizes and limits that their layouts cite, and the answers about rows.
 
 // A contact's number, apart from slots and message numbers.
-#[derive(Drop)]
+#[derive(Clone, Copy)]
 pub struct ContactId(pub u64);
 
 // How a contact was paired.
-#[derive(Drop)]
+#[derive(Clone, Copy)]
 pub enum PairingRole {
     A,
     B,
 }
 
-#[derive(Drop)]
+#[derive(Clone, Copy)]
 pub enum Verification {
     Unverified,
     Verified,
@@ -19,21 +19,21 @@ pub enum Verification {
 }
 
 // The direction of a message chain, named after the sender's Resume role.
-#[derive(Drop)]
+#[derive(Clone, Copy)]
 pub enum Dir {
     I,
     R,
 }
 
 // What a row reader answers beside the struct that it fills.
-#[derive(Drop)]
+#[derive(Clone, Copy)]
 pub enum Verdict {
     Accepted,
     Refused(u8),
 }
 
 // What a row writer answers: the length written, or the question whose answer is no.
-#[derive(Drop)]
+#[derive(Clone, Copy)]
 pub enum Written {
     Length(usize),
     Refused(u8),

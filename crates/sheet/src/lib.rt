@@ -56,7 +56,7 @@ const WAIT: u8 = 6;
 const REFUSED: u8 = 7;
 
 // What is kept between bytes. Fields stand from wide to narrow, so that no padding lies between them.
-#[derive(Drop)]
+#[derive(Clone, Copy)]
 pub struct State {
     // the last three decimals of the line
     pub oldest: u64,
@@ -78,7 +78,7 @@ pub struct State {
     pub phase: u8,
 }
 
-#[derive(Drop)]
+#[derive(Clone, Copy)]
 pub enum Answer {
     // so many lines and blob bytes
     Read(usize, usize),

@@ -14,7 +14,7 @@ use statement_text::TEXT_BYTES;
 const RECORDS: usize = RECORD * LINES;
 
 // What was read so far. After the last piece, or after a read that failed, there is no more.
-#[derive(Drop)]
+#[derive(Clone, Copy)]
 struct Reading {
     state: State,
     more: bool,
@@ -22,7 +22,7 @@ struct Reading {
 }
 
 // What is to be printed, in the text; nothing where a read failed.
-#[derive(Drop)]
+#[derive(Clone, Copy)]
 struct Reported {
     written: Written,
     failed: bool,

@@ -29,14 +29,14 @@ pub const TEXT_BYTES: usize = 76949;
 const LAST_FIELDS: usize = 4;
 
 // The numbers of an entry's line, if it has one.
-#[derive(Drop)]
+#[derive(Clone, Copy)]
 pub struct Line {
     pub fields: [u64; 7],
     pub held: bool,
 }
 
 // The length of the lines of all contacts, and how many these are.
-#[derive(Drop)]
+#[derive(Clone, Copy)]
 pub struct Measured {
     pub len: usize,
     pub contacts: u64,

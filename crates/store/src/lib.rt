@@ -7,7 +7,7 @@ use rows::ContactId;
 
 // Where a row stands in the run, and of which kind, contact or slot, message and version it is.
 #[repr(C)]
-#[derive(Drop)]
+#[derive(Clone, Copy)]
 pub struct Entry {
     pub id: u64,
     pub start: usize,
@@ -18,14 +18,14 @@ pub struct Entry {
 }
 
 // Every answer so far was yes, or the first no: the question's number and the entry's index.
-#[derive(Drop)]
+#[derive(Clone, Copy)]
 pub enum Asked {
     Going,
     Refused(u8, usize),
 }
 
 // The contact whose row is left out while the questions are asked, with its sent_msgno.
-#[derive(Drop)]
+#[derive(Clone, Copy)]
 pub enum Omitted {
     Nothing,
     Contact(ContactId, u32),
@@ -41,7 +41,7 @@ pub const QUEUED: u32 = 2;
 pub const COURIER: u32 = 3;
 
 // An entry that is looked for: of this kind, and this contact or slot; where the kind is queued, of this message too.
-#[derive(Drop)]
+#[derive(Clone, Copy)]
 pub struct Wanted {
     pub id: u64,
     pub msgno: u32,

@@ -9,7 +9,7 @@ mod leads;
 
 // What a first byte calls for: how many bytes the character has, 0 where none starts so, and the limits of the second one, 0 where there is none.
 // The bytes behind that are tails, 80..BF.
-#[derive(Drop)]
+#[derive(Clone, Copy)]
 pub struct Lead {
     pub len: u8,
     pub lo: u8,

@@ -17,14 +17,14 @@ use sheet_entries::ENTRIES;
 const HIGHEST_32: u64 = 0xffff_ffff;
 
 // How many cases of a letter there were, and how many of them came out different.
-#[derive(Drop)]
+#[derive(Clone, Copy)]
 struct Tally {
     cases: u64,
     different: u64,
 }
 
 // One for each letter: L, W, N, C, D, Q, K, P, S, T.
-#[derive(Drop)]
+#[derive(Clone, Copy)]
 struct Tallies {
     read: Tally,
     written: Tally,
