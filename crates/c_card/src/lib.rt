@@ -1,5 +1,7 @@
 // The functions that Rust and C call, under their C names; `rt staticlib export` makes the library. A slice passes as its pointer and its length.
 // None requires anything of its caller. A granted call answers 0, a refused one the question's number; what a refused call was lent stays as it was.
+#![tactic(auto)]
+
 ghost use Rattle.std.specs.Prelude.{◌≡◌};
 ghost use Rattle.rows.specs.Answers.{written_says};
 ghost use Rattle.c_card.specs.Faces.{leaves, zero_or, length_or, read_leb128, write_leb128, is_utf8, rewrite_card};

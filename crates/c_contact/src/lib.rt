@@ -1,5 +1,7 @@
 // The functions on contact rows that Rust and C call, under their C names. A slice passes as its pointer and its length.
 // Neither requires anything of its caller. A granted call answers 0, a refused one the question's number; what a refused call was lent stays as it was.
+#![tactic(auto)]
+
 ghost use Rattle.std.specs.Prelude.{◌≡◌};
 ghost use Rattle.contact.specs.Contact.{lists_before, lists_after};
 ghost use Rattle.rewrite.specs.Rewrite.{rewrites};

@@ -1,5 +1,7 @@
 // Restore as Rust and C call it, under its C name. A slice passes as its pointer and its length; an entry and the answer have C's layout.
 // Nothing is required of the caller, and nothing lent is written.
+#![tactic(auto)]
+
 ghost use Rattle.std.specs.Prelude.{◌≡◌};
 ghost use Rattle.store.specs.Store.{store_of, restore};
 ghost use Rattle.restore.specs.Restored.{answered};

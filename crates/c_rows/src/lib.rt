@@ -1,5 +1,7 @@
 // The functions on rows and covered numbers that Rust and C call, under their C names. A slice passes as its pointer and its length.
 // None requires anything of its caller. A granted call answers 0, a refused one the question's number; what a refused call was lent stays as it was.
+#![tactic(auto)]
+
 ghost use Rattle.std.specs.Prelude.{◌≡◌, ◌≤◌, length};
 ghost use Rattle.layout.specs.Form.{flag_byte};
 ghost use Rattle.layout.specs.Write.{wrote, writes};

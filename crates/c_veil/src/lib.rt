@@ -1,4 +1,6 @@
 // Veil for Rust and C, under its C name. A slice passes as its pointer and its length.
+#![tactic(auto)]
+
 ghost use Rattle.std.specs.Prelude.{◌≡◌};
 ghost use Rattle.c_card.specs.Faces.{leaves, shown, zero_or};
 ghost use Rattle.veil.specs.Veil.{veil_of};

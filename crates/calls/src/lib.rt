@@ -1,5 +1,7 @@
 // The calls of document 01 on a store and an open contact. Each asks 34 of all that it is handed, and then what follows it; a no changes nothing.
 // A caller keeps run, entries, mark, opened fields and lent lists, and hands them to the next call as the last granted one left them.
+#![tactic(auto)]
+
 ghost use Rattle.std.specs.Prelude.{◌≡◌, List, ℕ};
 ghost use Rattle.contact.specs.Contact.{lists_before, lists_after};
 ghost use Rattle.calls_step.specs.Step.{step};

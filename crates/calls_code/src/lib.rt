@@ -1,5 +1,7 @@
 // Calls and answers as numbers: a call is six, its code and what follows it; an answer is six too, its tag and what follows it.
 // `specs/Encoding.antt` says which call and which answer they are.
+#![tactic(auto)]
+
 ghost use Rattle.std.specs.Prelude.{◌≡◌, cond, List, ℕ};
 ghost use Rattle.calls_dispatch.specs.Dispatch.{says};
 ghost use Rattle.calls_code.specs.Encoding.{call_in, six_of};

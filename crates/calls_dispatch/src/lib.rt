@@ -1,5 +1,7 @@
 // One step: any call but restore, apart from the store. What a call has to know of the store is handed in; where a question before the call was a no, that is
 // the answer, and nothing changes.
+#![tactic(auto)]
+
 ghost use Rattle.contact.specs.Contact.{lists_before, lists_after};
 ghost use Rattle.calls_dispatch.specs.Dispatch.{done, Stepped};
 

@@ -1,5 +1,7 @@
 // What is looked for among lent entries: a contact's entry, and its queued ones. Queued ones are gone through by a loop with one call in its turn; where nothing
 // is to be found the loop has no turn.
+#![tactic(auto)]
+
 ghost use Rattle.std.specs.Prelude.{◌≡◌, false, cond, ◌-◌, ◌^◌, ◌≤◌, ◌<◌, length, take, ltb};
 ghost use mathlib.Core.List.{foldl};
 ghost use Rattle.store.specs.Kinds.{QUEUED};

@@ -1,4 +1,6 @@
 // A list of calls, encoded as numbers, run one after the other in lent memory: `call_code` says what the numbers are, `session` what stands between calls.
+#![tactic(auto)]
+
 ghost use Rattle.std.specs.Prelude.{◌≡◌, ◌+◌, ◌*◌, ◌≤◌, length};
 ghost use Rattle.put.specs.Put.{put};
 ghost use Rattle.contact.specs.Contact.{lists_before, lists_after};

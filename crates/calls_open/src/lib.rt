@@ -1,5 +1,7 @@
 // The calls but restore, apart from the store, each in one function: what a call asks, answers and leaves once the questions before it are a yes.
 // A refusal changes nothing: the opened fields and the mark come back as they were handed in.
+#![tactic(auto)]
+
 ghost use Rattle.std.specs.Prelude.{◌≡◌};
 ghost use Rattle.rows.specs.Answers.{written_says};
 ghost use Rattle.contact.specs.Contact.{lists_before, lists_after};

@@ -1,5 +1,7 @@
 // What stands between calls, a session, and one encoded call made of it in lent memory. A store is a part of the lent run and of the lent records, six numbers
 // for each entry.
+#![tactic(auto)]
+
 ghost use Rattle.std.specs.Prelude.{◌≡◌, List, [], ◌∷◌, cond, ℕ, ◌*◌, drop};
 ghost use Rattle.std.proofs.Math.Option.{some};
 ghost use Rattle.contact.specs.Contact.{Lists, lists_before, lists_after};

@@ -1,5 +1,7 @@
 // Question 34: whether a store would pass 1 to 33 and 54, as it stands or with opened fields in place of a contact's row. That row is written nowhere: the fields are
 // asked what a writer asks, the store with the row left out, and the contact's queued rows 29 by the lent numbers.
+#![tactic(auto)]
+
 ghost use Rattle.std.specs.Prelude.{◌≡◌, ◌&&◌, not};
 ghost use Rattle.contact.specs.Contact.{lists, lists_before};
 ghost use Rattle.restore.specs.Restored.{is_granted};

@@ -1,5 +1,7 @@
 // The calls of document 01 for a program, which has its entries as records: each fills a table, lends its first entries and makes the call.
 // A count above the table's length counts as that length.
+#![tactic(auto)]
+
 ghost use Rattle.std.specs.Prelude.{◌≡◌, min};
 ghost use Rattle.contact.specs.Contact.{lists_before, lists_after};
 ghost use Rattle.calls_step.specs.Step.{step};

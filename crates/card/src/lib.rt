@@ -1,4 +1,6 @@
 // Contact cards, as card.rs has them: decode and encode.
+#![tactic(auto)]
+
 ghost use Rattle.std.specs.Prelude.{◌≡◌, ◌++◌, ◌+◌, ◌-◌, ◌≤◌, length, take, drop};
 ghost use Rattle.layout.specs.Veil.{plain, zeros};
 ghost use Rattle.layout.specs.Form.{bytes, only_if};

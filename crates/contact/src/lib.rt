@@ -1,4 +1,6 @@
 // Contact rows, as state.rs has them: checked, and read into a struct and five lent lists.
+#![tactic(auto)]
+
 ghost use Rattle.std.specs.Prelude.{◌≡◌, ◌/◌, ◌<◌};
 ghost use Rattle.layout.specs.Read.{first};
 ghost use Rattle.layout.specs.Layout.{read_row};

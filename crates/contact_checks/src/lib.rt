@@ -1,4 +1,6 @@
 // Questions 17 to 24 of a contact, which its lists are asked once all of them were read: over a row's bytes, and over lent lists.
+#![tactic(auto)]
+
 ghost use Rattle.std.specs.Prelude.{◌≡◌, cond, ◌&&◌, ◌+◌, ◌*◌, ◌^◌, ◌≤◌, ◌<◌, length, take, drop, eqb};
 ghost use Rattle.layout.specs.Form.{u32};
 ghost use Rattle.layout.specs.Layout.{group};

@@ -1,4 +1,6 @@
 // Contact rows, as state.rs has them: the row that a struct and five lent lists stand for is stored part by part.
+#![tactic(auto)]
+
 ghost use Rattle.std.specs.Prelude.{◌≡◌, true, [], ◌∷◌, ◌++◌, ◌+◌, ◌*◌, ◌≤◌, length, take};
 ghost use Rattle.layout.specs.Form.{bytes_of, u32};
 ghost use Rattle.layout.specs.Layout.{print, group, optional, list};

@@ -1,5 +1,7 @@
 // What a queued row is asked about, taken from the row of its contact once that row is known to be accepted. Card, skipped keys and ranges are stepped over by
 // their lengths; chains are read one by one, since each has a flag. Neither the card's questions nor 54 and 17 to 24 are asked again.
+#![tactic(auto)]
+
 ghost use Rattle.layout.specs.Layout.{group};
 ghost use Rattle.contact_parts.specs.Parts.{paired, chained};
 ghost use Rattle.contact_known.specs.Known.{EndsAt, EndsBehindFlag, UnackedAt, Sent};

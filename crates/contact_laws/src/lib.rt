@@ -1,1 +1,2 @@
 // What is proved of contact rows read and written.
+#![tactic(auto)]

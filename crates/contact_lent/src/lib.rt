@@ -1,5 +1,7 @@
 // The lists of an opened contact, which a caller lends: chains in places of 51 bytes (the row's bytes, and 0 where superseded_s is absent), skipped keys
 // in places of 46 bytes (the row's bytes), ranges and numbers flat. They are filled from a row that was read, sized, and written as a row has them.
+#![tactic(auto)]
+
 ghost use Rattle.std.specs.Prelude.{◌≡◌, ◌+◌, ◌*◌, ◌≤◌, length, take, drop};
 ghost use Rattle.layout.specs.Form.{u32, times, print_many};
 ghost use Rattle.layout.specs.Layout.{group};

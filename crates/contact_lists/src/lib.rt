@@ -1,4 +1,6 @@
 // The counted lists of a contact row: where each starts and ends, and how many items it has. Nothing is copied.
+#![tactic(auto)]
+
 ghost use Rattle.std.specs.Prelude.{◌≡◌, ◌≤◌, length};
 ghost use Rattle.layout.specs.Veil.{plain};
 ghost use Rattle.layout.specs.Form.{bytes, times, u32};

@@ -1,4 +1,6 @@
 // Contact rows: the fields of a row, part by part, checked and placed; nothing is copied.
+#![tactic(auto)]
+
 ghost use Rattle.std.specs.Prelude.{◌≡◌};
 ghost use Rattle.layout.specs.Questions.{CARD_END};
 ghost use Rattle.layout.specs.Field.{read_at};

@@ -1,4 +1,6 @@
 // Contact rows written, as `row` of state.rs writes them: from a struct and five lent lists. A writer asks 36, then what reading the row would ask, then 40.
+#![tactic(auto)]
+
 ghost use Rattle.std.specs.Prelude.{◌≡◌, [], ◌+◌, ◌*◌, ◌/◌, ◌^◌, ◌≤◌, ◌<◌, take};
 ghost use Rattle.rows.specs.Answers.{written_says};
 ghost use Rattle.rows.specs.Answers as answers;

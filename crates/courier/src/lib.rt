@@ -1,4 +1,6 @@
 // Courier rows: their questions, as state.rs has them (Held, Tombstone). The sealed text stays in the row.
+#![tactic(auto)]
+
 ghost use Rattle.std.specs.Prelude.{◌≡◌, drop};
 ghost use Rattle.layout.specs.Field.{read_at};
 ghost use Rattle.layout.specs.Layout.{group, read_row};

@@ -1,4 +1,6 @@
 // Courier rows read into a struct and written from it, as state.rs has them (Held, Tombstone). The sealed text stays in the row.
+#![tactic(auto)]
+
 ghost use Rattle.std.proofs.Common.{inl, inr};
 ghost use Rattle.std.specs.Prelude.{◌≡◌, ◌+◌, ◌≤◌, length};
 ghost use Rattle.layout.specs.Layout.{read_row};

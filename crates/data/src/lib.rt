@@ -1,5 +1,7 @@
 // Unsigned LEB128 of a number of 32 bits, seven bits to a byte and the lowest first: read at a position of a row, and written.
 // As in the Rust, but the reader says why it refuses, and the writer stores into a lent buffer.
+#![tactic(auto)]
+
 ghost use Rattle.std.specs.Prelude.{◌≡◌, ◌+◌, ◌≤◌, length};
 ghost use Rattle.layout.specs.Form.{leb128, leb_print};
 ghost use Rattle.layout.specs.Field.{read_at};

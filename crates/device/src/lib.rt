@@ -1,4 +1,6 @@
 // Device rows, as state.rs has them: the courier settings, and the questions of a row.
+#![tactic(auto)]
+
 ghost use Rattle.std.specs.Prelude.{◌≡◌};
 ghost use Rattle.layout.specs.Layout.{read_row};
 ghost use Rattle.rows.specs.Rows as layouts;

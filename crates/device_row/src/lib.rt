@@ -1,4 +1,6 @@
 // Device rows read into a struct and written from it, as state.rs has them.
+#![tactic(auto)]
+
 ghost use Rattle.std.specs.Prelude.{◌≡◌, ◌+◌, ◌≤◌, length};
 ghost use Rattle.layout.specs.Form.{flag_byte};
 ghost use Rattle.layout.specs.Layout.{read_row};

@@ -1,4 +1,6 @@
 // Courier envelopes, as courier.rs has them: Envelope with decode, encode and valid. The sealed text ct stays in the body.
+#![tactic(auto)]
+
 ghost use Rattle.std.specs.Prelude.{◌≡◌, ◌+◌, ◌-◌, ◌≤◌, length, leb};
 ghost use Rattle.layout.specs.Layout.{read_row};
 ghost use Rattle.layout.specs.Write.{writes};

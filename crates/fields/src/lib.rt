@@ -1,4 +1,6 @@
 // Fields of a row, each taken at a position: the value and the next position, or the question whose answer is no.
+#![tactic(auto)]
+
 ghost use Rattle.std.specs.Prelude.{◌≡◌, ◌+◌, ◌^◌, ◌≤◌, ◌<◌, length, drop};
 ghost use Rattle.layout.specs.Veil.{plain};
 ghost use Rattle.layout.specs.Form.{big_endian, bytes, number, u8, u16, u32, u64, flag};

@@ -1,4 +1,6 @@
 // A filter of numbers in a lent list of words, so that what is looked for among many is mostly known to be new without a search.
+#![tactic(auto)]
+
 ghost use Rattle.std.specs.Prelude.{◌≡◌};
 ghost use Rattle.filter.specs.Filter.{mixed, bit_of, mask_of, is_set, added};
 

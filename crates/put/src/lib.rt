@@ -1,5 +1,7 @@
 // Stores into a lent buffer: bytes from a position on, all else as it was. Each function answers the position behind what it stored, where the next one goes on.
 // They are the parts of writers, which see to the room once, before their first store: so each `requires` the room for what it stores, and refuses nothing.
+#![tactic(auto)]
+
 ghost use Rattle.std.specs.Prelude.{◌≡◌, [], ◌∷◌, ◌+◌, ◌<◌, ◌≤◌, length, take, drop};
 ghost use Rattle.layout.specs.Form.{bytes_of};
 ghost use Rattle.layout.specs.Veil.{zeros};

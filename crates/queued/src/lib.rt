@@ -1,4 +1,6 @@
 // Queued rows: their questions, as chain.rs and state.rs have them (Queued, OwnEnvelope). The sealed text stays in the row.
+#![tactic(auto)]
+
 ghost use Rattle.std.specs.Prelude.{◌≡◌, drop};
 ghost use Rattle.layout.specs.Field.{read_at};
 ghost use Rattle.layout.specs.Layout.{group, optional, read_row};

@@ -1,4 +1,6 @@
 // Queued rows read into a struct and written from it, as chain.rs and state.rs have them (Queued, OwnEnvelope, Outgoing). The sealed text stays in the row.
+#![tactic(auto)]
+
 ghost use Rattle.std.specs.Prelude.{◌≡◌, [], ◌∷◌, ◌++◌, ◌+◌, ◌≤◌, length};
 ghost use Rattle.layout.specs.Form.{bytes_of, flag_byte};
 ghost use Rattle.layout.specs.Layout.{read_row};

@@ -1,4 +1,6 @@
 // The cursor of state.rs: a row and a position in it, passed by value and handed back at another position. It is private, as there; `range_at` and `skipped_end` read through it, field by field up to the first refusal.
+#![tactic(auto)]
+
 ghost use Rattle.std.specs.Prelude.{◌≡◌};
 ghost use Rattle.layout.specs.Questions.{ROW_END};
 ghost use Rattle.layout.specs.Veil.{plain};

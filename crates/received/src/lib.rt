@@ -1,6 +1,8 @@
 // `Received` of state.rs: the message numbers of a contact that are covered, 1..contiguous and the ranges above. The ranges stand in a lent
 // flat list, from, to, from, to, and `count` says how many there are; a count above the lent pairs counts as the lent pairs.
 // The contracts hold on every list. What they mean for the set of covered numbers is said of canonical ones (specs/Proved.antt).
+#![tactic(auto)]
+
 ghost use Rattle.std.specs.Prelude.{◌≡◌, ◌∷◌, ◌++◌, ◌+◌, ◌-◌, ◌*◌, ◌≤◌, ◌<◌, min, max, length, get_or, take, drop};
 ghost use Rattle.layout.specs.Veil.{zeros};
 ghost use Rattle.rows.specs.Checks.{any};

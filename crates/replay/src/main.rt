@@ -1,6 +1,8 @@
 // Replays scripts of calls: reads lines from standard input, makes each call with the proved libraries, and prints its answer as one line.
 // Nothing is kept of a line that was read but what the calls left; a script may be of any length. The store of the last granted restore stands in
 // one half of the run and of the records, and the next one is read into the other half, where a row of veil or read stands too.
+#![tactic(auto)]
+
 mod answers;
 mod commands;
 mod window;

@@ -1,5 +1,7 @@
 // A line of a script of calls: words with a space between them, a command's name and behind it its numbers, and for some commands other words.
 // A line that is no command is `UNKNOWN`. Behind `rawrestore` stand lines of six decimals, and the lent lengths of `read` are five with commas.
+#![tactic(auto)]
+
 ghost use Rattle.std.specs.Prelude.{◌≡◌, ◌&&◌, ◌≤◌};
 ghost use Rattle.ascii.specs.Words.{SPACE, before, parted};
 ghost use Rattle.replay_script.specs.Script.{same, code_of, narrow_of, wide_of, others_of, highest_at, is_decimal_at, decimals_from, command_of, is_entry, are_lengths, lengths_for};

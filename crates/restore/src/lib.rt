@@ -1,4 +1,6 @@
 // Restore: questions 1 to 33 and 54 of a run of bytes and an entry for each row. It writes to nothing.
+#![tactic(auto)]
+
 ghost use Rattle.std.specs.Prelude.{◌≡◌, ◌+◌, ◌-◌, ◌≤◌, ◌<◌, length};
 ghost use Rattle.store.specs.Rounds.{turn, turns};
 ghost use Rattle.store.specs.Store.{store_of, restore};

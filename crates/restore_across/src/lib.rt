@@ -1,5 +1,7 @@
 // Questions 25 to 33, across the rows: of each entry in turn, against those before it. The first entry that has a duplicate before it is known in advance, so that
 // an entry is new by its index; a queued row's contact is looked for from where the last one was found on, and what is asked of that contact is kept.
+#![tactic(auto)]
+
 ghost use Rattle.std.specs.Prelude.{◌≡◌, eqb};
 ghost use Rattle.rows.specs.Checks.{any};
 ghost use Rattle.store.specs.Kinds.{CONTACT};

@@ -1,6 +1,8 @@
 // The first entry that has a duplicate before it, at near linear cost in any order. Where every entry is above the one before it there is none. Else the entries are
 // added one after the other to a filter of bits, a local array: a key one of whose bits is clear was not added, so its entry is new, and only of the others a duplicate
 // is looked for. The filter holds so many keys; of more entries those of one part are added, and then those of the next, by a hash of their keys.
+#![tactic(auto)]
+
 ghost use Rattle.std.specs.Prelude.{◌≡◌, ◌-◌, length};
 ghost use Rattle.store.specs.Kinds.{kind_of};
 ghost use Rattle.store.specs.Store.{entry_at};

@@ -1,4 +1,6 @@
 // Entries as a lent slice of structs: one is copied out by value, one is stored, and one is looked for. Everything else takes an entry by value.
+#![tactic(auto)]
+
 ghost use Rattle.std.specs.Prelude.{◌≡◌, ◌-◌, length, set};
 ghost use Rattle.store.specs.Store.{entry_at};
 ghost use Rattle.store.specs.Find.{is_wanted, first_of};

@@ -1,4 +1,6 @@
 // One turn of the rounds that ask each entry by itself: 1, 2, and the round of 3 to 24 and 54.
+#![tactic(auto)]
+
 ghost use Rattle.std.specs.Prelude.{◌≡◌, [], ◌∷◌, eqb};
 ghost use Rattle.layout.specs.Questions.{VERSION};
 ghost use Rattle.layout.specs.Layout.{read_row};

@@ -1,4 +1,6 @@
 // Rows read, and written again to the front of an output: what reading a row asks, then room for it. A refusal changes nothing.
+#![tactic(auto)]
+
 ghost use Rattle.std.specs.Prelude.{◌≡◌};
 ghost use Rattle.layout.specs.Layout.{read_row};
 ghost use Rattle.layout.specs.Write.{writes};

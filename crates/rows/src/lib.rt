@@ -1,4 +1,5 @@
 // What rows are made of: the enums behind their code bytes, the sizes and limits that their layouts cite, and the answers about rows.
+#![tactic(auto)]
 
 // A contact's number, apart from slots and message numbers.
 #[derive(Clone, Copy)]

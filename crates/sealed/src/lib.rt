@@ -1,4 +1,6 @@
 // What the rows that hold a sealed text share: which lengths are allowed, and the text as a part of its row.
+#![tactic(auto)]
+
 ghost use Rattle.std.specs.Prelude.{◌≡◌, drop, eqb};
 ghost use Rattle.rows.specs.Checks.{any, INNER_BUCKETS, sealed_queued, sealed_carried};
 

@@ -3,6 +3,8 @@
 // Blob bytes go to a lent run, and of each line six numbers, its record, go to a lent list: kind, id, start, length, msgno, version. A run shorter than
 // 61,440 bytes, or a list for fewer than 512 records, lower the limits of 44; no number and no byte past them is touched.
 // 41 is answered as soon as it is sure. 42 and 43 wait for the line's end, since its later bytes can still make it 41.
+#![tactic(auto)]
+
 ghost use Rattle.std.specs.Prelude.{◌≡◌, List, [], ◌∷◌, true, cond, ℕ, ◌+◌, ◌-◌, ◌%◌, ◌<◌, ◌≤◌, length, eqb};
 ghost use Rattle.rows.specs.Checks.{all};
 ghost use Rattle.ascii.specs.Hex.{is_hex, hex_pairs};

@@ -1,5 +1,7 @@
 // The entry that six numbers of a sheet's records are, and a table of entries for a program: a local array that is filled from such records, and whose first
 // entries are lent. It is made where it is lent, since an array by value is copied whole on its way. A count above the table's length counts as that length.
+#![tactic(auto)]
+
 ghost use Rattle.std.specs.Prelude.{◌≡◌, ◌*◌, ◌≤◌, ◌<◌, min, length, get_or, set, drop};
 ghost use Rattle.store.specs.Store.{store_of, restore, no_entry};
 ghost use Rattle.restore_entries.specs.Next.{next_in};

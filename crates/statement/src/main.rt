@@ -1,5 +1,7 @@
 // Prints the statement of the sheet on standard input, which may be of any length and come in any pieces: it is read to its end before anything is printed.
 // A line of any length takes the same memory.
+#![tactic(auto)]
+
 ghost use Rattle.std.specs.Prelude.{◌≡◌, true, false, ◌*◌, ◌≤◌, length};
 ghost use Rattle.sheet.specs.Sheet.{BLOB_BYTES, LINES};
 ghost use Rattle.sheet.specs.Machine.{at_line, held};

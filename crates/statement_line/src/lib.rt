@@ -3,6 +3,8 @@
 // A line is written whole to the front of the output, or not at all (question 40).
 // The count is 2^64 - 1 where the ranges hold more than that, which 65,535 ranges, the most that a contact row has, never do.
 // A range whose first number is above its last holds none, and a count of ranges above the lent pairs counts as the lent pairs.
+#![tactic(auto)]
+
 ghost use Rattle.std.specs.Prelude.{◌≡◌, ◌+◌, ◌-◌, ◌*◌, ◌^◌, ◌≤◌, ◌<◌, min, max, length};
 ghost use Rattle.layout.specs.Write.{stored};
 ghost use Rattle.rows.specs.Answers.{leaves};

@@ -1,6 +1,8 @@
 // The text of a sheet, from what its reader leaves: the state behind the last byte, the run with the blob bytes and the records of the lines.
 // The store that was read is restored, and its text written; a refusal has a line of its own. A state that no reader left may say more lines or blob bytes than
 // the lent lists have room for: as many count as there is room for.
+#![tactic(auto)]
+
 ghost use Rattle.std.specs.Prelude.{◌≡◌, ◌≤◌, min, length};
 ghost use Rattle.layout.specs.Write.{stored};
 ghost use Rattle.rows.specs.Answers.{leaves};

@@ -1,4 +1,6 @@
 // The text of a store: the S line of each contact, and the T line. Entries stand as six numbers each, as the sheet leaves them (`table`). A text is measured first and then written, so that nothing is written where the output is too short.
+#![tactic(auto)]
+
 ghost use Rattle.std.specs.Prelude.{◌≡◌, ◌∷◌, [], ◌++◌, cond, ◌+◌, ◌*◌, ◌^◌, ◌≤◌, ◌<◌, length, drop};
 ghost use Rattle.layout.specs.Layout.{read_row, group};
 ghost use Rattle.layout.specs.Write.{stored};

@@ -1,4 +1,6 @@
 // What restore is handed beside the run of bytes, and how far its questions have come.
+#![tactic(auto)]
+
 ghost use Rattle.std.specs.Prelude.{◌≡◌};
 ghost use Rattle.store.specs.Store.{within, part_of};
 ghost use Rattle.store.specs.Omitted.{is_omitted};

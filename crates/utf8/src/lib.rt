@@ -1,4 +1,6 @@
 // Whether a name is UTF-8 by RFC 3629, character by character, by a table of first bytes.
+#![tactic(auto)]
+
 ghost use Rattle.std.specs.Prelude.{◌≡◌, ◌<◌, length, get_or};
 ghost use Rattle.rows.specs.Utf8.{limits, is_in, following, utf8};
 ghost use Rattle.utf8.specs.Lead.{leads, lead_of, Character};

@@ -1,5 +1,7 @@
 // Replays stored cases without Rust: reads standard input, one case a line, computes our answer to each with the proved libraries, and compares it with the stored one.
 // Prints `different: LINE` for each case that comes out different or cannot be read, and at the end a line for each letter.
+#![tactic(auto)]
+
 ghost use Rattle.std.specs.Prelude.{◌≡◌, ◌+◌, ◌*◌, ◌<◌, ◌≤◌, min, length};
 ghost use Rattle.sheet_entries.specs.Table.{ENTRIES};
 

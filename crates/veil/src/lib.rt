@@ -1,5 +1,7 @@
 // Veil, document 01's: a row alone, copied with 0 for its veiled bytes. The row is read, the veiled fields are set to 0, and it is written again;
 // a contact row is checked, and copied part by part.
+#![tactic(auto)]
+
 ghost use Rattle.std.specs.Prelude.{◌≡◌};
 ghost use Rattle.rows.specs.Rows as layouts;
 ghost use Rattle.rows.specs.Answers.{leaves};

@@ -1,4 +1,6 @@
 // The parts of a contact row, stored with 0 for their veiled bytes. What is not veiled is copied from the row, or stored from the numbers that were read.
+#![tactic(auto)]
+
 ghost use Rattle.std.specs.Prelude.{◌≡◌, ◌+◌, ◌≤◌, ◌<◌, length};
 ghost use Rattle.layout.specs.Veil.{veil};
 ghost use Rattle.layout.specs.Layout.{print, blank_of, group, optional_layout};

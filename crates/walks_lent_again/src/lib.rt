@@ -1,4 +1,6 @@
 // A loop that lends two `&mut` slices again in each turn, as tools/walks writes its proof, until the product has one. `sheet_entries::fill_from` lends one.
+#![tactic(auto)]
+
 ghost use Rattle.std.specs.Prelude.{◌≡◌, map, ◌≤◌, min, length, set, take};
 ghost use Rattle.store.specs.Store.{entry_at};
 ghost use Rattle.restore_entries.specs.Next.{next_in};

@@ -1,4 +1,6 @@
 // Numbers in a wider type, with what their own type says of them; and the lower and the higher of two numbers of 64 bits.
+#![tactic(auto)]
+
 ghost use Rattle.std.specs.Prelude.{◌≡◌, ◌^◌, ◌<◌, min, max};
 
 pub fn wide(x: u32) -> u64
