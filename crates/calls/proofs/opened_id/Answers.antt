@@ -1,0 +1,9 @@
+-- `calls::opened_id` meets its contract: by the mark.
+-- Assumes nothing.
+use Rattle.calls.proofs.opened_id.Goals as goal
+
+pub returns-in-Fresh : goal.returns-in-Fresh
+returns-in-Fresh c = rw c.enum_told-1.given.1
+
+pub returns-in-Restored : goal.returns-in-Restored
+returns-in-Restored c = rw c.enum_told-in-Restored-1.given.1

@@ -1,0 +1,55 @@
+-- `calls_find::is_among` meets its contract. The invariant: what the search finds from low on and below high is what it finds of all.
+-- Assumes nothing.
+use Prim.Native.Nat.{ℕ, ◌+◌, ◌-◌, ◌/◌, ◌<◌, min}
+use mathlib.Core.List.{List}
+use mathlib.Core.Path.{◌≡◌, sym, subst, ◌∙◌}
+use native.Mathlib.Omega.{arith}
+use lib.ListN.{length, take, get_or, length-take}
+use lib.Seq.{get_or-take}
+use Rattle.calls_find.specs.Sought.{is_found}
+use Rattle.calls_find.proofs.Halves.{Searching, begins, ends, found, goes_above, goes-below}
+use Rattle.calls_find.proofs.is_among.Goals as goal
+
+below : (count i : ℕ) (l : List ℕ) → i < length (take count l) → (i < count) × (i < length l)
+below count i l h = let b : i < min count (length l) = rw (length-take count l) at h in (omega arith, omega arith)
+
+pub loop-low-init : goal.loop-low-init
+loop-low-init c =
+    let long : length ((take c.args.count c.args.numbers.now)) ≡ c.held-high.result = sym c.held-high.ensures in
+    (omega arith, subst (λ (high : ℕ). Searching ((take c.args.count c.args.numbers.now)) c.args.msgno 0 high (is_found ((take c.args.count c.args.numbers.now)) c.args.msgno)) long (begins ((take c.args.count c.args.numbers.now)) c.args.msgno))
+
+pub overflow_add-mid : goal.overflow_add-mid
+overflow_add-mid c =
+    omega (arith, (let here : let a = c.args in ((let l = c.loop-low in l.low + (l.high - l.low) / 2) < a.count) × ((let l = c.loop-low in l.low + (l.high - l.low) / 2) < length a.numbers.now) = let a = c.args in below a.count ((let l = c.loop-low in l.low + (l.high - l.low) / 2)) a.numbers.now ((let inside : (let l = c.loop-low in l.low + (l.high - l.low) / 2) < length ((take c.args.count c.args.numbers.now)) = omega arith in inside)) in here))
+
+pub offset_bounds-numbers-mid : goal.offset_bounds-numbers-mid
+offset_bounds-numbers-mid c =
+    omega (arith, (let here : let a = c.args in ((let l = c.loop-low in l.low + (l.high - l.low) / 2) < a.count) × ((let l = c.loop-low in l.low + (l.high - l.low) / 2) < length a.numbers.now) = let a = c.args in below a.count ((let l = c.loop-low in l.low + (l.high - l.low) / 2)) a.numbers.now ((let inside : (let l = c.loop-low in l.low + (l.high - l.low) / 2) < length ((take c.args.count c.args.numbers.now)) = omega arith in inside)) in here))
+
+pub bounds-numbers-mid : goal.bounds-numbers-mid
+bounds-numbers-mid c =
+    ((let here : let a = c.args in ((let l = c.loop-low in l.low + (l.high - l.low) / 2) < a.count) × ((let l = c.loop-low in l.low + (l.high - l.low) / 2) < length a.numbers.now) = let a = c.args in below a.count ((let l = c.loop-low in l.low + (l.high - l.low) / 2)) a.numbers.now ((let inside : (let l = c.loop-low in l.low + (l.high - l.low) / 2) < length ((take c.args.count c.args.numbers.now)) = omega arith in inside)) in here)).1
+
+pub returns-then-number-msgno : goal.returns-then-number-msgno
+returns-then-number-msgno c =
+    let l = c.loop-low in
+    found ((take c.args.count c.args.numbers.now)) c.args.msgno l.low l.high l.invariant.1 c.loop-low-test.true (sym ((let read : let a = c.args in get_or a.numbers.now ((let l = c.loop-low in l.low + (l.high - l.low) / 2)) 0 ≡ get_or ((take c.args.count c.args.numbers.now)) ((let l = c.loop-low in l.low + (l.high - l.low) / 2)) 0 = let a = c.args in sym (get_or-take a.count a.numbers.now ((let l = c.loop-low in l.low + (l.high - l.low) / 2)) 0 ((let here : let a = c.args in ((let l = c.loop-low in l.low + (l.high - l.low) / 2) < a.count) × ((let l = c.loop-low in l.low + (l.high - l.low) / 2) < length a.numbers.now) = let a = c.args in below a.count ((let l = c.loop-low in l.low + (l.high - l.low) / 2)) a.numbers.now ((let inside : (let l = c.loop-low in l.low + (l.high - l.low) / 2) < length ((take c.args.count c.args.numbers.now)) = omega arith in inside)) in here)).0) in read)) ∙ c.if-number-msgno.true)
+
+pub overflow_add-low : goal.overflow_add-low
+overflow_add-low c =
+    omega (arith, (let here : let a = c.args in ((let l = c.loop-low in l.low + (l.high - l.low) / 2) < a.count) × ((let l = c.loop-low in l.low + (l.high - l.low) / 2) < length a.numbers.now) = let a = c.args in below a.count ((let l = c.loop-low in l.low + (l.high - l.low) / 2)) a.numbers.now ((let inside : (let l = c.loop-low in l.low + (l.high - l.low) / 2) < length ((take c.args.count c.args.numbers.now)) = omega arith in inside)) in here))
+
+pub loop-low-preserved-then-number-msgno-2 : goal.loop-low-preserved-then-number-msgno-2
+loop-low-preserved-then-number-msgno-2 c =
+    let l = c.loop-low in
+    (l.invariant.0, goes_above ((take c.args.count c.args.numbers.now)) c.args.msgno l.low l.high l.invariant.1 c.loop-low-test.true (omega (arith, (let read : let a = c.args in get_or a.numbers.now ((let l = c.loop-low in l.low + (l.high - l.low) / 2)) 0 ≡ get_or ((take c.args.count c.args.numbers.now)) ((let l = c.loop-low in l.low + (l.high - l.low) / 2)) 0 = let a = c.args in sym (get_or-take a.count a.numbers.now ((let l = c.loop-low in l.low + (l.high - l.low) / 2)) 0 ((let here : let a = c.args in ((let l = c.loop-low in l.low + (l.high - l.low) / 2) < a.count) × ((let l = c.loop-low in l.low + (l.high - l.low) / 2) < length a.numbers.now) = let a = c.args in below a.count ((let l = c.loop-low in l.low + (l.high - l.low) / 2)) a.numbers.now ((let inside : (let l = c.loop-low in l.low + (l.high - l.low) / 2) < length ((take c.args.count c.args.numbers.now)) = omega arith in inside)) in here)).0) in read))))
+
+pub loop-low-preserved : goal.loop-low-preserved
+loop-low-preserved c =
+    let l = c.loop-low in
+    (omega (arith, (let inside : (let l = c.loop-low in l.low + (l.high - l.low) / 2) < length ((take c.args.count c.args.numbers.now)) = omega arith in inside)), goes-below ((take c.args.count c.args.numbers.now)) c.args.msgno l.low l.high l.invariant.1 c.loop-low-test.true (omega (arith, (let read : let a = c.args in get_or a.numbers.now ((let l = c.loop-low in l.low + (l.high - l.low) / 2)) 0 ≡ get_or ((take c.args.count c.args.numbers.now)) ((let l = c.loop-low in l.low + (l.high - l.low) / 2)) 0 = let a = c.args in sym (get_or-take a.count a.numbers.now ((let l = c.loop-low in l.low + (l.high - l.low) / 2)) 0 ((let here : let a = c.args in ((let l = c.loop-low in l.low + (l.high - l.low) / 2) < a.count) × ((let l = c.loop-low in l.low + (l.high - l.low) / 2) < length a.numbers.now) = let a = c.args in below a.count ((let l = c.loop-low in l.low + (l.high - l.low) / 2)) a.numbers.now ((let inside : (let l = c.loop-low in l.low + (l.high - l.low) / 2) < length ((take c.args.count c.args.numbers.now)) = omega arith in inside)) in here)).0) in read))))
+
+pub returns : goal.returns
+returns c =
+    let l = c.loop-low in
+    ends ((take c.args.count c.args.numbers.now)) c.args.msgno l.low l.high l.invariant.1 c.loop-low-test.false

@@ -1,0 +1,9 @@
+-- `calls_open::covered` meets its contract: by what was planned.
+-- Assumes nothing.
+use Rattle.calls_open.proofs.covered.Goals as goal
+
+pub returns-in-Change : goal.returns-in-Change
+returns-in-Change c = rw (c.planned-1.given.1, c.renumbered.ensures)
+
+pub returns-in-Refused : goal.returns-in-Refused
+returns-in-Refused c = rw c.planned-in-Refused-1.given.1

@@ -1,0 +1,19 @@
+-- `calls_open::open` meets its contract: 35, and then what reading the row answers and leaves.
+-- Assumes nothing.
+use mathlib.Core.Path.{refl, ap, ◌∙◌}
+use borrow.Author.Tests.{not-true, not-false}
+use Rattle.contact.specs.Contact as contacts
+use Rattle.contact.specs.Contact.{lists}
+use Rattle.calls_open.specs.Calls.{opened_by}
+use Rattle.calls_open.proofs.open.Goals as goal
+
+pub returns-then-not-sought : goal.returns-then-not-sought
+returns-then-not-sought c = rw (not-true c.args.sought.found c.if-not-sought.true) (c.answered.ensures, refl)
+
+pub returns : goal.returns
+returns c =
+    let a = c.args in
+    let lent = lists a.chains.now a.skipped.now a.above.now a.unacked.now a.expired.now in
+    let read = c.decode-read.ensures ∙ ap (λ row. contacts.reads a.sought.entry.version row lent) c.part_of-row.ensures in
+    rw (not-false a.sought.found c.if-not-sought.false)
+    (c.opened_by.ensures ∙ ap (λ (x : contacts.Left). opened_by x.answer.verdict a.id a.mark a.contact x.answer.contact) read, ap (λ (x : contacts.Left). x.lists) read)

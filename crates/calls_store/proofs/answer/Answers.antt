@@ -1,0 +1,6 @@
+-- `calls_store::answer` meets its contract: by what is asked.
+-- Assumes nothing.
+use Rattle.calls_store.proofs.answer.Goals as goal
+
+pub returns-in-Opened : goal.returns-in-Opened
+returns-in-Opened c = rw c.enum_told-in-Opened-1.given.1 c.all_yes.ensures

@@ -1,0 +1,47 @@
+-- `card::card_from` meets its contract: each run is copied to its array, and the key is zeros where there is none; or zeros, where a run does not lie in the input.
+use Prim.Native.Nat.{ℕ, ◌+◌, ◌-◌}
+use mathlib.Core.List.{List, ◌++◌}
+use mathlib.Core.Bool.{cond}
+use mathlib.Core.Option.{none, some}
+use mathlib.Core.Path.{◌≡◌, sym, ◌∙◌}
+use native.Mathlib.Omega.{arith}
+use lib.ListN.{length, take, drop}
+use borrow.Author.Tests.{eq-eqb, ne_eqb, not-true, not-false}
+use Rattle.layout.specs.Veil.{zeros}
+use Rattle.rows.specs.Checks.{kci}
+use Rattle.put.proofs.Put.{length_run}
+use Rattle.card.specs.Card.{Offsets, card_at, or_zeros}
+use Rattle.card.specs.declared.CardAt.{CardAt}
+use Rattle.card.proofs.Placed.{fit-places, card-placed}
+use Rattle.card.proofs.card_from.Goals as goal
+
+module _ (input : List ℕ) (at : CardAt) (places : Offsets input at) where
+  made : (key name ek : List ℕ) → key ≡ take 32 (drop 5 input) → name ≡ take at.name_len (drop 38 input) ++ zeros (48 - at.name_len)
+      → ek ≡ or_zeros 1184 (cond (kci at.caps) (some (take 1184 (drop (38 + at.name_len) input))) none)
+      → record { beacon_day = at.beacon_day; caps = at.caps; name_len = at.name_len; beacon_key = key; name = name; static_ek = ek } ≡ card_at input at
+  made key name ek e1 e2 e3 =
+      let long : length (take at.name_len (drop 38 input)) ≡ at.name_len = length_run input 38 at.name_len places.name in
+      rw (card-placed input at places, e1, e2, e3, long)
+
+pub returns-then-not-card_fits : goal.returns-then-not-card_fits
+returns-then-not-card_fits c = rw (sym c.card_fits.ensures ∙ not-true _ c.if-not-card_fits.true, c.zero.ensures)
+
+pub copy_32-beacon_key-requires : goal.copy_32-beacon_key-requires
+copy_32-beacon_key-requires c =
+    omega (arith, ((let places : Offsets c.args.input.now c.args.at = fit-places c.args.input.now c.args.at (sym c.card_fits.ensures ∙ not-false _ c.if-not-card_fits.false) in places)).name)
+
+pub name_from-name-requires : goal.name_from-name-requires
+name_from-name-requires c =
+    let p = (let places : Offsets c.args.input.now c.args.at = fit-places c.args.input.now c.args.at (sym c.card_fits.ensures ∙ not-false _ c.if-not-card_fits.false) in places) in (p.name_len, p.name)
+
+pub static_ek_from-static_ek-requires : goal.static_ek_from-static_ek-requires
+static_ek_from-static_ek-requires c =
+    ((let places : Offsets c.args.input.now c.args.at = fit-places c.args.input.now c.args.at (sym c.card_fits.ensures ∙ not-false _ c.if-not-card_fits.false) in places)).static_ek (eq-eqb _ _ c.if-at-eq1.true)
+
+pub returns-then-at-eq1 : goal.returns-then-at-eq1
+returns-then-at-eq1 c =
+    made c.args.input.now c.args.at ((let places : Offsets c.args.input.now c.args.at = fit-places c.args.input.now c.args.at (sym c.card_fits.ensures ∙ not-false _ c.if-not-card_fits.false) in places)) _ _ _ c.copy_32-beacon_key.ensures c.name_from-name.ensures (rw (eq-eqb _ _ c.if-at-eq1.true) c.static_ek_from-static_ek.ensures)
+
+pub returns-else-at-eq1 : goal.returns-else-at-eq1
+returns-else-at-eq1 c =
+    made c.args.input.now c.args.at ((let places : Offsets c.args.input.now c.args.at = fit-places c.args.input.now c.args.at (sym c.card_fits.ensures ∙ not-false _ c.if-not-card_fits.false) in places)) _ _ _ c.copy_32-beacon_key.ensures c.name_from-name.ensures (rw (ne_eqb _ _ c.if-at-eq1.false))

@@ -1,0 +1,40 @@
+-- `contact_checks::canonical_lent` meets its contract. The invariant: the ranges from the i-th on answer as all of them.
+use Prim.Native.Nat.{◌+◌, ◌*◌}
+use mathlib.Core.List.{◌∷◌}
+use mathlib.Core.Path.{◌≡◌, refl}
+use native.Mathlib.Omega.{arith}
+use lib.ListN.{drop}
+use borrow.Author.Rules.{rules}
+use Rattle.received.specs.Lent.{pairs}
+use Rattle.received.proofs.Pairs.{pair, drop-pairs, drop-pairs-all}
+use Rattle.contact_checks.proofs.Turns.{ordered-turned, ordered-low, ordered-high, ordered-on, ordered_end}
+use Rattle.contact_checks.proofs.canonical_lent.Goals as goal
+
+pub loop-i-init : goal.loop-i-init
+loop-i-init c = (search rules, record { so = refl })
+
+pub overflow_cast-a : goal.overflow_cast-a
+overflow_cast-a c = omega (arith, c.shared_slice_known-1.given (2 * c.loop-i.i))
+
+pub overflow_cast-b : goal.overflow_cast-b
+overflow_cast-b c = omega (arith, c.shared_slice_known-in-loop-i-1.given (2 * c.loop-i.i + 1))
+
+pub returns-then-b-a : goal.returns-then-b-a
+returns-then-b-a c =
+    ordered-turned c.loop-i.invariant.1 ((let here : let a = c.args in drop c.loop-i.i (pairs a.count a.list.now) ≡ pair a.list.now c.loop-i.i ∷ drop (c.loop-i.i + 1) (pairs a.count a.list.now) = drop-pairs c.args.list.now c.args.count c.loop-i.i c.loop-i-test.true c.requires.0 in here)) c.if-b-a.true
+
+pub returns-then-a-low : goal.returns-then-a-low
+returns-then-a-low c =
+    ordered-low c.loop-i.invariant.1 ((let here : let a = c.args in drop c.loop-i.i (pairs a.count a.list.now) ≡ pair a.list.now c.loop-i.i ∷ drop (c.loop-i.i + 1) (pairs a.count a.list.now) = drop-pairs c.args.list.now c.args.count c.loop-i.i c.loop-i-test.true c.requires.0 in here)) c.if-b-a.false c.if-a-low.true
+
+pub returns-then-high-b : goal.returns-then-high-b
+returns-then-high-b c =
+    ordered-high c.loop-i.invariant.1 ((let here : let a = c.args in drop c.loop-i.i (pairs a.count a.list.now) ≡ pair a.list.now c.loop-i.i ∷ drop (c.loop-i.i + 1) (pairs a.count a.list.now) = drop-pairs c.args.list.now c.args.count c.loop-i.i c.loop-i-test.true c.requires.0 in here)) c.if-b-a.false c.if-a-low.false c.if-high-b.true
+
+pub loop-i-preserved : goal.loop-i-preserved
+loop-i-preserved c =
+    (search rules, ordered-on c.loop-i.invariant.1 ((let here : let a = c.args in drop c.loop-i.i (pairs a.count a.list.now) ≡ pair a.list.now c.loop-i.i ∷ drop (c.loop-i.i + 1) (pairs a.count a.list.now) = drop-pairs c.args.list.now c.args.count c.loop-i.i c.loop-i-test.true c.requires.0 in here)) c.if-b-a.false c.if-a-low.false c.if-high-b.false)
+
+pub returns : goal.returns
+returns c =
+    ordered_end c.loop-i.invariant.1 (drop-pairs-all c.args.list.now c.args.count c.loop-i.i c.loop-i-test.false c.requires.0)

@@ -1,0 +1,55 @@
+-- `contact_checks::gens_distinct` meets its contract. The invariant: the chains from the i-th on answer as all of them.
+use Prim.Native.Nat.{◌+◌, ◌-◌, ◌≤◌}
+use mathlib.Core.List.{◌∷◌}
+use mathlib.Core.Path.{◌≡◌, refl}
+use native.Mathlib.Omega.{arith}
+use native.Mathlib.Nat.{sub-zero}
+use lib.ListN.{get_or, drop, length-set}
+use Rattle.layout.proofs.At.{typed, bytes_drop}
+use Rattle.contact_checks.specs.Cells.{gen_at, chain_width, gens}
+use Rattle.contact_checks.proofs.Distinct.{fresh-distinct, gens-within}
+use Rattle.contact_checks.proofs.Turns.{unseen-again, unseen-on, unseen-end}
+use Rattle.contact_checks.proofs.Chains.{gen-at, width-least}
+use Rattle.contact_checks.proofs.Cells.{Turn, turn, none_left}
+use Rattle.contact_checks.proofs.gens_distinct.Goals as goal
+
+pub loop-i-init : goal.loop-i-init
+loop-i-init c =
+    let a = c.args in
+    let part = drop a.first a.bytes.now in
+    let by = bytes_drop a.first a.bytes.now (typed a.bytes.now c.shared_slice_known-1.given) in
+    rw sub-zero (omega arith, c.requires, refl, record { so = fresh-distinct 256 (gens a.padded a.count part) (gens-within a.padded a.count part by) })
+
+pub bounds-bytes-p : goal.bounds-bytes-p
+bounds-bytes-p c =
+    omega (arith, ((let turned : Turn (chain_width (c.args.padded)) gen_at (c.args.bytes.now) (c.args.count) c.loop-i.i c.loop-i.p = turn (chain_width (c.args.padded)) gen_at (c.args.bytes.now) (c.args.count) c.loop-i.i c.loop-i.p c.loop-i-test.true c.loop-i.invariant.1 in turned)).fits, (let long : 43 ≤ chain_width (c.args.padded) (drop c.loop-i.p (c.args.bytes.now)) = width-least (c.args.bytes.now) c.loop-i.p (c.args.padded) in long))
+
+pub overflow_cast-g : goal.overflow_cast-g
+overflow_cast-g c = omega (arith, c.shared_slice_known-in-loop-i-1.given c.loop-i.p)
+
+pub bounds-seen-g : goal.bounds-seen-g
+bounds-seen-g c = omega (arith, c.shared_slice_known-in-loop-i-1.given c.loop-i.p)
+
+pub returns-then-seen-g : goal.returns-then-seen-g
+returns-then-seen-g c =
+    unseen-again c.loop-i.invariant.3 ((let here : gens (c.args.padded) (c.args.count - c.loop-i.i) (drop c.loop-i.p (c.args.bytes.now)) ≡ get_or (c.args.bytes.now) c.loop-i.p 0 ∷ gens (c.args.padded) (c.args.count - (c.loop-i.i + 1)) (drop (c.loop-i.p + chain_width (c.args.padded) (drop c.loop-i.p (c.args.bytes.now))) (c.args.bytes.now)) = rw (← gen-at (c.args.bytes.now) c.loop-i.p) ((let turned : Turn (chain_width (c.args.padded)) gen_at (c.args.bytes.now) (c.args.count) c.loop-i.i c.loop-i.p = turn (chain_width (c.args.padded)) gen_at (c.args.bytes.now) (c.args.count) c.loop-i.i c.loop-i.p c.loop-i-test.true c.loop-i.invariant.1 in turned)).here in here)) c.if-seen-g.true
+
+pub bounds-seen-g-in-loop-i : goal.bounds-seen-g-in-loop-i
+bounds-seen-g-in-loop-i c = omega (arith, c.shared_slice_known-in-loop-i-1.given c.loop-i.p)
+
+pub after_chain-p-requires : goal.after_chain-p-requires
+after_chain-p-requires c =
+    omega (arith, ((let turned : Turn (chain_width (c.args.padded)) gen_at (c.args.bytes.now) (c.args.count) c.loop-i.i c.loop-i.p = turn (chain_width (c.args.padded)) gen_at (c.args.bytes.now) (c.args.count) c.loop-i.i c.loop-i.p c.loop-i-test.true c.loop-i.invariant.1 in turned)).ranges, (let long : 43 ≤ chain_width (c.args.padded) (drop c.loop-i.p (c.args.bytes.now)) = width-least (c.args.bytes.now) c.loop-i.p (c.args.padded) in long))
+
+pub loop-i-preserved : goal.loop-i-preserved
+loop-i-preserved c =
+    (
+      omega arith,
+      rw c.after_chain-p.ensures ((let turned : Turn (chain_width (c.args.padded)) gen_at (c.args.bytes.now) (c.args.count) c.loop-i.i c.loop-i.p = turn (chain_width (c.args.padded)) gen_at (c.args.bytes.now) (c.args.count) c.loop-i.i c.loop-i.p c.loop-i-test.true c.loop-i.invariant.1 in turned)).rooms,
+      simp length-set c.loop-i.invariant.2,
+      rw c.after_chain-p.ensures (unseen-on c.loop-i.invariant.3 ((let here : gens (c.args.padded) (c.args.count - c.loop-i.i) (drop c.loop-i.p (c.args.bytes.now)) ≡ get_or (c.args.bytes.now) c.loop-i.p 0 ∷ gens (c.args.padded) (c.args.count - (c.loop-i.i + 1)) (drop (c.loop-i.p + chain_width (c.args.padded) (drop c.loop-i.p (c.args.bytes.now))) (c.args.bytes.now)) = rw (← gen-at (c.args.bytes.now) c.loop-i.p) ((let turned : Turn (chain_width (c.args.padded)) gen_at (c.args.bytes.now) (c.args.count) c.loop-i.i c.loop-i.p = turn (chain_width (c.args.padded)) gen_at (c.args.bytes.now) (c.args.count) c.loop-i.i c.loop-i.p c.loop-i-test.true c.loop-i.invariant.1 in turned)).here in here)) c.if-seen-g.false),
+    )
+
+pub returns : goal.returns
+returns c =
+    unseen-end c.loop-i.invariant.3 (none_left (chain_width (c.args.padded)) gen_at (c.args.bytes.now) (c.args.count) c.loop-i.i c.loop-i.p c.loop-i-test.false)

@@ -1,0 +1,66 @@
+-- `contact_checks::places_differ` meets its contract. The invariant: the keys behind are distinct, and the filter has them. The measure is how many are to come.
+use Prim.Native.Nat.{◌+◌, ◌-◌, ◌*◌, ◌≤◌}
+use mathlib.Core.Bool.{true, false}
+use mathlib.Core.Path.{◌≡◌, refl, sym, ap, ◌∙◌}
+use native.Mathlib.Omega.{arith}
+use lib.ListN.{length, drop}
+use borrow.Author.Rules.{rules}
+use lib.Dec.{eqb}
+use Rattle.rows.specs.Checks.{any}
+use Rattle.contact_checks.specs.Cells.{key_numbers}
+use Rattle.contact_checks.proofs.Behind.{none-behind, inside, here, behind-stand, behind, not-distinct, is-new, goes_on}
+use Rattle.contact_checks.proofs.keys_differ.Goals as goal
+
+pub loop-left-init : goal.loop-left-init
+loop-left-init c =
+    let a = c.args in rw (none-behind a.bytes.now a.first a.count c.requires) (omega arith, refl, tt, search rules)
+
+pub overflow_mul-p : goal.overflow_mul-p
+overflow_mul-p c =
+    omega (arith, (let inside_of : c.args.first + 46 * (c.loop-left.left - 1) + 46 ≤ length c.args.bytes.now = let a = c.args in inside a.bytes.now a.first a.count c.requires c.loop-left.left c.loop-left-test.true c.loop-left.invariant.0 in inside_of))
+
+pub overflow_add-p : goal.overflow_add-p
+overflow_add-p c =
+    omega (arith, (let inside_of : c.args.first + 46 * (c.loop-left.left - 1) + 46 ≤ length c.args.bytes.now = let a = c.args in inside a.bytes.now a.first a.count c.requires c.loop-left.left c.loop-left-test.true c.loop-left.invariant.0 in inside_of))
+
+pub key_at-key-requires : goal.key_at-key-requires
+key_at-key-requires c =
+    (let inside_of : c.args.first + 46 * (c.loop-left.left - 1) + 46 ≤ length c.args.bytes.now = let a = c.args in inside a.bytes.now a.first a.count c.requires c.loop-left.left c.loop-left-test.true c.loop-left.invariant.0 in inside_of)
+
+pub overflow_add-p-then-add : goal.overflow_add-p-then-add
+overflow_add-p-then-add c =
+    omega (arith, (let inside_of : c.args.first + 46 * (c.loop-left.left - 1) + 46 ≤ length c.args.bytes.now = let a = c.args in inside a.bytes.now a.first a.count c.requires c.loop-left.left c.loop-left-test.true c.loop-left.invariant.0 in inside_of))
+
+pub comes_again-requires : goal.comes_again-requires
+comes_again-requires c =
+    let l = (c).before in
+    let a = (l.before.before.before).args in
+    behind-stand a.bytes.now a.first a.count (l.before.before.before).pre l.loop.left c.loop-left-test.true l.loop.inv.0
+
+pub returns-then-comes_again : goal.returns-then-comes_again
+returns-then-comes_again c =
+    let a = c.args in
+    sym (not-distinct a.bytes.now a.first a.count c.requires c.loop-left.left c.loop-left-test.taken c.loop-left.inv.0 c.key_at-key.result c.key_at-key.ensures.0 (sym ((let asked : let a = c.args in c.comes_again.result ≡ any (eqb c.key_at-key.result) (drop c.loop-left.left (key_numbers a.count (drop a.first a.bytes.now))) = let a = c.args in
+    c.comes_again.ensures ∙ ap (any (eqb c.key_at-key.result)) (behind a.bytes.now a.first a.count c.requires c.loop-left.left c.loop-left-test.taken c.loop-left.inv.0) in asked)) ∙ c.if-comes_again.true))
+
+pub loop-left-preserved-else-comes_again : goal.loop-left-preserved-else-comes_again
+loop-left-preserved-else-comes_again c =
+    let on = (let a = c.args in
+    let at = here a.bytes.now a.first a.count c.requires c.loop-left.left c.loop-left-test.true c.loop-left.invariant.0 in
+    rw (c.add.ensures.1, c.mix.ensures)
+    (goes_on c.loop-left.bits c.key_at-key.result (drop c.loop-left.left (key_numbers a.count (drop a.first a.bytes.now))) (rw (← c.key_at-key.ensures.0) at at) (sym ((let asked : let a = c.args in c.comes_again.result ≡ any (eqb c.key_at-key.result) (drop c.loop-left.left (key_numbers a.count (drop a.first a.bytes.now))) = let a = c.args in
+    c.comes_again.ensures ∙ ap (any (eqb c.key_at-key.result)) (behind a.bytes.now a.first a.count c.requires c.loop-left.left c.loop-left-test.taken c.loop-left.inv.0) in asked)) ∙ c.if-comes_again.false) c.loop-left.invariant.1 c.loop-left.invariant.2)) in
+    (omega arith, on.0, on.1, search rules)
+
+pub loop-left-preserved : goal.loop-left-preserved
+loop-left-preserved c =
+    let a = c.args in
+    let clear = rw c.mix.ensures at (sym c.add.ensures.0 ∙ c.if-add.false) in
+    let on = (let a = c.args in
+    let at = here a.bytes.now a.first a.count c.requires c.loop-left.left c.loop-left-test.true c.loop-left.invariant.0 in
+    rw (c.add.ensures.1, c.mix.ensures)
+    (goes_on c.loop-left.bits c.key_at-key.result (drop c.loop-left.left (key_numbers a.count (drop a.first a.bytes.now))) (rw (← c.key_at-key.ensures.0) at at) (is-new c.loop-left.bits c.key_at-key.result (drop c.loop-left.left (key_numbers a.count (drop a.first a.bytes.now))) clear c.loop-left.invariant.2) c.loop-left.invariant.1 c.loop-left.invariant.2)) in
+    (omega arith, on.0, on.1, search rules)
+
+pub returns : goal.returns
+returns c = let none : c.loop-left.left ≡ 0 = omega arith in sym (rw none at c.loop-left.invariant.1)

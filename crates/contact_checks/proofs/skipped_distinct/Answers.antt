@@ -1,0 +1,41 @@
+-- `contact_checks::skipped_distinct` meets its contract: keys that rise are distinct.
+use mathlib.Core.Path.{◌≡◌, sym, ap, ◌∙◌}
+use lib.ListN.{drop}
+use lib.Dec.{eqb}
+use Rattle.layout.specs.Layout.{group}
+use Rattle.layout.proofs.At.{typed, bytes_drop}
+use Rattle.rows.specs.Checks.{distinct, key_of, same_key, keys_distinct}
+use Rattle.rows.specs.Rows.{skipped}
+use Rattle.contact_lists.specs.Lists.{items}
+use Rattle.contact_checks.specs.Cells.{key_at, key_numbers}
+use Rattle.contact_checks.proofs.Cells.{Many, standing}
+use Rattle.contact_checks.proofs.Fields.{skipped-shows}
+use Rattle.contact_checks.proofs.Distinct.{distinct-number, ascending-distinct}
+use Rattle.contact_checks.proofs.skipped_distinct.Goals as goal
+
+pub keys_rise-requires : goal.keys_rise-requires
+keys_rise-requires c =
+    ((let keys : Many (λ l. 46) key_at key_of c.args.count ((drop c.args.first c.args.bytes.now)) (items (group skipped) c.args.count ((drop c.args.first c.args.bytes.now))) = let a = c.args in standing (λ l. 46) key_at key_of (group skipped) skipped-shows a.bytes.now a.first a.count c.requires in keys)).rooms
+
+pub returns-then-keys_rise : goal.returns-then-keys_rise
+returns-then-keys_rise c =
+    sym (ascending-distinct 0 (key_numbers c.args.count ((drop c.args.first c.args.bytes.now))) (sym c.keys_rise.ensures ∙ c.if-keys_rise.true)) ∙ (let asked : distinct eqb (key_numbers c.args.count ((drop c.args.first c.args.bytes.now))) ≡ keys_distinct (items (group skipped) c.args.count ((drop c.args.first c.args.bytes.now))) = let row = c.args.bytes.now in
+    sym (ap (distinct same_key) ((let keys : Many (λ l. 46) key_at key_of c.args.count ((drop c.args.first c.args.bytes.now)) (items (group skipped) c.args.count ((drop c.args.first c.args.bytes.now))) = let a = c.args in standing (λ l. 46) key_at key_of (group skipped) skipped-shows a.bytes.now a.first a.count c.requires in keys)).are ∙ distinct-number c.args.count ((drop c.args.first c.args.bytes.now)) (bytes_drop c.args.first row (typed row c.shared_slice_known-1.given))) in asked)
+
+pub few_differ-requires : goal.few_differ-requires
+few_differ-requires c =
+    ((let keys : Many (λ l. 46) key_at key_of c.args.count ((drop c.args.first c.args.bytes.now)) (items (group skipped) c.args.count ((drop c.args.first c.args.bytes.now))) = let a = c.args in standing (λ l. 46) key_at key_of (group skipped) skipped-shows a.bytes.now a.first a.count c.requires in keys)).rooms
+
+pub returns-then-count-lt-FEW : goal.returns-then-count-lt-FEW
+returns-then-count-lt-FEW c =
+    c.few_differ.ensures ∙ (let asked : distinct eqb (key_numbers c.args.count ((drop c.args.first c.args.bytes.now))) ≡ keys_distinct (items (group skipped) c.args.count ((drop c.args.first c.args.bytes.now))) = let row = c.args.bytes.now in
+    sym (ap (distinct same_key) ((let keys : Many (λ l. 46) key_at key_of c.args.count ((drop c.args.first c.args.bytes.now)) (items (group skipped) c.args.count ((drop c.args.first c.args.bytes.now))) = let a = c.args in standing (λ l. 46) key_at key_of (group skipped) skipped-shows a.bytes.now a.first a.count c.requires in keys)).are ∙ distinct-number c.args.count ((drop c.args.first c.args.bytes.now)) (bytes_drop c.args.first row (typed row c.shared_slice_known-1.given))) in asked)
+
+pub many_differ-requires : goal.many_differ-requires
+many_differ-requires c =
+    ((let keys : Many (λ l. 46) key_at key_of c.args.count ((drop c.args.first c.args.bytes.now)) (items (group skipped) c.args.count ((drop c.args.first c.args.bytes.now))) = let a = c.args in standing (λ l. 46) key_at key_of (group skipped) skipped-shows a.bytes.now a.first a.count c.requires in keys)).rooms
+
+pub returns : goal.returns
+returns c =
+    c.many_differ.ensures ∙ (let asked : distinct eqb (key_numbers c.args.count ((drop c.args.first c.args.bytes.now))) ≡ keys_distinct (items (group skipped) c.args.count ((drop c.args.first c.args.bytes.now))) = let row = c.args.bytes.now in
+    sym (ap (distinct same_key) ((let keys : Many (λ l. 46) key_at key_of c.args.count ((drop c.args.first c.args.bytes.now)) (items (group skipped) c.args.count ((drop c.args.first c.args.bytes.now))) = let a = c.args in standing (λ l. 46) key_at key_of (group skipped) skipped-shows a.bytes.now a.first a.count c.requires in keys)).are ∙ distinct-number c.args.count ((drop c.args.first c.args.bytes.now)) (bytes_drop c.args.first row (typed row c.shared_slice_known-1.given))) in asked)

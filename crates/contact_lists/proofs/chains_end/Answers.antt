@@ -1,0 +1,30 @@
+-- `contact_lists::chains_end` meets its contract. The invariant: what is left of the items ends as the whole does.
+use mathlib.Core.Path.{sym, ◌∙◌}
+use native.Mathlib.Omega.{arith}
+use native.Mathlib.Nat.{sub-zero}
+use borrow.Author.Rules.{rules}
+use Rattle.layout.specs.Layout.{group}
+use Rattle.layout.proofs.At.{typed}
+use Rattle.rows.specs.Rows.{chain}
+use Rattle.rows.proofs.Lawful.{chain-lawful}
+use Rattle.contact_lists.proofs.Ends.{turn, stop, none_left}
+use Rattle.contact_lists.proofs.chains_end.Goals as goal
+
+pub loop-i-init : goal.loop-i-init
+loop-i-init c = (search rules, c.requires, rw sub-zero)
+
+pub returns-in_default : goal.returns-in_default
+returns-in_default c =
+    let l = c.loop-i in
+    stop (group chain) _ _ _ l.i l.p c.loop-i-test.true c.chain_end-item.ensures l.invariant.2 c.enum_told-1.given.1
+
+pub loop-i-preserved : goal.loop-i-preserved
+loop-i-preserved c =
+    let l = c.loop-i in
+    let t = turn (group chain) c.args.row.now c.args.at c.args.n l.i l.p c.loop-i-test.true c.chain_end-item.ensures chain-lawful (typed c.args.row.now c.shared_slice_known-1.given) l.invariant.2 c.item-1.given.1 in
+    (search rules, t.inside, t.same)
+
+pub returns : goal.returns
+returns c =
+    let l = c.loop-i in
+    sym (none_left (group chain) _ _ l.i l.p (omega arith) l.invariant.1) ∙ l.invariant.2

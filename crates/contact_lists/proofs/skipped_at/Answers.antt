@@ -1,0 +1,23 @@
+-- `contact_lists::skipped_at` meets its contract: the count, and then so many items.
+use mathlib.Core.Path.{sym}
+use Rattle.layout.specs.Form.{u16}
+use Rattle.layout.specs.Layout.{group}
+use Rattle.layout.proofs.Front.{number-lawful}
+use Rattle.layout.specs.RowLaws.{Bytes}
+use Rattle.layout.proofs.At.{Took, took, learn, typed}
+use Rattle.rows.specs.Rows.{skipped}
+use Rattle.rows.proofs.Lawful.{skipped-lawful}
+use Rattle.fields.specs.Says.{u16_says}
+use Rattle.contact_lists.proofs.Ends.{listed, unlisted}
+use Rattle.contact_lists.proofs.skipped_at.Goals as goal
+
+pub returns-in_default : goal.returns-in_default
+returns-in_default c = (sym (unlisted (group skipped) _ _ (learn u16_says c.u16_at.ensures c.enum_told-1.given.1)), tt)
+
+pub skipped_ends-requires : goal.skipped_ends-requires
+skipped_ends-requires c =
+    ((let count-took : Took u16 (c.args.row.now) c.args.at c.count-1.given.0.0 c.count-1.given.0.1.0 = took _ _ u16 (number-lawful 2) ((let by : Bytes (c.args.row.now) = typed (c.args.row.now) c.shared_slice_known-1.given in by)) (learn u16_says c.u16_at.ensures c.count-1.given.1) in count-took)).inside
+
+pub returns : goal.returns
+returns c =
+    listed (group skipped) skipped-lawful (c.args.row.now) ((let by : Bytes (c.args.row.now) = typed (c.args.row.now) c.shared_slice_known-1.given in by)) _ _ _ ((let count-took : Took u16 (c.args.row.now) c.args.at c.count-1.given.0.0 c.count-1.given.0.1.0 = took _ _ u16 (number-lawful 2) ((let by : Bytes (c.args.row.now) = typed (c.args.row.now) c.shared_slice_known-1.given in by)) (learn u16_says c.u16_at.ensures c.count-1.given.1) in count-took)) c.skipped_ends.result c.found.result c.skipped_ends.ensures c.found.ensures

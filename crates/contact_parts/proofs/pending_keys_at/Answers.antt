@@ -1,0 +1,47 @@
+-- `contact_parts::pending_keys_at` meets its contract: one step of the layout for each field.
+-- Written by tools/fields/fieldgen.py, and not edited: tools/fields/README.md says how. Assumes nothing.
+use Prim.Native.Nat.{ℕ, ◌+◌}
+use mathlib.Core.Path.{◌≡◌}
+use native.Mathlib.Omega.{arith}
+use lib.ListN.{take, drop}
+use Rattle.layout.specs.Veil.{veiled}
+use Rattle.layout.specs.Form.{bytes}
+use Rattle.layout.specs.Layout.{group}
+use Rattle.layout.specs.RowLaws.{Bytes}
+use Rattle.layout.proofs.At.{Took, typed}
+use Rattle.layout.proofs.Steps.{start, field-yes, field-no, done-yes}
+use Rattle.rows.specs.Values.{Pending}
+use Rattle.rows.specs.Rows.{pending}
+use Rattle.fields.proofs.Runs.{run-took, run_short}
+use Rattle.offsets.specs.Offset.{offset}
+use Rattle.offsets.proofs.Offset.{locates, locates-not}
+use Rattle.offsets.proofs.Runs.{Run, run-starts}
+use Rattle.contact_parts.specs.Offsets.{pending_keys_at}
+use Rattle.contact_parts.proofs.pending_keys_at.Goals as goal
+
+its-places : (from : ℕ) (v : Pending)
+    → {chain-key-at : ℕ} → chain-key-at ≡ from + offset pending 0 v
+    → {msg-seed-at : ℕ} → msg-seed-at ≡ from + offset pending 1 v
+    → (chain-key-at, msg-seed-at) ≡ pending_keys_at from v
+its-places from v chain-key-at msg-seed-at = λ i. (chain-key-at i, msg-seed-at i)
+
+pub returns-in_default : goal.returns-in_default
+returns-in_default c =
+    let stop = field-no (start).so (run_short _ _ veiled 32 c.run_at.ensures.0 c.enum_told-1.given.1) in
+    locates-not _ _ (group pending) (pending_keys_at _) stop
+
+pub returns-in_default-run_at : goal.returns-in_default-run_at
+returns-in_default-run_at c =
+    let stop = field-no ((field-yes (start).so (run-took _ _ veiled 32 c.run_at.ensures.0 ((let by : Bytes (c.args.row.now) = typed (c.args.row.now) c.shared_slice_known-1.given in by)) c.chain_key-1.given.1))).so (run_short _ _ veiled 32 c.run_at-2.ensures.0 c.enum_told-in_default-run_at-1.given.1) in
+    locates-not _ _ (group pending) (pending_keys_at _) stop
+
+pub returns : goal.returns
+returns c =
+    let its : Pending = record {
+      chain_key = take 32 (drop c.chain_key-1.given.0.0 (c.args.row.now));
+      msg_seed = take 32 (drop c.msg_seed-1.given.0.0 (c.args.row.now));
+    } in
+    locates _ _ (group pending) (pending_keys_at _) {b = its} (done-yes ((field-yes ((field-yes (start).so (run-took _ _ veiled 32 c.run_at.ensures.0 ((let by : Bytes (c.args.row.now) = typed (c.args.row.now) c.shared_slice_known-1.given in by)) c.chain_key-1.given.1))).so ((let msg-seed-took : Took (bytes veiled 32) (c.args.row.now) ((field-yes (start).so (run-took _ _ veiled 32 c.run_at.ensures.0 ((let by : Bytes (c.args.row.now) = typed (c.args.row.now) c.shared_slice_known-1.given in by)) c.chain_key-1.given.1))).here (take 32 (drop c.msg_seed-1.given.0.0 (c.args.row.now))) c.msg_seed-1.given.0.1.0 = run-took _ _ veiled 32 c.run_at-2.ensures.0 ((let by : Bytes (c.args.row.now) = typed (c.args.row.now) c.shared_slice_known-1.given in by)) c.msg_seed-1.given.1 in msg-seed-took)))).so) ((let msg-seed-took : Took (bytes veiled 32) (c.args.row.now) ((field-yes (start).so (run-took _ _ veiled 32 c.run_at.ensures.0 ((let by : Bytes (c.args.row.now) = typed (c.args.row.now) c.shared_slice_known-1.given in by)) c.chain_key-1.given.1))).here (take 32 (drop c.msg_seed-1.given.0.0 (c.args.row.now))) c.msg_seed-1.given.0.1.0 = run-took _ _ veiled 32 c.run_at-2.ensures.0 ((let by : Bytes (c.args.row.now) = typed (c.args.row.now) c.shared_slice_known-1.given in by)) c.msg_seed-1.given.1 in msg-seed-took)).inside
+    (its-places (c.args.at) its
+    (omega (arith, ((let chain-key-run : Run (c.args.at) (take 32 (drop c.chain_key-1.given.0.0 (c.args.row.now))) c.chain_key-1.given.0.0 c.chain_key-1.given.0.1.0 = run-starts _ _ 32 ((let by : Bytes (c.args.row.now) = typed (c.args.row.now) c.shared_slice_known-1.given in by)) (omega arith) c.run_at.ensures c.chain_key-1.given.1 in chain-key-run)).starts))
+    (omega (arith, ((let chain-key-run : Run (c.args.at) (take 32 (drop c.chain_key-1.given.0.0 (c.args.row.now))) c.chain_key-1.given.0.0 c.chain_key-1.given.0.1.0 = run-starts _ _ 32 ((let by : Bytes (c.args.row.now) = typed (c.args.row.now) c.shared_slice_known-1.given in by)) (omega arith) c.run_at.ensures c.chain_key-1.given.1 in chain-key-run)).ends, ((let msg-seed-run : Run ((field-yes (start).so (run-took _ _ veiled 32 c.run_at.ensures.0 ((let by : Bytes (c.args.row.now) = typed (c.args.row.now) c.shared_slice_known-1.given in by)) c.chain_key-1.given.1))).here (take 32 (drop c.msg_seed-1.given.0.0 (c.args.row.now))) c.msg_seed-1.given.0.0 c.msg_seed-1.given.0.1.0 = run-starts _ _ 32 ((let by : Bytes (c.args.row.now) = typed (c.args.row.now) c.shared_slice_known-1.given in by)) (omega arith) c.run_at-2.ensures c.msg_seed-1.given.1 in msg-seed-run)).starts)))

@@ -1,0 +1,37 @@
+-- `courier_row::courier_size` meets its contract: question by question, as reading the row would ask.
+use mathlib.Core.Bool.{true, not}
+use mathlib.Core.Path.{◌≡◌, sym, ap, ◌∙◌}
+use native.Mathlib.Omega.{arith}
+use lib.ListN.{length}
+use borrow.Author.Tests.{eq-eqb, ne_eqb}
+use Rattle.layout.specs.Write.{wrote}
+use Rattle.rows.specs.Checks.{sealed_carried, not_zero}
+use Rattle.sealed.proofs.Buckets.{carried-few}
+use Rattle.courier_row.proofs.Image.{whole-tombstone, length-tombstone, bad-expiry, bad-copies, bad-length, whole-carried, length-carried}
+use Rattle.courier_row.proofs.courier_size.Goals as goal
+
+pub returns-in_default : goal.returns-in_default
+returns-in_default c =
+    sym (whole-tombstone (c.args.held) c.type-inv.ensures (c.args.sealed.now) c.enum_told-in_default-1.given.1 ∙ ap wrote (length-tombstone (c.args.held) c.type-inv.ensures))
+
+pub returns-then-held-eq0 : goal.returns-then-held-eq0
+returns-then-held-eq0 c =
+    sym (bad-expiry (c.args.held) c.typed.ensures (c.args.sealed.now) c.enum_told-1.given.1 (ap not (eq-eqb _ _ c.if-held-eq0.true)))
+
+pub returns-then-held-eq0-2 : goal.returns-then-held-eq0-2
+returns-then-held-eq0-2 c =
+    sym (bad-copies (c.args.held) c.typed.ensures (c.args.sealed.now) c.enum_told-1.given.1 ((let expires : not_zero (c.args.held).expiry_min ≡ true = ap not (ne_eqb _ _ c.if-held-eq0.false) in expires)) (ap not (eq-eqb _ _ c.if-held-eq0-2.true)))
+
+pub overflow_add-result : goal.overflow_add-result
+overflow_add-result c =
+    omega (arith, carried-few (length (c.args.sealed.now)) ((let allowed : sealed_carried (length (c.args.sealed.now)) ≡ true = sym c.sealed_carried.ensures ∙ c.if-sealed_carried.true in allowed)))
+
+pub returns-then-sealed_carried : goal.returns-then-sealed_carried
+returns-then-sealed_carried c =
+    sym (whole-carried (c.args.held) c.typed.ensures (c.args.sealed.now) ((let expires : not_zero (c.args.held).expiry_min ≡ true = ap not (ne_eqb _ _ c.if-held-eq0.false) in expires)) ((let copied : not_zero (c.args.held).copies ≡ true = ap not (ne_eqb _ _ c.if-held-eq0-2.false) in copied)) ((let allowed : sealed_carried (length (c.args.sealed.now)) ≡ true = sym c.sealed_carried.ensures ∙ c.if-sealed_carried.true in allowed)) c.enum_told-1.given.1
+    ∙ ap wrote (length-carried (c.args.held) c.typed.ensures (c.args.sealed.now)))
+
+pub returns : goal.returns
+returns c =
+    sym (bad-length (c.args.held) c.typed.ensures (c.args.sealed.now) c.enum_told-1.given.1 ((let expires : not_zero (c.args.held).expiry_min ≡ true = ap not (ne_eqb _ _ c.if-held-eq0.false) in expires)) ((let copied : not_zero (c.args.held).copies ≡ true = ap not (ne_eqb _ _ c.if-held-eq0-2.false) in copied))
+    (sym c.sealed_carried.ensures ∙ c.if-sealed_carried.false))

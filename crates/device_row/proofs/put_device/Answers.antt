@@ -1,0 +1,54 @@
+-- `device_row::put_device` meets its contract: one writer behind another.
+use mathlib.Core.Path.{◌≡◌}
+use native.Mathlib.Omega.{arith}
+use lib.ListN.{length}
+use Rattle.put.proofs.Put.{◌then◌, wrote-long}
+use Rattle.device_row.specs.Row.{image}
+use Rattle.device_row.proofs.Image.{image-is, length-image}
+use Rattle.device_row.proofs.put_device.Goals as goal
+
+pub put_be-beacon_key_at-requires : goal.put_be-beacon_key_at-requires
+put_be-beacon_key_at-requires c = omega (arith, length-image c.args.device c.type-inv.ensures)
+
+pub put_32-next_contact_at-requires : goal.put_32-next_contact_at-requires
+put_32-next_contact_at-requires c =
+    omega (arith, (let long : length (image (((c).before.before).args.device)) ≡ 49 = length-image (((c).before.before).args.device) c.type-inv.ensures in long), wrote-long c.put_be-beacon_key_at.ensures.1, c.put_be-beacon_key_at.ensures.0, ((c).before.before).requires)
+
+pub put_be-read_receipts_at-requires : goal.put_be-read_receipts_at-requires
+put_be-read_receipts_at-requires c =
+    omega (arith, (let long : length (image (((c).before.before).args.device)) ≡ 49 = length-image (((c).before.before).args.device) c.type-inv.ensures in long), wrote-long c.put_be-beacon_key_at.ensures.1, wrote-long c.put_32-next_contact_at.ensures.1, c.put_be-beacon_key_at.ensures.0, c.put_32-next_contact_at.ensures.0, ((c).before.before).pre)
+
+pub put_byte-courier_at-requires : goal.put_byte-courier_at-requires
+put_byte-courier_at-requires c =
+    omega (
+      arith,
+      (let long : length (image (((c).before.before).args.device)) ≡ 49 = length-image (((c).before.before).args.device) c.type-inv.ensures in long),
+      wrote-long c.put_be-beacon_key_at.ensures.1,
+      wrote-long c.put_32-next_contact_at.ensures.1,
+      wrote-long c.put_be-read_receipts_at.ensures.1,
+      c.put_be-beacon_key_at.ensures.0,
+      c.put_32-next_contact_at.ensures.0,
+      c.put_be-read_receipts_at.ensures.0,
+      ((c).before.before).pre,
+    )
+
+pub put_courier-requires : goal.put_courier-requires
+put_courier-requires c =
+    omega (
+      arith,
+      (let long : length (image (((c).before.before).args.device)) ≡ 49 = length-image (((c).before.before).args.device) c.type-inv.ensures in long),
+      wrote-long c.put_be-beacon_key_at.ensures.1,
+      wrote-long c.put_32-next_contact_at.ensures.1,
+      wrote-long c.put_be-read_receipts_at.ensures.1,
+      wrote-long c.put_byte-courier_at.ensures.1,
+      c.put_be-beacon_key_at.ensures.0,
+      c.put_32-next_contact_at.ensures.0,
+      c.put_be-read_receipts_at.ensures.0,
+      c.put_byte-courier_at.ensures.0,
+      ((c).before.before).pre,
+    )
+
+pub returns : goal.returns
+returns c =
+    let w = c.put_be-beacon_key_at.ensures.1 then (c.put_32-next_contact_at.ensures.1 then (c.put_be-read_receipts_at.ensures.1 then (c.put_byte-courier_at.ensures.1 then c.put_courier.ensures.1))) in
+    rw (image-is (((c).before.before).args.device) c.typed.ensures, ← c.flag_byte.ensures) (w.next-is, w)

@@ -1,0 +1,16 @@
+-- `device_row::read_device` meets its contract: checked, then copied; or refused, and zeros.
+use mathlib.Core.Path.{ap, subst, ◌∙◌}
+use Rattle.layout.proofs.At.{learn}
+use Rattle.device.specs.Device.{check_says, check_refusal, Placed}
+use Rattle.device_row.proofs.read_device.Goals as goal
+
+pub returns-in_default : goal.returns-in_default
+returns-in_default c =
+    let told = c.enum_told-1.given.1 in
+    rw (learn (check_says _) c.check_device-check.ensures.0 told, c.refusal.ensures ∙ ap check_refusal told, c.zero.ensures)
+
+pub device_from-requires : goal.device_from-requires
+device_from-requires c = subst (Placed _) c.check-1.given.1 c.check_device-check.ensures.1
+
+pub returns : goal.returns
+returns c = rw (learn (check_says _) c.check_device-check.ensures.0 c.check-1.given.1, c.device_from.ensures)

@@ -1,0 +1,20 @@
+-- `fields::role_at` meets its contract: the byte at the position, by its table.
+use mathlib.Core.Path.{sym}
+use borrow.Author.Tests.{ne_eqb}
+use Rattle.layout.specs.Questions.{CODE}
+use Rattle.rows.specs.Rows.{role_of, role_byte}
+use Rattle.layout.proofs.At.{letter-in, letter-no, letter-out}
+use Rattle.fields.proofs.role_at.Goals as goal
+
+pub returns-in-0 : goal.returns-in-0
+returns-in-0 c = sym (letter-in _ _ CODE role_of role_byte c.if-at-row.true (rw c.in-0.keys1))
+
+pub returns-in-1 : goal.returns-in-1
+returns-in-1 c = sym (letter-in _ _ CODE role_of role_byte c.if-at-row.true (rw c.in-1.keys2))
+
+pub returns-in_default : goal.returns-in_default
+returns-in_default c =
+    sym (letter-no _ _ CODE role_of role_byte c.if-at-row.true (rw (ne_eqb _ _ c.in_default.rest.0.1, ne_eqb _ _ c.in_default.rest.1)))
+
+pub returns-else-at-row : goal.returns-else-at-row
+returns-else-at-row c = sym (letter-out _ _ CODE role_of role_byte c.if-at-row.false)

@@ -1,0 +1,21 @@
+-- `replay_script::others_of` meets its contract: a digit of the code's row, and 0 behind the table.
+-- Assumes nothing.
+use mathlib.Core.Path.{sym, ap, ◌∙◌}
+use native.Mathlib.Omega.{arith}
+use Rattle.replay_script.specs.Script.{Command, others_of}
+use Rattle.replay_script.proofs.Table.{row_in, others-digit, no-command}
+use borrow.Author.Rules.{rules}
+use Rattle.replay_script.proofs.others_of.Goals as goal
+
+pub bounds-table-i : goal.bounds-table-i
+bounds-table-i c = omega (arith, row_in c.requires c.index-i.result c.if-i-lt-CODES.true)
+
+pub overflow_sub-table : goal.overflow_sub-table
+overflow_sub-table c = (others-digit c.requires c.index-i.result c.if-i-lt-CODES.true).0
+
+pub returns-then-i-lt-CODES : goal.returns-then-i-lt-CODES
+returns-then-i-lt-CODES c =
+    (c.index.ensures.0 ∙ (others-digit c.requires c.index-i.result c.if-i-lt-CODES.true).1 ∙ ap others_of c.index-i.ensures.0, search rules)
+
+pub returns : goal.returns
+returns c = (sym (ap (λ (d : Command). d.others) (no-command c.args.code (search rules))), search rules)

@@ -1,0 +1,14 @@
+-- `statement_report::report_store` meets its contract: the text of a store is that of what restore answers.
+-- Assumes nothing.
+use Rattle.statement_report.proofs.Texts.{table-granted, table-refused, as-text}
+use Rattle.statement_report.proofs.report_store.Goals as goal
+
+pub returns-in-Granted : goal.returns-in-Granted
+returns-in-Granted c =
+    let a = c.args in
+    as-text a.out.now (table-granted a.run.now a.records.now a.n c.requires.1 c.restore-answer.ensures c.answer-1.given.1) c.write_granted.ensures
+
+pub returns-in-Refused : goal.returns-in-Refused
+returns-in-Refused c =
+    let a = c.args in
+    as-text a.out.now (table-refused a.run.now a.records.now a.n c.requires.1 c.restore-answer.ensures c.answer-in-Refused-1.given.1 c.wide_byte.ensures.0) c.write_refused.ensures

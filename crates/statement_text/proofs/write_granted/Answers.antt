@@ -1,0 +1,26 @@
+-- `statement_text::write_granted` meets its contract: the text is measured, the room is asked for, then lines and T are stored at the front.
+-- Assumes nothing.
+use Prim.Native.Nat.{ℕ, ◌+◌, ◌≤◌}
+use mathlib.Core.List.{List, ◌++◌}
+use mathlib.Core.Path.{◌≡◌, sym, ap, ap₂, ◌∙◌}
+use native.Mathlib.Omega.{arith}
+use lib.ListN.{length, length-append}
+use Rattle.layout.specs.Write.{wrote}
+use Rattle.layout.proofs.Write.{stored_short, stored_row}
+use Rattle.put.proofs.Put.{◌then◌, put_front}
+use Rattle.sheet_entries.specs.Table.{entries_from}
+use Rattle.statement_text.specs.Text.{last_line}
+use Rattle.statement_text.specs.Lines.{lines_from, count_from, TEXT_BYTES}
+use Rattle.statement_text.proofs.Lines.{retext}
+use Rattle.statement_text.proofs.write_granted.Goals as goal
+
+pub returns-then-out-len : goal.returns-then-out-len
+returns-then-out-len c =
+    (sym (stored_short ((lines_from ((c).before.before.before.before).args.run.now ((entries_from ((c).before.before.before.before).args.n ((c).before.before.before.before).args.records.now)) ((entries_from ((c).before.before.before.before).args.n ((c).before.before.before.before).args.records.now))) ++ (last_line (count_from ((c).before.before.before.before).args.run.now ((entries_from ((c).before.before.before.before).args.n ((c).before.before.before.before).args.records.now))) ((entries_from ((c).before.before.before.before).args.n ((c).before.before.before.before).args.records.now)) ((c).before.before.before.before).args.next-slot)) ((c).before.before.before.before).args.out.now (omega (arith, (let long : c.measure-measured.result.len + 1 + c.fields_len.result ≡ length ((lines_from ((c).before.before.before.before).args.run.now ((entries_from ((c).before.before.before.before).args.n ((c).before.before.before.before).args.records.now)) ((entries_from ((c).before.before.before.before).args.n ((c).before.before.before.before).args.records.now))) ++ (last_line (count_from ((c).before.before.before.before).args.run.now ((entries_from ((c).before.before.before.before).args.n ((c).before.before.before.before).args.records.now))) ((entries_from ((c).before.before.before.before).args.n ((c).before.before.before.before).args.records.now)) ((c).before.before.before.before).args.next-slot)) = omega (arith, c.measure-measured.ensures.long, c.fields_len.ensures.0, ap length (same-last c), length-append ((lines_from ((c).before.before.before.before).args.run.now ((entries_from ((c).before.before.before.before).args.n ((c).before.before.before.before).args.records.now)) ((entries_from ((c).before.before.before.before).args.n ((c).before.before.before.before).args.records.now)))) ((last_line (count_from ((c).before.before.before.before).args.run.now ((entries_from ((c).before.before.before.before).args.n ((c).before.before.before.before).args.records.now))) ((entries_from ((c).before.before.before.before).args.n ((c).before.before.before.before).args.records.now)) ((c).before.before.before.before).args.next-slot))) in long)))), (let short : length ((lines_from ((c).before.before.before.before).args.run.now ((entries_from ((c).before.before.before.before).args.n ((c).before.before.before.before).args.records.now)) ((entries_from ((c).before.before.before.before).args.n ((c).before.before.before.before).args.records.now))) ++ (last_line (count_from ((c).before.before.before.before).args.run.now ((entries_from ((c).before.before.before.before).args.n ((c).before.before.before.before).args.records.now))) ((entries_from ((c).before.before.before.before).args.n ((c).before.before.before.before).args.records.now)) ((c).before.before.before.before).args.next-slot)) ≤ TEXT_BYTES = omega (arith, (let long : c.measure-measured.result.len + 1 + c.fields_len.result ≡ length ((lines_from ((c).before.before.before.before).args.run.now ((entries_from ((c).before.before.before.before).args.n ((c).before.before.before.before).args.records.now)) ((entries_from ((c).before.before.before.before).args.n ((c).before.before.before.before).args.records.now))) ++ (last_line (count_from ((c).before.before.before.before).args.run.now ((entries_from ((c).before.before.before.before).args.n ((c).before.before.before.before).args.records.now))) ((entries_from ((c).before.before.before.before).args.n ((c).before.before.before.before).args.records.now)) ((c).before.before.before.before).args.next-slot)) = omega (arith, c.measure-measured.ensures.long, c.fields_len.ensures.0, ap length (same-last c), length-append ((lines_from ((c).before.before.before.before).args.run.now ((entries_from ((c).before.before.before.before).args.n ((c).before.before.before.before).args.records.now)) ((entries_from ((c).before.before.before.before).args.n ((c).before.before.before.before).args.records.now)))) ((last_line (count_from ((c).before.before.before.before).args.run.now ((entries_from ((c).before.before.before.before).args.n ((c).before.before.before.before).args.records.now))) ((entries_from ((c).before.before.before.before).args.n ((c).before.before.before.before).args.records.now)) ((c).before.before.before.before).args.next-slot))) in long), c.measure-measured.ensures.short, c.fields_len.ensures.1) in short))
+
+pub returns : goal.returns
+returns c =
+    let out = ((c).before.before.before.before).args.out.now in
+    let room : length ((lines_from ((c).before.before.before.before).args.run.now ((entries_from ((c).before.before.before.before).args.n ((c).before.before.before.before).args.records.now)) ((entries_from ((c).before.before.before.before).args.n ((c).before.before.before.before).args.records.now))) ++ (last_line (count_from ((c).before.before.before.before).args.run.now ((entries_from ((c).before.before.before.before).args.n ((c).before.before.before.before).args.records.now))) ((entries_from ((c).before.before.before.before).args.n ((c).before.before.before.before).args.records.now)) ((c).before.before.before.before).args.next-slot)) ≤ length out = omega (arith, (let long : c.measure-measured.result.len + 1 + c.fields_len.result ≡ length ((lines_from ((c).before.before.before.before).args.run.now ((entries_from ((c).before.before.before.before).args.n ((c).before.before.before.before).args.records.now)) ((entries_from ((c).before.before.before.before).args.n ((c).before.before.before.before).args.records.now))) ++ (last_line (count_from ((c).before.before.before.before).args.run.now ((entries_from ((c).before.before.before.before).args.n ((c).before.before.before.before).args.records.now))) ((entries_from ((c).before.before.before.before).args.n ((c).before.before.before.before).args.records.now)) ((c).before.before.before.before).args.next-slot)) = omega (arith, c.measure-measured.ensures.long, c.fields_len.ensures.0, ap length (same-last c), length-append ((lines_from ((c).before.before.before.before).args.run.now ((entries_from ((c).before.before.before.before).args.n ((c).before.before.before.before).args.records.now)) ((entries_from ((c).before.before.before.before).args.n ((c).before.before.before.before).args.records.now)))) ((last_line (count_from ((c).before.before.before.before).args.run.now ((entries_from ((c).before.before.before.before).args.n ((c).before.before.before.before).args.records.now))) ((entries_from ((c).before.before.before.before).args.n ((c).before.before.before.before).args.records.now)) ((c).before.before.before.before).args.next-slot))) in long)) in
+    let w = c.put_lines-at.ensures then retext (same-last c) c.put_line.ensures.1 in
+    (ap₂ (λ (k : ℕ) (l : List ℕ). record { answer = wrote k; out = l }) ((let long : c.measure-measured.result.len + 1 + c.fields_len.result ≡ length ((lines_from ((c).before.before.before.before).args.run.now ((entries_from ((c).before.before.before.before).args.n ((c).before.before.before.before).args.records.now)) ((entries_from ((c).before.before.before.before).args.n ((c).before.before.before.before).args.records.now))) ++ (last_line (count_from ((c).before.before.before.before).args.run.now ((entries_from ((c).before.before.before.before).args.n ((c).before.before.before.before).args.records.now))) ((entries_from ((c).before.before.before.before).args.n ((c).before.before.before.before).args.records.now)) ((c).before.before.before.before).args.next-slot)) = omega (arith, c.measure-measured.ensures.long, c.fields_len.ensures.0, ap length (same-last c), length-append ((lines_from ((c).before.before.before.before).args.run.now ((entries_from ((c).before.before.before.before).args.n ((c).before.before.before.before).args.records.now)) ((entries_from ((c).before.before.before.before).args.n ((c).before.before.before.before).args.records.now)))) ((last_line (count_from ((c).before.before.before.before).args.run.now ((entries_from ((c).before.before.before.before).args.n ((c).before.before.before.before).args.records.now))) ((entries_from ((c).before.before.before.before).args.n ((c).before.before.before.before).args.records.now)) ((c).before.before.before.before).args.next-slot))) in long)) (w.now-is ∙ put_front out ((lines_from ((c).before.before.before.before).args.run.now ((entries_from ((c).before.before.before.before).args.n ((c).before.before.before.before).args.records.now)) ((entries_from ((c).before.before.before.before).args.n ((c).before.before.before.before).args.records.now))) ++ (last_line (count_from ((c).before.before.before.before).args.run.now ((entries_from ((c).before.before.before.before).args.n ((c).before.before.before.before).args.records.now))) ((entries_from ((c).before.before.before.before).args.n ((c).before.before.before.before).args.records.now)) ((c).before.before.before.before).args.next-slot)) room) ∙ sym (stored_row ((lines_from ((c).before.before.before.before).args.run.now ((entries_from ((c).before.before.before.before).args.n ((c).before.before.before.before).args.records.now)) ((entries_from ((c).before.before.before.before).args.n ((c).before.before.before.before).args.records.now))) ++ (last_line (count_from ((c).before.before.before.before).args.run.now ((entries_from ((c).before.before.before.before).args.n ((c).before.before.before.before).args.records.now))) ((entries_from ((c).before.before.before.before).args.n ((c).before.before.before.before).args.records.now)) ((c).before.before.before.before).args.next-slot)) out room), (let short : length ((lines_from ((c).before.before.before.before).args.run.now ((entries_from ((c).before.before.before.before).args.n ((c).before.before.before.before).args.records.now)) ((entries_from ((c).before.before.before.before).args.n ((c).before.before.before.before).args.records.now))) ++ (last_line (count_from ((c).before.before.before.before).args.run.now ((entries_from ((c).before.before.before.before).args.n ((c).before.before.before.before).args.records.now))) ((entries_from ((c).before.before.before.before).args.n ((c).before.before.before.before).args.records.now)) ((c).before.before.before.before).args.next-slot)) ≤ TEXT_BYTES = omega (arith, (let long : c.measure-measured.result.len + 1 + c.fields_len.result ≡ length ((lines_from ((c).before.before.before.before).args.run.now ((entries_from ((c).before.before.before.before).args.n ((c).before.before.before.before).args.records.now)) ((entries_from ((c).before.before.before.before).args.n ((c).before.before.before.before).args.records.now))) ++ (last_line (count_from ((c).before.before.before.before).args.run.now ((entries_from ((c).before.before.before.before).args.n ((c).before.before.before.before).args.records.now))) ((entries_from ((c).before.before.before.before).args.n ((c).before.before.before.before).args.records.now)) ((c).before.before.before.before).args.next-slot)) = omega (arith, c.measure-measured.ensures.long, c.fields_len.ensures.0, ap length (same-last c), length-append ((lines_from ((c).before.before.before.before).args.run.now ((entries_from ((c).before.before.before.before).args.n ((c).before.before.before.before).args.records.now)) ((entries_from ((c).before.before.before.before).args.n ((c).before.before.before.before).args.records.now)))) ((last_line (count_from ((c).before.before.before.before).args.run.now ((entries_from ((c).before.before.before.before).args.n ((c).before.before.before.before).args.records.now))) ((entries_from ((c).before.before.before.before).args.n ((c).before.before.before.before).args.records.now)) ((c).before.before.before.before).args.next-slot))) in long), c.measure-measured.ensures.short, c.fields_len.ensures.1) in short))

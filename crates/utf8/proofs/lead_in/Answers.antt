@@ -1,0 +1,17 @@
+-- `utf8::lead_in` meets its contract: the table's entry, taken apart, is what the first byte calls for.
+use mathlib.Core.Path.{◌≡◌, ap}
+use native.Mathlib.Omega.{arith}
+use lib.ListN.{get_or}
+use Rattle.rows.specs.Utf8.{following}
+use Rattle.utf8.specs.declared.Lead.{Lead}
+use Rattle.utf8.specs.Lead.{unpacked, lead_of}
+use Rattle.utf8.proofs.Table.{table-laws, longest}
+use Rattle.utf8.proofs.lead_in.Goals as goal
+
+pub overflow_cast-result : goal.overflow_cast-result
+overflow_cast-result c =
+    omega (arith, ap (λ (l : Lead). l.len) ((let entry : let a = c.args in unpacked (get_or a.table.now a.b 0) ≡ lead_of (following a.b) = rw c.requires (table-laws.every-entry c.args.b (omega arith)) in entry)), longest c.args.b)
+
+pub returns : goal.returns
+returns c =
+    (let entry : let a = c.args in unpacked (get_or a.table.now a.b 0) ≡ lead_of (following a.b) = rw c.requires (table-laws.every-entry c.args.b (omega arith)) in entry)

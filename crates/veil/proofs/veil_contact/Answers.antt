@@ -1,0 +1,58 @@
+-- `veil::veil_contact` meets its contract: one part behind another; or the row's own refusal, or no room.
+use Prim.Native.Nat.{◌+◌}
+use mathlib.Core.Path.{◌≡◌, ap, subst, ◌∙◌}
+use native.Mathlib.Omega.{arith}
+use lib.ListN.{length}
+use Rattle.layout.specs.Layout.{accepted, read_row, print, blank_of}
+use Rattle.layout.specs.Veil.{veil}
+use Rattle.layout.specs.RowLaws.{Bytes}
+use Rattle.layout.proofs.At.{learn, typed}
+use Rattle.rows.specs.Rows.{contact}
+use Rattle.put.proofs.Put.{◌then◌, wrote-long}
+use Rattle.contact_parts.specs.Parts.{paired, keys, chained, numbers}
+use Rattle.contact_parts.specs.Offsets.{paired_from, numbers_from}
+use Rattle.contact.specs.Check.{contact_from, Offsets, check_refusal}
+use Rattle.contact.proofs.Placed.{Placed, check_says, check-says, check-placed}
+use Rattle.veil_contact.specs.Veiled.{Stands, veiled_keys, veiled_chained}
+use Rattle.veil_contact.proofs.Whole.{paired-stands, veiled-copy, copy-long, numbers-run}
+use Rattle.veil.proofs.Copied.{copy-refused, copy-short, copy_stored}
+use Rattle.veil.proofs.veil_contact.Goals as goal
+
+pub returns-in_default : goal.returns-in_default
+returns-in_default c =
+    let a = c.args in
+    let told = c.enum_told-1.given.1 in
+    rw (c.refusal.ensures ∙ ap check_refusal told) (copy-refused (contact a.version) a.row.now a.out.now (learn (check_says a.row.now) ((let says : let a = c.args in check_says a.row.now c.check_contact-check.result ≡ read_row (contact a.version) a.row.now = let a = c.args in check-says a.row.now (typed a.row.now c.shared_slice_known-1.given) a.version c.check_contact-check.ensures in says)) told))
+
+pub returns-then-out-n : goal.returns-then-out-n
+returns-then-out-n c =
+    let a = ((c).before.before.before).args in
+    copy-short (contact a.version) a.row.now a.out.now ((let read : read_row (contact ((c).before.before.before).args.version) (((c).before.before.before).args.row.now) ≡ accepted (contact_from (((c).before.before.before).args.row.now) (c.check-1.given.0.0)) = learn (check_says (((c).before.before.before).args.row.now)) ((let says : let a = c.args in check_says a.row.now c.check_contact-check.result ≡ read_row (contact a.version) a.row.now = let a = c.args in check-says a.row.now (typed a.row.now c.shared_slice_known-1.given) a.version c.check_contact-check.ensures in says)) c.check-1.given.1 in read)) c.if-out-n.true
+
+pub veil_paired-keys_at-requires : goal.veil_paired-keys_at-requires
+veil_paired-keys_at-requires c =
+    (((let places : Offsets (((c).before.before.before).args.row.now) (c.check-1.given.0.0) = subst (Placed (((c).before.before.before).args.row.now)) c.check-1.given.1 (check-placed (((c).before.before.before).args.row.now) ((let by : Bytes (((c).before.before.before).args.row.now) = typed (((c).before.before.before).args.row.now) c.shared_slice_known-1.given in by)) ((c).before.before.before).args.version c.check_contact-check.ensures) in places)).card, (let stands : Stands paired (((c).before.before.before).args.row.now) 0 (paired_from (((c).before.before.before).args.row.now) (c.check-1.given.0.0).paired) = paired-stands ((c).before.before.before).args.version (((c).before.before.before).args.row.now) ((let by : Bytes (((c).before.before.before).args.row.now) = typed (((c).before.before.before).args.row.now) c.shared_slice_known-1.given in by)) (c.check-1.given.0.0).paired (c.check-1.given.0.0).keys (c.check-1.given.0.0).chained (c.check-1.given.0.0).numbers ((let read : read_row (contact ((c).before.before.before).args.version) (((c).before.before.before).args.row.now) ≡ accepted (contact_from (((c).before.before.before).args.row.now) (c.check-1.given.0.0)) = learn (check_says (((c).before.before.before).args.row.now)) ((let says : let a = c.args in check_says a.row.now c.check_contact-check.result ≡ read_row (contact a.version) a.row.now = let a = c.args in check-says a.row.now (typed a.row.now c.shared_slice_known-1.given) a.version c.check_contact-check.ensures in says)) c.check-1.given.1 in read)) in stands), omega (arith, (let long : length (print paired (blank_of paired veil (paired_from (((c).before.before.before).args.row.now) (c.check-1.given.0.0).paired))) + (length (print keys (veiled_keys (c.check-1.given.0.0).keys)) + (length (print chained (veiled_chained (((c).before.before.before).args.row.now) (c.check-1.given.0.0).chained)) + length (print numbers (numbers_from (((c).before.before.before).args.row.now) (c.check-1.given.0.0).numbers)))) ≡ length (((c).before.before.before).args.row.now) = copy-long ((c).before.before.before).args.version (((c).before.before.before).args.row.now) ((let by : Bytes (((c).before.before.before).args.row.now) = typed (((c).before.before.before).args.row.now) c.shared_slice_known-1.given in by)) (c.check-1.given.0.0).paired (c.check-1.given.0.0).keys (c.check-1.given.0.0).chained (c.check-1.given.0.0).numbers ((let read : read_row (contact ((c).before.before.before).args.version) (((c).before.before.before).args.row.now) ≡ accepted (contact_from (((c).before.before.before).args.row.now) (c.check-1.given.0.0)) = learn (check_says (((c).before.before.before).args.row.now)) ((let says : let a = c.args in check_says a.row.now c.check_contact-check.result ≡ read_row (contact a.version) a.row.now = let a = c.args in check-says a.row.now (typed a.row.now c.shared_slice_known-1.given) a.version c.check_contact-check.ensures in says)) c.check-1.given.1 in read)) in long)))
+
+pub veil_keys-chained_at-requires : goal.veil_keys-chained_at-requires
+veil_keys-chained_at-requires c =
+    omega (arith, (let long : length (print paired (blank_of paired veil (paired_from (((c).before.before.before).args.row.now) (c.check-1.given.0.0).paired))) + (length (print keys (veiled_keys (c.check-1.given.0.0).keys)) + (length (print chained (veiled_chained (((c).before.before.before).args.row.now) (c.check-1.given.0.0).chained)) + length (print numbers (numbers_from (((c).before.before.before).args.row.now) (c.check-1.given.0.0).numbers)))) ≡ length (((c).before.before.before).args.row.now) = copy-long ((c).before.before.before).args.version (((c).before.before.before).args.row.now) ((let by : Bytes (((c).before.before.before).args.row.now) = typed (((c).before.before.before).args.row.now) c.shared_slice_known-1.given in by)) (c.check-1.given.0.0).paired (c.check-1.given.0.0).keys (c.check-1.given.0.0).chained (c.check-1.given.0.0).numbers ((let read : read_row (contact ((c).before.before.before).args.version) (((c).before.before.before).args.row.now) ≡ accepted (contact_from (((c).before.before.before).args.row.now) (c.check-1.given.0.0)) = learn (check_says (((c).before.before.before).args.row.now)) ((let says : let a = c.args in check_says a.row.now c.check_contact-check.result ≡ read_row (contact a.version) a.row.now = let a = c.args in check-says a.row.now (typed a.row.now c.shared_slice_known-1.given) a.version c.check_contact-check.ensures in says)) c.check-1.given.1 in read)) in long))
+
+pub veil_chained-numbers_at-requires : goal.veil_chained-numbers_at-requires
+veil_chained-numbers_at-requires c =
+    (((let places : Offsets (((c).before.before.before).args.row.now) (c.check-1.given.0.0) = subst (Placed (((c).before.before.before).args.row.now)) c.check-1.given.1 (check-placed (((c).before.before.before).args.row.now) ((let by : Bytes (((c).before.before.before).args.row.now) = typed (((c).before.before.before).args.row.now) c.shared_slice_known-1.given in by)) ((c).before.before.before).args.version c.check_contact-check.ensures) in places)).chained, omega (arith, (let long : length (print paired (blank_of paired veil (paired_from (((c).before.before.before).args.row.now) (c.check-1.given.0.0).paired))) + (length (print keys (veiled_keys (c.check-1.given.0.0).keys)) + (length (print chained (veiled_chained (((c).before.before.before).args.row.now) (c.check-1.given.0.0).chained)) + length (print numbers (numbers_from (((c).before.before.before).args.row.now) (c.check-1.given.0.0).numbers)))) ≡ length (((c).before.before.before).args.row.now) = copy-long ((c).before.before.before).args.version (((c).before.before.before).args.row.now) ((let by : Bytes (((c).before.before.before).args.row.now) = typed (((c).before.before.before).args.row.now) c.shared_slice_known-1.given in by)) (c.check-1.given.0.0).paired (c.check-1.given.0.0).keys (c.check-1.given.0.0).chained (c.check-1.given.0.0).numbers ((let read : read_row (contact ((c).before.before.before).args.version) (((c).before.before.before).args.row.now) ≡ accepted (contact_from (((c).before.before.before).args.row.now) (c.check-1.given.0.0)) = learn (check_says (((c).before.before.before).args.row.now)) ((let says : let a = c.args in check_says a.row.now c.check_contact-check.result ≡ read_row (contact a.version) a.row.now = let a = c.args in check-says a.row.now (typed a.row.now c.shared_slice_known-1.given) a.version c.check_contact-check.ensures in says)) c.check-1.given.1 in read)) in long), c.if-out-n.false, c.veil_paired-keys_at.ensures.0, c.veil_keys-chained_at.ensures.0, wrote-long c.veil_paired-keys_at.ensures.1, wrote-long c.veil_keys-chained_at.ensures.1))
+
+pub overflow_sub-n : goal.overflow_sub-n
+overflow_sub-n c =
+    omega (arith, (let long : length (print paired (blank_of paired veil (paired_from (((c).before.before.before).args.row.now) (c.check-1.given.0.0).paired))) + (length (print keys (veiled_keys (c.check-1.given.0.0).keys)) + (length (print chained (veiled_chained (((c).before.before.before).args.row.now) (c.check-1.given.0.0).chained)) + length (print numbers (numbers_from (((c).before.before.before).args.row.now) (c.check-1.given.0.0).numbers)))) ≡ length (((c).before.before.before).args.row.now) = copy-long ((c).before.before.before).args.version (((c).before.before.before).args.row.now) ((let by : Bytes (((c).before.before.before).args.row.now) = typed (((c).before.before.before).args.row.now) c.shared_slice_known-1.given in by)) (c.check-1.given.0.0).paired (c.check-1.given.0.0).keys (c.check-1.given.0.0).chained (c.check-1.given.0.0).numbers ((let read : read_row (contact ((c).before.before.before).args.version) (((c).before.before.before).args.row.now) ≡ accepted (contact_from (((c).before.before.before).args.row.now) (c.check-1.given.0.0)) = learn (check_says (((c).before.before.before).args.row.now)) ((let says : let a = c.args in check_says a.row.now c.check_contact-check.result ≡ read_row (contact a.version) a.row.now = let a = c.args in check-says a.row.now (typed a.row.now c.shared_slice_known-1.given) a.version c.check_contact-check.ensures in says)) c.check-1.given.1 in read)) in long), c.if-out-n.false, c.veil_paired-keys_at.ensures.0, c.veil_keys-chained_at.ensures.0, c.veil_chained-numbers_at.ensures.0, wrote-long c.veil_paired-keys_at.ensures.1, wrote-long c.veil_keys-chained_at.ensures.1, wrote-long c.veil_chained-numbers_at.ensures.1)
+
+pub put_run-requires : goal.put_run-requires
+put_run-requires c =
+    (omega (arith, (let long : length (print paired (blank_of paired veil (paired_from (((c).before.before.before).args.row.now) (c.check-1.given.0.0).paired))) + (length (print keys (veiled_keys (c.check-1.given.0.0).keys)) + (length (print chained (veiled_chained (((c).before.before.before).args.row.now) (c.check-1.given.0.0).chained)) + length (print numbers (numbers_from (((c).before.before.before).args.row.now) (c.check-1.given.0.0).numbers)))) ≡ length (((c).before.before.before).args.row.now) = copy-long ((c).before.before.before).args.version (((c).before.before.before).args.row.now) ((let by : Bytes (((c).before.before.before).args.row.now) = typed (((c).before.before.before).args.row.now) c.shared_slice_known-1.given in by)) (c.check-1.given.0.0).paired (c.check-1.given.0.0).keys (c.check-1.given.0.0).chained (c.check-1.given.0.0).numbers ((let read : read_row (contact ((c).before.before.before).args.version) (((c).before.before.before).args.row.now) ≡ accepted (contact_from (((c).before.before.before).args.row.now) (c.check-1.given.0.0)) = learn (check_says (((c).before.before.before).args.row.now)) ((let says : let a = c.args in check_says a.row.now c.check_contact-check.result ≡ read_row (contact a.version) a.row.now = let a = c.args in check-says a.row.now (typed a.row.now c.shared_slice_known-1.given) a.version c.check_contact-check.ensures in says)) c.check-1.given.1 in read)) in long), c.if-out-n.false, c.veil_paired-keys_at.ensures.0, c.veil_keys-chained_at.ensures.0, c.veil_chained-numbers_at.ensures.0, wrote-long c.veil_paired-keys_at.ensures.1, wrote-long c.veil_keys-chained_at.ensures.1, wrote-long c.veil_chained-numbers_at.ensures.1), omega (arith, (let long : length (print paired (blank_of paired veil (paired_from (((c).before.before.before).args.row.now) (c.check-1.given.0.0).paired))) + (length (print keys (veiled_keys (c.check-1.given.0.0).keys)) + (length (print chained (veiled_chained (((c).before.before.before).args.row.now) (c.check-1.given.0.0).chained)) + length (print numbers (numbers_from (((c).before.before.before).args.row.now) (c.check-1.given.0.0).numbers)))) ≡ length (((c).before.before.before).args.row.now) = copy-long ((c).before.before.before).args.version (((c).before.before.before).args.row.now) ((let by : Bytes (((c).before.before.before).args.row.now) = typed (((c).before.before.before).args.row.now) c.shared_slice_known-1.given in by)) (c.check-1.given.0.0).paired (c.check-1.given.0.0).keys (c.check-1.given.0.0).chained (c.check-1.given.0.0).numbers ((let read : read_row (contact ((c).before.before.before).args.version) (((c).before.before.before).args.row.now) ≡ accepted (contact_from (((c).before.before.before).args.row.now) (c.check-1.given.0.0)) = learn (check_says (((c).before.before.before).args.row.now)) ((let says : let a = c.args in check_says a.row.now c.check_contact-check.result ≡ read_row (contact a.version) a.row.now = let a = c.args in check-says a.row.now (typed a.row.now c.shared_slice_known-1.given) a.version c.check_contact-check.ensures in says)) c.check-1.given.1 in read)) in long), c.if-out-n.false, c.veil_paired-keys_at.ensures.0, c.veil_keys-chained_at.ensures.0, c.veil_chained-numbers_at.ensures.0, wrote-long c.veil_paired-keys_at.ensures.1, wrote-long c.veil_keys-chained_at.ensures.1, wrote-long c.veil_chained-numbers_at.ensures.1))
+
+pub returns : goal.returns
+returns c =
+    let a = ((c).before.before.before).args in
+    let here : c.veil_chained-numbers_at.result + length (print numbers (numbers_from a.row.now (c.check-1.given.0.0).numbers)) ≡ length a.row.now = omega (arith, (let long : length (print paired (blank_of paired veil (paired_from (((c).before.before.before).args.row.now) (c.check-1.given.0.0).paired))) + (length (print keys (veiled_keys (c.check-1.given.0.0).keys)) + (length (print chained (veiled_chained (((c).before.before.before).args.row.now) (c.check-1.given.0.0).chained)) + length (print numbers (numbers_from (((c).before.before.before).args.row.now) (c.check-1.given.0.0).numbers)))) ≡ length (((c).before.before.before).args.row.now) = copy-long ((c).before.before.before).args.version (((c).before.before.before).args.row.now) ((let by : Bytes (((c).before.before.before).args.row.now) = typed (((c).before.before.before).args.row.now) c.shared_slice_known-1.given in by)) (c.check-1.given.0.0).paired (c.check-1.given.0.0).keys (c.check-1.given.0.0).chained (c.check-1.given.0.0).numbers ((let read : read_row (contact ((c).before.before.before).args.version) (((c).before.before.before).args.row.now) ≡ accepted (contact_from (((c).before.before.before).args.row.now) (c.check-1.given.0.0)) = learn (check_says (((c).before.before.before).args.row.now)) ((let says : let a = c.args in check_says a.row.now c.check_contact-check.result ≡ read_row (contact a.version) a.row.now = let a = c.args in check-says a.row.now (typed a.row.now c.shared_slice_known-1.given) a.version c.check_contact-check.ensures in says)) c.check-1.given.1 in read)) in long), c.veil_paired-keys_at.ensures.0, c.veil_keys-chained_at.ensures.0, c.veil_chained-numbers_at.ensures.0) in
+    let w = c.veil_paired-keys_at.ensures.1 then (c.veil_keys-chained_at.ensures.1 then (c.veil_chained-numbers_at.ensures.1 then rw (numbers-run a.version a.row.now ((let by : Bytes (((c).before.before.before).args.row.now) = typed (((c).before.before.before).args.row.now) c.shared_slice_known-1.given in by)) (c.check-1.given.0.0).paired (c.check-1.given.0.0).keys (c.check-1.given.0.0).chained (c.check-1.given.0.0).numbers ((let read : read_row (contact ((c).before.before.before).args.version) (((c).before.before.before).args.row.now) ≡ accepted (contact_from (((c).before.before.before).args.row.now) (c.check-1.given.0.0)) = learn (check_says (((c).before.before.before).args.row.now)) ((let says : let a = c.args in check_says a.row.now c.check_contact-check.result ≡ read_row (contact a.version) a.row.now = let a = c.args in check-says a.row.now (typed a.row.now c.shared_slice_known-1.given) a.version c.check_contact-check.ensures in says)) c.check-1.given.1 in read)) _ here) c.put_run.ensures.1.before.check.given.0.0)) in
+    copy_stored (contact a.version) a.row.now a.out.now ((let read : read_row (contact ((c).before.before.before).args.version) (((c).before.before.before).args.row.now) ≡ accepted (contact_from (((c).before.before.before).args.row.now) (c.check-1.given.0.0)) = learn (check_says (((c).before.before.before).args.row.now)) ((let says : let a = c.args in check_says a.row.now c.check_contact-check.result ≡ read_row (contact a.version) a.row.now = let a = c.args in check-says a.row.now (typed a.row.now c.shared_slice_known-1.given) a.version c.check_contact-check.ensures in says)) c.check-1.given.1 in read)) c.if-out-n.false
+    (rw (← veiled-copy a.version a.row.now ((let by : Bytes (((c).before.before.before).args.row.now) = typed (((c).before.before.before).args.row.now) c.shared_slice_known-1.given in by)) (c.check-1.given.0.0).paired (c.check-1.given.0.0).keys (c.check-1.given.0.0).chained (c.check-1.given.0.0).numbers ((let read : read_row (contact ((c).before.before.before).args.version) (((c).before.before.before).args.row.now) ≡ accepted (contact_from (((c).before.before.before).args.row.now) (c.check-1.given.0.0)) = learn (check_says (((c).before.before.before).args.row.now)) ((let says : let a = c.args in check_says a.row.now c.check_contact-check.result ≡ read_row (contact a.version) a.row.now = let a = c.args in check-says a.row.now (typed a.row.now c.shared_slice_known-1.given) a.version c.check_contact-check.ensures in says)) c.check-1.given.1 in read))) w.before.check.given.0.0)

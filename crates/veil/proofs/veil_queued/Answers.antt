@@ -1,0 +1,40 @@
+-- `veil::veil_queued` meets its contract: read, s and the sealed text set to 0, and written; or the row's own refusal.
+use Prim.Native.Nat.{ℕ, ◌-◌}
+use mathlib.Core.List.{List}
+use mathlib.Core.Path.{ap, ◌∙◌}
+use lib.ListN.{length}
+use Rattle.layout.specs.Write.{writes}
+use Rattle.layout.proofs.At.{typed}
+use Rattle.rows.specs.Rows.{queued}
+use Rattle.queued_row.specs.Row.{image}
+use Rattle.queued_row.specs.declared.QueuedRead.{QueuedRead}
+use Rattle.veil.proofs.Copied.{not-copied}
+use Rattle.veil.proofs.Text.{Tail, take-zeros, prefix-long}
+use Rattle.veil.proofs.Queued.{blanked, queued-tail, queued-copied}
+use Rattle.veil.proofs.veil_queued.Goals as goal
+
+pub returns-in_default : goal.returns-in_default
+returns-in_default c =
+    let a = c.args in
+    let read = ap (λ (x : QueuedRead). x.verdict) c.read_queued-read.ensures in
+    not-copied (queued a.version) (c.args.row.now) read c.enum_told-in_default-1.given.1 c.refusal.ensures a.out.now
+
+pub overflow_sub-len : goal.overflow_sub-len
+overflow_sub-len c =
+    ((let found : Tail (c.args.row.now) c.read_queued-read.result.sealed_at = queued-tail c.args.version (c.args.row.now) (typed (c.args.row.now) c.shared_slice_known-1.given) c.read_queued-read.ensures c.enum_told-1.given.1 in found)).inside
+
+pub slice_bounds-zeros-end : goal.slice_bounds-zeros-end
+slice_bounds-zeros-end c =
+    ((let found : Tail (c.args.row.now) c.read_queued-read.result.sealed_at = queued-tail c.args.version (c.args.row.now) (typed (c.args.row.now) c.shared_slice_known-1.given) c.read_queued-read.ensures c.enum_told-1.given.1 in found)).few
+
+pub slice_bounds-row-end : goal.slice_bounds-row-end
+slice_bounds-row-end c =
+    prefix-long ((let found : Tail (c.args.row.now) c.read_queued-read.result.sealed_at = queued-tail c.args.version (c.args.row.now) (typed (c.args.row.now) c.shared_slice_known-1.given) c.read_queued-read.ensures c.enum_told-1.given.1 in found))
+
+pub returns : goal.returns
+returns c =
+    let a = c.args in
+    let n = length (c.args.row.now) - c.read_queued-read.result.sealed_at in
+    c.row.ensures
+    ∙ ap (λ (l : List ℕ). writes (queued 3) (image (blanked c.read_queued-read.result.queued) l) a.out.now) (take-zeros n 4064 ((let found : Tail (c.args.row.now) c.read_queued-read.result.sealed_at = queued-tail c.args.version (c.args.row.now) (typed (c.args.row.now) c.shared_slice_known-1.given) c.read_queued-read.ensures c.enum_told-1.given.1 in found)).few)
+    ∙ queued-copied a.version (c.args.row.now) (typed (c.args.row.now) c.shared_slice_known-1.given) c.read_queued-read.ensures c.enum_told-1.given.1 a.out.now
