@@ -17,9 +17,21 @@ def words(text: str) -> set[str]:
     return found
 
 
+def lines_of(text: str) -> list[str]:
+    """The lines, with an import that goes on over several as one."""
+    lines, opened = [], False
+    for line in text.split("\n"):
+        if opened:
+            lines[-1] += " " + line.strip()
+        else:
+            lines.append(line)
+        opened = lines[-1].startswith(("use ", "ghost use ")) and lines[-1].count("{") > lines[-1].count("}")
+    return lines
+
+
 def unused(path: pathlib.Path) -> list[str]:
     text = path.read_text()
-    lines = text.split("\n")
+    lines = lines_of(text)
     imports = [(USE.match(line), line) for line in lines]
     body = words("\n".join(line for match, line in imports if not match))
     missing = []
@@ -30,22 +42,23 @@ def unused(path: pathlib.Path) -> list[str]:
         if names is not None:
             wanted = [name.split(" as ")[-1].strip() for name in names.split(",")]
         else:
-            wanted = [alias or module.split("::")[-1]]
+            wanted = [alias or re.split(r"::|\.", module)[-1]]
         missing += [name for name in wanted if not used(name, body, text)]
     return missing
 
 
 def doubled(path: pathlib.Path) -> list[str]:
-    imports = [line for line in path.read_text().split("\n") if USE.match(line)]
+    imports = [line for line in lines_of(path.read_text()) if USE.match(line)]
     return sorted({line for line in imports if imports.count(line) > 1})
 
 
 def used(name: str, body: set[str], text: str) -> bool:
+    """Whether a name is in the code; of an operator, as ◌+◌, all its words."""
     if name == "[]":
         return text.count("[]") > 1
-    if name in ("_>>=_", "_>>_"):  # what a `do` block stands for
+    if name in ("◌>>=◌", "◌>>◌"):  # what a `do` block stands for
         return "do" in body
-    return name in body or name.strip("_") in body
+    return name in body or all(word in body for word in name.split("◌") if word)
 
 
 def main() -> int:
