@@ -1,4 +1,4 @@
-// The functions that Rust and C call, under their C names; `rt staticlib export` makes the library. A slice passes as its pointer and its length.
+// What Rust and C call under these names, by c_card_c; and what the answers of the other faces have in common.
 // None requires anything of its caller. A granted call answers 0, a refused one the question's number; what a refused call was lent stays as it was.
 #![tactic(auto)]
 
@@ -42,8 +42,7 @@ pub fn zero_or(written: Written) -> u32
 }
 
 // The number that the input begins with: 0, and its value and how many bytes it took stand in the answer's first two places; or the question's number.
-#[unsafe(no_mangle)]
-pub extern "C" fn sicklestar_read_leb128(input: &[u8], answer: &mut [u64]) -> u32
+pub fn sicklestar_read_leb128(input: &[u8], answer: &mut [u64]) -> u32
     ensures { leaves result answer.new ≡ read_leb128 input.now answer.old }
 {
     match data::read_leb128(input) {
@@ -60,24 +59,21 @@ pub extern "C" fn sicklestar_read_leb128(input: &[u8], answer: &mut [u64]) -> u3
 }
 
 // Writes the value to the front of the output.
-#[unsafe(no_mangle)]
-pub extern "C" fn sicklestar_leb128(value: u32, out: &mut [u8]) -> WriteAnswer
+pub fn sicklestar_leb128(value: u32, out: &mut [u8]) -> WriteAnswer
     ensures { leaves result out.new ≡ write_leb128 value out.old }
 {
     length_or(data::leb128(value, out))
 }
 
 // Whether the name is UTF-8: 1 or 0.
-#[unsafe(no_mangle)]
-pub extern "C" fn sicklestar_utf8(name: &[u8]) -> u32
+pub fn sicklestar_utf8(name: &[u8]) -> u32
     ensures { result ≡ is_utf8 name.now }
 {
     if utf8::is_utf8(name) { 1 } else { 0 }
 }
 
 // Reads a card, and writes it again to the front of the output: 0, or the question's number.
-#[unsafe(no_mangle)]
-pub extern "C" fn sicklestar_card(input: &[u8], out: &mut [u8]) -> u32
+pub fn sicklestar_card(input: &[u8], out: &mut [u8]) -> u32
     ensures { leaves result out.new ≡ rewrite_card input.now out.old }
 {
     let decoded = Card::decode(input);
