@@ -8,11 +8,14 @@ set -eu
 folder=$(cd "$1" && pwd)
 cd "$(dirname "$0")/../.."
 seed=${2:-1}
-rt check statement replay
+# each is proved and built here where it is missing or older than its sources
+for name in statement replay; do
+    tools/run "$name" </dev/null >/dev/null
+done
 tools/oracle/build.sh --no-rattle "$folder"
 oracle=target/oracle/oracle-no-rattle
 "$oracle" sheets-rust "$seed" 50
 "$oracle" scripts-rust "$seed" 100
-"$oracle" sheets-check "$seed" 50 target/bin/statement
-"$oracle" scripts-check "$seed" 100 target/bin/replay
-"$oracle" orders-check "$seed" 100 target/bin/replay
+"$oracle" sheets-check "$seed" 50 crates/statement/out/statement
+"$oracle" scripts-check "$seed" 100 crates/replay/out/replay
+"$oracle" orders-check "$seed" 100 crates/replay/out/replay

@@ -81,7 +81,7 @@ fn link_libraries() -> Result<(), String> {
         println!("cargo::rerun-if-changed={}", file.display());
         if !file.is_file() {
             let missing = format!("no target/staticlib/lib{name}.a");
-            return Err(format!("{missing}: run 'rt staticlib {name}' first"));
+            return Err(format!("{missing}: run tools/oracle/build.sh, which fills it"));
         }
         println!("cargo::rustc-link-lib=static={name}");
     }

@@ -1,7 +1,8 @@
 #!/bin/sh
 # Builds the oracle with the unchanged Rust files, or tests it.
 # usage: tools/oracle/build.sh [--no-rattle | --test] FOLDER
-# FOLDER holds the originals, which stay where they are. `rt ci` removes target/: build again after it.
+# FOLDER holds the originals, which stay where they are.
+# With neither flag the Rattle's static libraries are proved and built first, where they have changed, and copied to target/staticlib.
 # --no-rattle: the model stands in for the Rattle's libraries.
 # --test: the small comparisons, and whether the stored samples are what the oracle writes; needs no Rattle either.
 set -eu
@@ -21,9 +22,26 @@ export CAIRN_ORIGINALS
 
 cd "$(dirname "$0")"
 out=../../target/oracle
+
+# Has rt lib build each C face as crates/NAME/out/libNAME.a, and copies these. That of c_card is c_card_c's, since other faces use c_card as a library.
+fill_libraries() {
+    libraries=../../target/staticlib
+    mkdir -p "$libraries"
+    for name in c_card c_rows c_contact c_veil c_restore; do
+        face=$name
+        if [ "$name" = c_card ]; then face=c_card_c; fi
+        folder=../../crates/$face
+        echo "proving and building $face, where it has changed"
+        (cd "$folder" && rt lib) >"$libraries/$name.log" 2>&1 || { cat "$libraries/$name.log" >&2; exit 1; }
+        # an archive that is as it was stays, so that nothing is linked again
+        cmp -s "$folder/out/lib$face.a" "$libraries/lib$name.a" || cp "$folder/out/lib$face.a" "$libraries/lib$name.a"
+    done
+}
+
 case $mode in
 --test) exec cargo test --frozen --release ;;
 --rattle)
+    fill_libraries
     cargo build --frozen --release --features rattle
     program=oracle
     ;;
