@@ -64,6 +64,8 @@ def used(name: str, body: set[str], text: str) -> bool:
 def main() -> int:
     bad = 0
     for path in sorted(pathlib.Path("crates").rglob("*")):
+        if "out" in path.parts:  # made by rt
+            continue
         if path.suffix in (".antt", ".rt"):
             for name in unused(path):
                 print(f"{path}: {name} is not used")

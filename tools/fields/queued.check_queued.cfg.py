@@ -1,1 +1,0 @@
-places = "queuedAt version"

@@ -1,4 +1,0 @@
-crate = "restore_duplicates"
-fn = "many_in"
-ends = "is-r ∙ is-place"
-uses = ["use Rattle·walks.proofs.Table.{of-array, repeated, in-cells, whole-of, lends-whole, whole-back, cells-back, big-lit}"]

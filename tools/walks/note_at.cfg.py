@@ -1,4 +1,0 @@
-crate = "restore"
-fn = "note_at"
-ends = "is-r"
-uses = []
