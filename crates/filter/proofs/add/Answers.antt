@@ -1,5 +1,5 @@
 -- `filter::add` meets its contract.
-use Rattle.std.proofs.Common.{◌≡◌, ℕ, ◌<◌, true, eqb, List, ◌∷◌, length, set, refl, arith}
+use Rattle.std.proofs.Common.{◌≡◌, ℕ, ◌<◌, true, eqb, List, ◌∷◌, length, set, refl, arith, []}
 use lib.Bits.{bit_or}
 use lib.Dec.{eqb-suc-zero}
 use Rattle.filter.specs.Filter.{mask_of, index_of, word_of, is_set, added}
