@@ -71,7 +71,7 @@ digits-64 n h = few-digits 19 n (omega arith)
 -- ---- its laws
 number_append : (a : ℕ) (ds : List ℕ) (d : ℕ) → number_from a (ds ++ (d ∷ [])) ≡ number_from a ds * 10 + (d - 0x30)
 number_append a [] d = refl
-number_append a (e ∷ ds) d = number_append _ ds d
+number_append a (e ∷ ds) d = number_append (a * 10 + (e - 0x30)) ds d
 
 pub decimal-value : (n : ℕ) → number_from 0 (decimal n) ≡ n
 decimal-value = of-decimal (λ n ds. number_from 0 ds ≡ n) (λ n h. omega arith) (λ n ds h p. number_append 0 ds (digit (n % 10)) ∙ omega arith)
