@@ -12,7 +12,7 @@ use lib.ListN.{length}
 use seplogic.Ra.Ura.{Ura}
 use mir.Syntax.{Lifetime}
 use mir.Val.{Val}
-use base.Fml.{Lft, GName, Share, Fml, flft, fdead}
+use base.Fml.{Lft, GName, Share, flft, fdead}
 use types.Logic.{Logic}
 use types.Kit.{Item, ‵, ◌⊛◌, some, later, given, Goal, Soaks, Seq, Step, step, ◌$◌, drop, use2, use3, split, pick, learn, fsplit, fjoin, feq_i, await}
 use denote.RattleType.{RattleType}
@@ -22,13 +22,13 @@ use borrow.Table.Owned as owned
 use borrow.Rule.Slice.Lend.{kept_f, sl_relend, sl_relent_backˡ}
 
 abbrev pub lent_at : {X : Type 0} → GName → MutBor X → X → MutBor X
-lent_at δ a ys = record { ref_ptr = a.ptr; ghost_name = δ; now = ys }
+lent_at δ a ys = record { ref_ptr = a.ref_ptr; ghost_name = δ; now = ys }
 
 abbrev pub at-list : {X : Type 0} → MutBor X → X → MutBor X
-at-list a ys = lent_at a.name a ys
+at-list a ys = lent_at a.ghost_name a ys
 
-abbrev pub Kept : (R : RattleType) → Lft → Share → ℕ → MutBor (List R.Denot) → List R.Denot → GName → Fml
-Kept R κ q ν a ys δ = kept_f R κ q (ν ∷ []) a.name δ ys a.ptr.0 a.ptr.1
+abbrev pub Kept : {M : Type 1} {𝓤 : Ura M} (𝓛 : Logic 𝓤) (R : RattleType) → Lft → Share → ℕ → MutBor (List R.Denot) → List R.Denot → GName → Item 𝓤
+Kept 𝓛 R κ q ν a ys δ = kept_f 𝓛 R κ q (ν ∷ []) a.ghost_name δ ys a.ref_ptr.0 a.ref_ptr.1
 
 module _ {M : Type 1} {𝓤 : Ura M} {𝓛 : Logic 𝓤} {K : Type 0} {Γ : List (Item 𝓤)} {G : Goal 𝓤 𝓛.H} where
   -- the machine's value of a slice is the one that it came with
@@ -39,17 +39,17 @@ module _ {M : Type 1} {𝓤 : Ura M} {𝓛 : Logic 𝓤} {K : Type 0} {Γ : List
 
 module _ {M : Type 1} {𝓤 : Ura M} {𝓛 : Logic 𝓤} {K : Type 0} {Γ : List (Item 𝓤)} {G : Goal 𝓤 𝓛.H} where
   pub lends_again : K → Soaks G → (R : RattleType) (ℓ : Lifetime) (κ : Lft) (q : Share) (ν : ℕ) (a : MutBor (List R.Denot)) (ys : List R.Denot) → length ys ≡ length a.now
-      → ((δ : GName) → Seq K 𝓛 (‵ ((MutSlice ℓ (ν ∷ []) R).own_val (lent_at δ a ys) (mut_slice_vals a)) ∷ ‵ (Kept R κ q ν a ys δ) ∷ Γ) G)
+      → ((δ : GName) → Seq K 𝓛 (‵ ((MutSlice ℓ (ν ∷ []) R).own_val (lent_at δ a ys) (mut_slice_vals a)) ∷ Kept 𝓛 R κ q ν a ys δ ∷ Γ) G)
       → Seq K 𝓛 (‵ ((MutSlice ℓ κ R).own_val (at-list a ys) (mut_slice_vals a)) ∷ ‵ (flft κ q) ∷ Γ) G
   lends_again t z R ℓ κ q ν a ys long k =
       fsplit t $ fsplit t $ drop t $ fjoin t $
-      use2 𝓛 (later (some (λ (δ : GName). ‵ ((owned.MutSlice ℓ (ν ∷ []) R).own_val (lent_at δ a ys)) ⊛ ‵ (Kept R κ q ν a ys δ))))
-      (sl_relend 𝓛 R κ q (ν ∷ []) a.ref_ptr.0 a.ref_ptr.1 a.name ys) $
+      use2 𝓛 (later (some (λ (δ : GName). ‵ ((owned.MutSlice ℓ (ν ∷ []) R).own_val (lent_at δ a ys)) ⊛ Kept 𝓛 R κ q ν a ys δ)))
+      (sl_relend 𝓛 R κ q (ν ∷ []) a.ref_ptr.0 a.ref_ptr.1 a.ghost_name ys) $
       await t z $ pick t (λ δ. split t $ spelt t R ℓ (ν ∷ []) δ a ys long $ k δ)
 
   pub comes_back : K → Soaks G → (R : RattleType) (ℓ : Lifetime) (κ : Lft) (q : Share) (ν : ℕ) (a : MutBor (List R.Denot)) (ys zs : List R.Denot) (δ : GName) → length zs ≡ length a.now
-      → Step K 𝓛 (‵ ((MutSlice ℓ κ R).own_val (at-list a zs) (mut_slice_vals a)) ∷ ‵ (flft κ q) ∷ Γ) G (‵ (fdead (ν ∷ [])) ∷ ‵ (Kept R κ q ν a ys δ) ∷ ‵ (finally R δ zs) ∷ Γ) G
+      → Step K 𝓛 (‵ ((MutSlice ℓ κ R).own_val (at-list a zs) (mut_slice_vals a)) ∷ ‵ (flft κ q) ∷ Γ) G (‵ (fdead (ν ∷ [])) ∷ Kept 𝓛 R κ q ν a ys δ ∷ ‵ (finally R δ zs) ∷ Γ) G
   comes_back t z R ℓ κ q ν a ys zs δ long = step (λ s.
       use3 𝓛 (later (given (length zs ≡ length ys) (‵ ((owned.MutSlice ℓ κ R).own_val (at-list a zs)) ⊛ ‵ (flft κ q))))
-      (sl_relent_backˡ 𝓛 R κ q (ν ∷ []) a.ref_ptr.0 a.ref_ptr.1 a.name δ ys zs) $
-      await t z $ learn t (λ _. split t $ spelt t R ℓ κ a.name a zs long $ s))
+      (sl_relent_backˡ 𝓛 R κ q (ν ∷ []) a.ref_ptr.0 a.ref_ptr.1 a.ghost_name δ ys zs) $
+      await t z $ learn t (λ _. split t $ spelt t R ℓ κ a.ghost_name a zs long $ s))

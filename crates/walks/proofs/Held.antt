@@ -12,8 +12,8 @@ use mathlib.Core.Path.{◌≡◌, subst}
 use Prim.Native.Nat.{ℕ}
 use mathlib.Core.List.{List, [], ◌∷◌}
 use seplogic.Ra.Ura.{Ura}
-use seplogic.Ra.TreeShare.{full_share}
-use mir.Syntax.{Name, Ty, Place, Opd as Operand, Body, Lifetime, Width, place, copy, seq, call}
+use base.Fraction.{full_share}
+use mir.Syntax.{Callee, Ty, Place, Opd as Operand, Body, Lifetime, Width, place, copy, seq, call}
 use mir.Val.{Val, vint}
 use base.Logic.{SProp, ent, sep, emp, via, comm∗, mono_l, mono_r, assoc∗, assoc'}
 use base.Fml.{Lft, Fml, ftrue, fsep, fat, froom, fdies}
@@ -23,7 +23,7 @@ use contract.Monad.{fact}
 use sound.WpLaws.{FmC}
 use types.Kit.{Item, ‵, raw, mean, ⋆, nth, del, pull, unpull, push, pop, Goal, Post, runs, lands, Seq, Step, step, ◌$◌, fjoin}
 use types.Run.{Opd, Opds, Reads, Finds, load, from, stop}
-use denote.RattleType.{RattleType, owns}
+use denote.RattleType.{RattleType, RowLaws, owns}
 use denote.Laws.{Is, Tells, Makes, Lawful}
 use denote.Plain.{UInt, uint_Tells, uint_Makes, uint_Lawful}
 use denote.Ref.{Bor}
@@ -81,14 +81,14 @@ module _ {M : Type 1} {𝓤 : Ura M} {𝓛 : Logic 𝓤} {K : Type 0} {Γ : List
   none t = step (λ s. nothing t $ fjoin t $ s)
 
   -- the entry n of the context is what the slice owns
-  pub lends : K → (n : ℕ) (ℓ : Lifetime) (κ : Lft) (R : RattleType) (a : Bor (List R.Denot)) → nth 𝓛 n Γ ≡ ‵ ((ShrSlice ℓ κ R).own_val a (shr_slice_vals a)) → {P : Fml}
+  pub lends : K → (n : ℕ) (ℓ : Lifetime) (κ : Lft) (R : RattleType) → RowLaws R → (a : Bor (List R.Denot)) → nth 𝓛 n Γ ≡ ‵ ((ShrSlice ℓ κ R).own_val a (shr_slice_vals a)) → {P : Fml}
       → Step K 𝓛 (‵ (fsep ((ShrSlice ℓ κ R).own_val a (shr_slice_vals a)) P) ∷ Γ) G (‵ P ∷ Γ) G
-  lends t n ℓ κ R a e {P} = step (λ s.
+  lends t n ℓ κ R L a e {P} = step (λ s.
       let O : SProp 𝓤 = sem 𝓛 ((ShrSlice ℓ κ R).own_val a (shr_slice_vals a)) in
       let Δ : List (Item 𝓤) = del 𝓛 n Γ in
       let twice : ent 𝓤 (⋆ 𝓛 Γ) (sep 𝓤 O (⋆ 𝓛 Γ)) =
       via 𝓤 (sep 𝓤 O (⋆ 𝓛 Δ)) (subst (λ (j : Item 𝓤). ent 𝓤 (⋆ 𝓛 Γ) (sep 𝓤 (mean 𝓛 j) (⋆ 𝓛 Δ))) e (pull 𝓛 n Γ))
-      (via 𝓤 (sep 𝓤 (sep 𝓤 O O) (⋆ 𝓛 Δ)) (mono_l 𝓤 (⋆ 𝓛 Δ) ((shr_slice_copy 𝓛 ℓ κ R).twice a (shr_slice_vals a)))
+      (via 𝓤 (sep 𝓤 (sep 𝓤 O O) (⋆ 𝓛 Δ)) (mono_l 𝓤 (⋆ 𝓛 Δ) ((shr_slice_copy 𝓛 ℓ κ R L).twice a (shr_slice_vals a)))
       (via 𝓤 (sep 𝓤 O (sep 𝓤 O (⋆ 𝓛 Δ))) (assoc∗ 𝓤 O O (⋆ 𝓛 Δ))
       (mono_r 𝓤 O (subst (λ (j : Item 𝓤). ent 𝓤 (sep 𝓤 (mean 𝓛 j) (⋆ 𝓛 Δ)) (⋆ 𝓛 Γ)) e (unpull 𝓛 n Γ))))) in
       record {
@@ -109,7 +109,7 @@ module _ {M : Type 1} {𝓤 : Ura M} {𝓛 : Logic 𝓤} {K : Type 0} {Γ : List
   abbrev pub into : K → {i : ℕ} → Finds K 𝓛 Γ E (place i []) (spot_of 𝓤 H E i)
   into t = from t (stop t)
 
-  pub calls-held : K → {C : Calls 𝓤 H} {Λ : Loops 𝓤 H} {q : Post 𝓤 H} {d : Place} {f : Name} {xs : List Operand} → FmC 𝓤 H 𝓛.laws C → {rest : Body} (T : Ended) (c : Clauses 𝓤 T)
+  pub calls-held : K → {C : Calls 𝓤 H} {Λ : Loops 𝓤 H} {q : Post 𝓤 H} {d : Place} {f : Callee} {xs : List Operand} → FmC 𝓤 H 𝓛.laws C → {rest : Body} (T : Ended) (c : Clauses 𝓤 T)
       → Triple 𝓤 (C f) (triple_of 𝓛 T.signature (closing 𝓛 T c)) → (y : (triple_of 𝓛 T.signature (closing 𝓛 T c)).Ghost) → ent 𝓤 (emp 𝓤) ((c y.0.0 y.0.3).requires y.1)
       → (h : Held 𝓛 (type_at T.signature.result y.0.0)) {φ : Res T.signature y.0.0 → Type 0}
       → ((r : Res T.signature y.0.0) (ws : Lasts T y.0.0 y.0.3) → ent 𝓤 ((c y.0.0 y.0.3).ensures y.1 r (at_exit T y.0.0 y.0.3 ws)) (fact 𝓤 (φ r)))
@@ -119,7 +119,7 @@ module _ {M : Type 1} {𝓤 : Ura M} {𝓛 : Logic 𝓤} {K : Type 0} {Γ : List
   calls-held t fm T c known y rq h {φ} sh os k = asked t T c y rq $ calls-fn t fm T c known y h.val h.tells φ sh os k
 
   -- of a function that has `&mut`s: the caller has what says their last values too
-  pub calls-lent : K → {C : Calls 𝓤 H} {Λ : Loops 𝓤 H} {q : Post 𝓤 H} {d : Place} {f : Name} {xs : List Operand} → FmC 𝓤 H 𝓛.laws C → {rest : Body} (T : Ended) (c : Clauses 𝓤 T)
+  pub calls-lent : K → {C : Calls 𝓤 H} {Λ : Loops 𝓤 H} {q : Post 𝓤 H} {d : Place} {f : Callee} {xs : List Operand} → FmC 𝓤 H 𝓛.laws C → {rest : Body} (T : Ended) (c : Clauses 𝓤 T)
       → Triple 𝓤 (C f) (triple_of 𝓛 T.signature (closing 𝓛 T c)) → (y : (triple_of 𝓛 T.signature (closing 𝓛 T c)).Ghost) → ent 𝓤 (emp 𝓤) ((c y.0.0 y.0.3).requires y.1)
       → (h : Held 𝓛 (type_at T.signature.result y.0.0)) {φ : Res T.signature y.0.0 → Lasts T y.0.0 y.0.3 → Type 0}
       → ((r : Res T.signature y.0.0) (ws : Lasts T y.0.0 y.0.3) → ent 𝓤 ((c y.0.0 y.0.3).ensures y.1 r (at_exit T y.0.0 y.0.3 ws)) (fact 𝓤 (φ r ws)))

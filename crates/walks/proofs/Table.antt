@@ -10,7 +10,7 @@
 --     whole_back       once that lifetime is over, from what was kept and what says the last list: that many elements again
 --     cells-back       the elements, as the local that holds an array again
 --     first_of         the `&` slice on the first k elements
---     lends_first      for a lifetime that was made for the call: what that slice owns, under a new name, and what the lender keeps
+--     lends_first      for a lifetime that was made for the call: what that slice owns, and what the lender keeps. With tokens whose meet is within it, which come back
 --     table-back       once that lifetime is over, from what was kept: the local holds an array again
 -- Assumes `Logic`.
 use mathlib.Core.Path.{◌≡◌, refl, sym, subst}
@@ -18,26 +18,28 @@ use Prim.Native.Nat.{ℕ, zero, suc, ◌+◌}
 use mathlib.Core.List.{List, [], ◌∷◌}
 use lib.ListN.{length, take, replicate, length-replicate}
 use seplogic.Ra.Ura.{Ura}
-use seplogic.Ra.TreeShare.{full_share}
+use base.Fraction.{full_share}
 use mir.Syntax.{Lifetime, Width, ty_array, int_big}
 use mir.Val.{Val, vint, Fits}
 use base.Logic.{ent, sep, emp, via, mono_r, assoc∗, assoc', emp∗, snd∗, guard_i}
-use base.Fml.{GName, Share, Fml, ftrue, fsep, fat, flent, fdead}
+use base.Fml.{Lft, GName, Share, Fml, Incl, ftrue, fsep, fat, flent, fdead}
 use prog.Wp.{Env}
-use types.Logic.{Logic, sem}
-use types.Kit.{Item, ‵, ◌⊛◌, some, later, Goal, Soaks, Seq, Step, step, ◌$◌, ◌∵◌, !, qed, move, drop, use1, use2, use3, split, pick, rewrite, fsplit, fjoin, fpick, fpack, feq_l, feq_i, await, done}
+use ghost.Rules.{Toks, span}
+use types.Logic.{Logic, sem, lfts}
+use types.Kit.{Item, ‵, raw, ◌⊛◌, some, later, Goal, Soaks, Seq, Step, step, ◌$◌, ◌∵◌, !, qed, move, drop, use1, use2, use3, split, pick, rewrite, fsplit, fjoin, fpick, fpack, feq_l, feq_i, await, done}
 use types.Run.{Opd}
 use types.SemTy.{SemTy, Arr}
 use types.Share.{Parts, parts, arr_parts}
 use types.Tokens.{lent_back}
 use denote.RattleType.{RattleType}
 use denote.Laws.{Is, Makes}
-use denote.Memory.{cell_at, lone, part_at, mem, shares, part_of}
+use denote.Memory.{cell_at, lone, part_at, mem, shares, part_of, shared_of}
 use denote.Shadow.{shadow}
 use denote.Array.{each, array_val, array_vals, Array, Array-Makes, Array-Tells, Array-Lawful}
 use denote.ArrayMemory.{Single, Array-apart, Array-whole}
 use denote.Lend as Lends
-use denote.Ref.{MutBor}
+use denote.Ref.{Bor, MutBor}
+use denote.Shares.{SharesAsFrom}
 use denote.Slice.{ShrSlice, MutSlice, Room, shr_slice_vals, mut_slice_vals, finally}
 use denote.Steps.{only, owned}
 use borrow.Rule.Array.Share.{Room-take}
@@ -109,8 +111,8 @@ module _ {M : Type 1} {𝓤 : Ura M} {𝓛 : Logic 𝓤} {K : Type 0} {Γ : List
 abbrev pub whole_of : {X : Type 0} → List X → (l : ℕ) → GName → MutBor (List X)
 whole_of xs l γ = record { ref_ptr = (l, 0); ghost_name = γ; now = xs }
 
-abbrev pub first_of : {X : Type 0} → List X → (k l : ℕ) → GName → MutBor (List X)
-first_of xs k l γ = record { ref_ptr = (l, 0); ghost_name = γ; now = take k xs }
+abbrev pub first_of : {X : Type 0} → List X → (k l : ℕ) → Bor (List X)
+first_of xs k l = record { ref_ptr = (l, 0); now = take k xs }
 
 abbrev Fronts : (R : RattleType) → List R.Denot → (k l : ℕ) → Fml
 Fronts R xs k l = (arr_parts (shares R) (length (take k xs))).part full_share (take k xs) l 0
@@ -140,14 +142,15 @@ module _ {M : Type 1} {𝓤 : Ura M} {𝓛 : Logic 𝓤} {K : Type 0} {Γ : List
       await t z $ fsplit t $ feq_l t (λ e. rewrite t 0 (λ (F : Fml). ‵ F) (sym (parts-cells R full_share ys l 0)) refl $ c e)
 
   pub lends_first : K → Soaks G → (R : RattleType) (ℓ : Lifetime) (n : ℕ) → Room R n → (ν : ℕ) (xs : List R.Denot) (k l : ℕ) → length xs ≡ n
-      → ((γ : GName) → Seq K 𝓛 (‵ ((ShrSlice ℓ (ν ∷ []) R).own_val (first_of xs k l γ) (shr_slice_vals (first_of xs k l γ))) ∷ ‵ (Kept R ν xs k l) ∷ Γ) G)
-      → Seq K 𝓛 (‵ (Cells R xs l) ∷ Γ) G
-  lends_first t z R ℓ n room ν xs k l e c =
+      → (m : Lft) → SharesAsFrom 𝓛 full_share R (shared_of R) m → (ts : Toks) → Incl (span ts) m → Incl (span ts) (ν ∷ [])
+      → Seq K 𝓛 (‵ ((ShrSlice ℓ (ν ∷ []) R).own_val (first_of xs k l) (shr_slice_vals (first_of xs k l))) ∷ ‵ (Kept R ν xs k l) ∷ raw (lfts 𝓛 ts) ∷ Γ) G
+      → Seq K 𝓛 (‵ (Cells R xs l) ∷ raw (lfts 𝓛 ts) ∷ Γ) G
+  lends_first t z R ℓ n room ν xs k l e m sh ts inc sp c =
       use1 𝓛 (‵ (parts (mem R) (shares R) full_share (take k xs) l 0) ⊛ ‵ (others (shares R) full_share xs k l 0)) (front (shares R) full_share 𝓛 xs k l 0) $ split t $
-      feq_i t ℕ (length (take k xs)) (length (take k xs)) refl $ fjoin t $
-      use1 𝓛 (later (some (λ (γ : GName). ‵ ((ShrSlice ℓ (ν ∷ []) R).own_val (first_of xs k l γ) (shr_slice_vals (first_of xs k l γ))) ⊛ ‵ (flent (ν ∷ []) (Fronts R xs k l)))))
-      (Lends.lends_shr_slice 𝓛 R ℓ (ν ∷ []) full_share (take k xs) l 0 (Room-take R n k xs e room)) $
-      await t z $ pick t (λ γ. split t $ move t (1 ∷ 2 ∷ []) $ fjoin t $ move t (1 ∷ []) $ c γ)
+      feq_i t ℕ (length (take k xs)) (length (take k xs)) refl $ fjoin t $ move t (0 ∷ 2 ∷ []) $
+      use2 𝓛 (later ((‵ ((ShrSlice ℓ (ν ∷ []) R).own_val (first_of xs k l) (shr_slice_vals (first_of xs k l))) ⊛ ‵ (flent (ν ∷ []) (Fronts R xs k l))) ⊛ raw (lfts 𝓛 ts)))
+      (Lends.lends_shr_slice 𝓛 R ℓ (ν ∷ []) full_share (take k xs) l 0 (Room-take R n k xs e room) m sh ts inc sp) $
+      await t z $ split t $ split t $ move t (1 ∷ 3 ∷ []) $ fjoin t $ move t (1 ∷ []) $ c
 
   pub cells-back : K → (R : RattleType) (n : ℕ) (xs : List R.Denot) (l : ℕ) → length xs ≡ n → ((v : Val) → Seq K 𝓛 (‵ (fat full_share (ty_array (lone R.mir) n) l 0 v) ∷ Γ) G) → Seq K 𝓛 (‵ (Cells R xs l) ∷ Γ) G
   unfolding part_of
