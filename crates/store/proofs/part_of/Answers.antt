@@ -1,6 +1,6 @@
 -- `store::part_of` meets its contract: a row that is within the run ends there, and its part is as long as the entry says.
 use Prim.Native.Nat.{ℕ, ◌+◌, ◌-◌, ◌≤◌}
-use mathlib.Core.List.{List}
+use mathlib.Core.List.{List, []}
 use mathlib.Core.Path.{◌≡◌, sym, ap, ◌∙◌, subst}
 use mathlib.Core.Bool.{Bool, true, false, cond}
 use native.Mathlib.Omega.{arith}
@@ -24,21 +24,21 @@ outside n size l t e = ap (λ (x : Bool). cond x l []) (sym t ∙ e)
 pub overflow_add-end : goal.overflow_add-end
 overflow_add-end c =
     let a = c.args in
-    let h = ends (a.e.start + a.e.len) (length a.run.now) c.if-is_within.true c.is_Within.ensures in
+    let h = ends (a.e.start + a.e.len) (length a.run.now) c.if-is_within.true c.is_within.ensures in
     search rules
 
 pub slice_bounds-result-end : goal.slice_bounds-result-end
 slice_bounds-result-end c =
     let a = c.args in
-    let h = ends (a.e.start + a.e.len) (length a.run.now) c.if-is_within.true c.is_Within.ensures in
+    let h = ends (a.e.start + a.e.len) (length a.run.now) c.if-is_within.true c.is_within.ensures in
     search rules
 
 pub returns-then-is_within : goal.returns-then-is_within
 returns-then-is_within c =
     let a = c.args in
-    part a.e.start a.e.len (length a.run.now) (drop a.e.start a.run.now) c.if-is_within.true c.is_Within.ensures
+    part a.e.start a.e.len (length a.run.now) (drop a.e.start a.run.now) c.if-is_within.true c.is_within.ensures
 
 pub returns : goal.returns
 returns c =
-    let a = x.before.before.before.args in
-    outside (a.e.start + a.e.len) (length a.run.now) (take a.e.len (drop a.e.start a.run.now)) c.if1.false c.is_Within.ensures
+    let a = c.args in
+    outside (a.e.start + a.e.len) (length a.run.now) (take a.e.len (drop a.e.start a.run.now)) c.if-is_within.false c.is_within.ensures
