@@ -2,10 +2,10 @@
 -- Assumes nothing.
 use Prim.Native.Nat.{◌<◌}
 use mathlib.Core.Path.{sym}
-use mathlib.Core.Logic.{⊎_elim}
 use native.Mathlib.Omega.{arith}
 use Rattle.data.proofs.Leb.{reading, small, added, narrow, row_ends, too-high, zero-last, number-ends, goes_on}
 use Rattle.data.proofs.leb128_at.Goals as goal
+use Rattle.data.proofs.leb128_at.Goals.{then-left-eq0+else-byte-gt15, else-left-eq0, then-byte-eq0+else-left-lt4, else-byte-eq0}
 
 pub loop-here-init : goal.loop-here-init
 loop-here-init c = reading _ _
@@ -29,28 +29,25 @@ overflow_add-value c =
 pub overflow_cast-result : goal.overflow_cast-result
 overflow_cast-result c =
     let inv = c.loop-here.invariant in
-    let fifth = c.if-left-eq0.branch in
-    omega (arith, narrow inv {x = c.wide_byte.result} (omega arith) (λ e. ⊎_elim (λ w. omega arith) (λ w. absurd (w.left e)) fifth))
+    omega (arith, narrow inv {x = c.wide_byte.result} (omega arith) (λ e. elim c.if-left-eq0.branch [ then-left-eq0+else-byte-gt15 w ↦ omega arith | else-left-eq0 w ↦ absurd (omega arith) ]))
 
 pub returns-then-byte-lt128 : goal.returns-then-byte-lt128
 returns-then-byte-lt128 c =
-    let fifth = c.if-left-eq0.branch in
-    let last = c.if-byte-eq0.branch in
     sym
     (number-ends c.loop-here.invariant c.loop-here-test.true c.wide_byte.ensures.0
-    (λ e. ⊎_elim (λ w. w.1.left) (λ w. absurd (w.left e)) fifth)
-    (λ l e. ⊎_elim (λ w. omega arith) (λ w. w.left e) last)
+    (λ e. elim c.if-left-eq0.branch [ then-left-eq0+else-byte-gt15 w ↦ omega arith | else-left-eq0 w ↦ absurd (omega arith) ])
+    (λ l e. elim c.if-byte-eq0.branch [ then-byte-eq0+else-left-lt4 w ↦ omega arith | else-byte-eq0 w ↦ omega arith ])
     c.if-byte-lt128.true)
 
 pub overflow_mul-scale : goal.overflow_mul-scale
 overflow_mul-scale c = omega (arith, small c.loop-here.invariant)
 
 pub overflow_sub-left : goal.overflow_sub-left
-overflow_sub-left c = ⊎_elim (λ w. omega arith) (λ w. omega arith) c.if-left-eq0.branch
+overflow_sub-left c = elim c.if-left-eq0.branch [ then-left-eq0+else-byte-gt15 w ↦ omega arith | else-left-eq0 w ↦ omega arith ]
 
 pub loop-here-preserved : goal.loop-here-preserved
 loop-here-preserved c =
-    let some : 0 < c.loop-here.left = ⊎_elim (λ w. omega arith) (λ w. omega arith) c.if-left-eq0.branch in
+    let some : 0 < c.loop-here.left = elim c.if-left-eq0.branch [ then-left-eq0+else-byte-gt15 w ↦ omega arith | else-left-eq0 w ↦ omega arith ] in
     goes_on c.loop-here.invariant c.loop-here-test.true c.wide_byte.ensures.0 some c.if-byte-lt128.false
 
 pub returns : goal.returns

@@ -8,7 +8,7 @@ use Rattle.data.proofs.Leb.{Printing}
 use Rattle.data.proofs.leb128_len.Given as goal
 
 abbrev pub invariant-loop-rest : goal.invariant-loop-rest
-invariant-loop-rest l = Printing (λ l. l.n + length l ≡ length (leb_print 4 l.value) + 1) l.rest
+invariant-loop-rest l = Printing (λ bs. l.n + length bs ≡ length (leb_print 4 l.value) + 1) l.rest
 
 abbrev pub decreases-loop-rest : goal.decreases-loop-rest
 decreases-loop-rest l = l.rest

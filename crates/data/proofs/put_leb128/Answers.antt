@@ -1,5 +1,6 @@
 -- `data::put_leb128` meets its contract. The invariant: what is left to print (`Printing`), written from here on, gives the whole (`Writing`). The measure is what is left.
 -- Assumes nothing.
+use Rattle.std.proofs.Common.{[]}
 use mathlib.Core.List.{◌∷◌}
 use native.Mathlib.Omega.{arith}
 use borrow.Author.Rules.{rules}
