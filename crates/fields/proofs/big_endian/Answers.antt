@@ -1,6 +1,6 @@
 -- `fields::big_endian` meets its contract. The invariant: n is the number in the bytes passed, which is below 256 for each of them.
 use Prim.Native.Nat.{ℕ, ◌<◌, ◌+◌, ◌^◌}
-use mathlib.Core.Path.{◌≡◌}
+use mathlib.Core.Path.{◌≡◌, refl}
 use native.Mathlib.Omega.{arith}
 use native.Mathlib.Nat.{pow-le-pow_right}
 use native.Mathlib.Numerals.{add-one}
@@ -23,16 +23,20 @@ small row at i by h =
     let most = pow-le-pow_right {n = 256} (lit< tt) {i = i} {j = 7} (omega arith) in
     omega arith
 
+pub loop-i-init : goal.loop-i-init
+unfolding form.big_endian
+loop-i-init c = (search rules, refl)
+
 pub overflow_mul-n : goal.overflow_mul-n
 overflow_mul-n c =
     let a = c.args in
-    omega (arith, small a.row.now a.at c.loop-i.i (typed a.row.now c.shared_slice_known-1.given) (omega arith))
+    omega (arith, small a.row.now a.at c.loop-i.i (typed a.row.now c.type_inv.row) (omega arith))
 
 pub overflow_add-n : goal.overflow_add-n
 overflow_add-n c =
     let a = c.args in
     let i = c.loop-i.i in
-    let by = typed a.row.now c.shared_slice_known-in-loop-i-1.given in
+    let by = typed a.row.now c.type_inv.row in
     omega (arith, small a.row.now a.at i by (omega arith), by (a.at + i))
 
 pub loop-i-preserved : goal.loop-i-preserved

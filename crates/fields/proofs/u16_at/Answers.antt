@@ -8,14 +8,14 @@ use Rattle.fields.specs.Says.{u64_says}
 use Rattle.fields.proofs.u16_at.Goals as goal
 
 pub returns-in_default : goal.returns-in_default
-returns-in_default c = sym (learn u64_says c.number_at.ensures c.enum_told-1.given.1)
+returns-in_default c = sym (learn u64_says c.number_at.ensures c.in_default.is)
 
 pub overflow_cast-result : goal.overflow_cast-result
 overflow_cast-result c =
     let a = c.args in
-    let taken = learn u64_says c.number_at.ensures c.n-1.given.1 in
-    let below = fits-at a.row.now a.at (number 2) (number-lawful 2) (typed a.row.now c.shared_slice_known-1.given) taken in
+    let taken = learn u64_says c.number_at.ensures c.in-Value.is in
+    let below = fits-at a.row.now a.at (number 2) (number-lawful 2) (typed a.row.now c.type_inv.row) taken in
     omega arith
 
 pub returns : goal.returns
-returns c = sym (learn u64_says c.number_at.ensures c.n-1.given.1)
+returns c = sym (learn u64_says c.number_at.ensures c.in-Value.is)

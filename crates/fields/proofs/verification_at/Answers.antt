@@ -1,4 +1,5 @@
 -- `fields::verification_at` meets its contract: the byte at the position, by its table.
+use Rattle.std.proofs.Common.{◌≡◌, ℕ, false, eqb, get_or, arith}
 use mathlib.Core.Path.{sym}
 use borrow.Author.Tests.{ne_eqb}
 use Rattle.layout.specs.Questions.{CODE}
@@ -7,17 +8,21 @@ use Rattle.layout.proofs.At.{letter-in, letter-no, letter-out}
 use Rattle.fields.proofs.verification_at.Goals as goal
 
 pub returns-in-0 : goal.returns-in-0
-returns-in-0 c = sym (letter-in _ _ CODE verification_of verification_byte c.if-at-row.true (rw c.in-0.keys1))
+returns-in-0 c = sym (letter-in _ _ CODE verification_of verification_byte c.if-at-row.true (rw c.in-0.is))
 
 pub returns-in-1 : goal.returns-in-1
-returns-in-1 c = sym (letter-in _ _ CODE verification_of verification_byte c.if-at-row.true (rw c.in-1.keys2))
+returns-in-1 c = sym (letter-in _ _ CODE verification_of verification_byte c.if-at-row.true (rw c.in-1.is))
 
 pub returns-in-2 : goal.returns-in-2
-returns-in-2 c = sym (letter-in _ _ CODE verification_of verification_byte c.if-at-row.true (rw c.in-2.keys3))
+returns-in-2 c = sym (letter-in _ _ CODE verification_of verification_byte c.if-at-row.true (rw c.in-2.is))
 
 pub returns-in_default : goal.returns-in_default
 returns-in_default c =
-    sym (letter-no _ _ CODE verification_of verification_byte c.if-at-row.true (rw (ne_eqb _ _ c.in_default.rest.0.0.1, ne_eqb _ _ c.in_default.rest.0.1, ne_eqb _ _ c.in_default.rest.1)))
+    let b : ℕ = get_or c.args.row.now c.args.at 0 in
+    let n0 : eqb b 0 ≡ false = ne_eqb b 0 (λ e. omega arith) in
+    let n1 : eqb b 1 ≡ false = ne_eqb b 1 (λ e. omega arith) in
+    let n2 : eqb b 2 ≡ false = ne_eqb b 2 (λ e. omega arith) in
+    sym (letter-no _ _ CODE verification_of verification_byte c.if-at-row.true (rw (n0, n1, n2)))
 
 pub returns-else-at-row : goal.returns-else-at-row
 returns-else-at-row c = sym (letter-out _ _ CODE verification_of verification_byte c.if-at-row.false)
