@@ -10,8 +10,10 @@ use Rattle.utf8.proofs.lead_in.Goals as goal
 
 pub overflow_cast-result : goal.overflow_cast-result
 overflow_cast-result c =
-    omega (arith, ap (λ (l : Lead). l.len) ((let entry : let a = c.args in unpacked (get_or a.table.now a.b 0) ≡ lead_of (following a.b) = rw c.requires (table-laws.every-entry c.args.b (omega arith)) in entry)), longest c.args.b)
+    let entry : unpacked (get_or c.args.table.now c.args.b 0) ≡ lead_of (following c.args.b) = rw c.requires (table-laws.every-entry c.args.b (omega arith)) in
+    omega (arith, ap (λ (l : Lead). l.len) entry, longest c.args.b)
 
 pub returns : goal.returns
 returns c =
-    (let entry : let a = c.args in unpacked (get_or a.table.now a.b 0) ≡ lead_of (following a.b) = rw c.requires (table-laws.every-entry c.args.b (omega arith)) in entry)
+    let entry : unpacked (get_or c.args.table.now c.args.b 0) ≡ lead_of (following c.args.b) = rw c.requires (table-laws.every-entry c.args.b (omega arith)) in
+    entry
