@@ -43,9 +43,9 @@ envelope_refusal (envelope_field.Value at next) = 0
 envelope_refusal (envelope_field.Refused q) = q
 
 -- ... behind its flag
-abbrev pub field_own : ℕ → Option value.OwnEnvelope → OwnEnvelopeAt
-field_own from none = own.Absent
-field_own from (some e) = own.Present (envelope_at (from + offset (optional_layout (group own_envelope)) 1 (some e)) e)
+abbrev pub own_at : ℕ → Option value.OwnEnvelope → OwnEnvelopeAt
+own_at from none = own.Absent
+own_at from (some e) = own.Present (envelope_at (from + offset (optional_layout (group own_envelope)) 1 (some e)) e)
 
 abbrev pub own_says : OwnEnvelopeField → Field OwnEnvelopeAt
 own_says (own_field.Value at next) = takes at next
@@ -59,7 +59,7 @@ own_refusal (own_field.Refused q) = q
 abbrev pub queued_at : ℕ → value.Queued → QueuedAt
 queued_at version q = record {
   created_s = q.created_s;
-  envelope = field_own (offset (queued version) 1 q) q.envelope;
+  envelope = own_at (offset (queued version) 1 q) q.envelope;
   gen_ = q.gen;
   idx = q.idx;
   sealed = offset (queued version) 4 q;

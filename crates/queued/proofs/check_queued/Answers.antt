@@ -16,7 +16,7 @@ use Rattle.layout.proofs.Front.{number-lawful}
 use Rattle.layout.proofs.Leb.{leb128-lawful}
 use Rattle.layout.proofs.Derived.{optional-lawful}
 use Rattle.layout.proofs.At.{learn, Took, typed, took, took-next, refused-at}
-use Rattle.layout.proofs.Steps.{start, field-yes, field-no, ask-yes, ask-no, end-yes, done-yes}
+use Rattle.layout.proofs.Steps.{Reached, start, field-yes, field-no, ask-yes, ask-no, end-yes, done-yes}
 use Rattle.rows.specs.Values.{Queued}
 use Rattle.rows.specs.Checks.{sealed_queued}
 use Rattle.rows.specs.Rows.{own_envelope, queued}
@@ -40,50 +40,124 @@ its-places version v sealed-at envelope-at envelope-here = λ i. record { create
 -- ---- what is asked
 pub returns-then-version-ne-BLOB_VERSION : goal.returns-then-version-ne-BLOB_VERSION
 returns-then-version-ne-BLOB_VERSION c =
-    let stop = ask-no (start).so (ne_eqb _ _ c.if-version-ne-BLOB_VERSION.true) in
+    let r0 : Reached (queued c.args.version) c.args.row.now 0 = start in
+    let stop = ask-no r0.so (ne_eqb _ _ c.if-version-ne-BLOB_VERSION.true) in
     (sym (ap (λ (x : Read Queued). checked c.args.version (answer x)) stop))
 
 pub returns-in_default : goal.returns-in_default
 returns-in_default c =
-    let stop = field-no ((ask-yes (start).so (eq-eqb _ _ c.if-version-ne-BLOB_VERSION.false))).so (refused-at _ _ u64 (learn u64_says c.u64_at.ensures c.enum_told-1.given.1)) in
+    let r0 : Reached (queued c.args.version) c.args.row.now 0 = start in
+    let r1 : Reached (queued c.args.version) c.args.row.now 0 = ask-yes r0.so (eq-eqb _ _ c.if-version-ne-BLOB_VERSION.false) in
+    let stop = field-no r1.so (refused-at _ _ u64 (learn u64_says c.u64_at.ensures c.in_default.is)) in
     (sym (ap (λ (x : Read Queued). checked c.args.version (answer x)) stop))
 
 pub returns-in_default-own : goal.returns-in_default-own
 returns-in_default-own c =
-    let stop = field-no ((field-yes ((ask-yes (start).so (eq-eqb _ _ c.if-version-ne-BLOB_VERSION.false))).so ((let created-s-took : Took u64 (c.args.row.now) 0 c.created_s-1.given.0.0 c.created_s-1.given.0.1.0 = took _ _ u64 (number-lawful 8) ((let by : Bytes (c.args.row.now) = typed (c.args.row.now) c.shared_slice_known-1.given in by)) ((let created-s-read : read_at u64 (c.args.row.now) 0 ≡ takes c.created_s-1.given.0.0 c.created_s-1.given.0.1.0 = learn u64_says c.u64_at.ensures c.created_s-1.given.1 in created-s-read)) in created-s-took)))).so (refused-at _ _ (optional (group own_envelope)) (located-not (own_at _) _ (learn own_says c.own_envelope_at-own.ensures c.enum_told-in_default-own-1.given.1))) in
-    rw (c.refusal.ensures ∙ ap own_refusal c.enum_told-in_default-own-1.given.1) ((sym (ap (λ (x : Read Queued). checked c.args.version (answer x)) stop)))
+    let r0 : Reached (queued c.args.version) c.args.row.now 0 = start in
+    let r1 : Reached (queued c.args.version) c.args.row.now 0 = ask-yes r0.so (eq-eqb _ _ c.if-version-ne-BLOB_VERSION.false) in
+    let created-s-read : read_at u64 (c.args.row.now) 0 ≡ takes c.in-Value.created_s c.in-Value.at1 = learn u64_says c.u64_at.ensures c.in-Value.is in
+    let created-s-took : Took u64 (c.args.row.now) 0 c.in-Value.created_s c.in-Value.at1 = took _ _ u64 (number-lawful 8) (typed c.args.row.now c.type_inv.row) created-s-read in
+    let r2 : Reached (queued c.args.version) c.args.row.now 0 = field-yes r1.so created-s-took in
+    let stop = field-no r2.so (refused-at _ _ (optional (group own_envelope)) (located-not (own_at _) _ (learn own_says c.own_envelope_at-own.ensures c.in_default-own.is))) in
+    rw (c.refusal.ensures ∙ ap own_refusal c.in_default-own.is) ((sym (ap (λ (x : Read Queued). checked c.args.version (answer x)) stop)))
 
 pub returns-in_default-byte_at : goal.returns-in_default-byte_at
 returns-in_default-byte_at c =
-    let stop = field-no ((field-yes ((field-yes ((ask-yes (start).so (eq-eqb _ _ c.if-version-ne-BLOB_VERSION.false))).so ((let created-s-took : Took u64 (c.args.row.now) 0 c.created_s-1.given.0.0 c.created_s-1.given.0.1.0 = took _ _ u64 (number-lawful 8) ((let by : Bytes (c.args.row.now) = typed (c.args.row.now) c.shared_slice_known-1.given in by)) ((let created-s-read : read_at u64 (c.args.row.now) 0 ≡ takes c.created_s-1.given.0.0 c.created_s-1.given.0.1.0 = learn u64_says c.u64_at.ensures c.created_s-1.given.1 in created-s-read)) in created-s-took)))).so ((let envelope-took : Took (optional (group own_envelope)) (c.args.row.now) ((field-yes ((ask-yes (start).so (eq-eqb _ _ c.if-version-ne-BLOB_VERSION.false))).so ((let created-s-took : Took u64 (c.args.row.now) 0 c.created_s-1.given.0.0 c.created_s-1.given.0.1.0 = took _ _ u64 (number-lawful 8) ((let by : Bytes (c.args.row.now) = typed (c.args.row.now) c.shared_slice_known-1.given in by)) ((let created-s-read : read_at u64 (c.args.row.now) 0 ≡ takes c.created_s-1.given.0.0 c.created_s-1.given.0.1.0 = learn u64_says c.u64_at.ensures c.created_s-1.given.1 in created-s-read)) in created-s-took)))).here ((let envelope-read : Located (own_at ((field-yes ((ask-yes (start).so (eq-eqb _ _ c.if-version-ne-BLOB_VERSION.false))).so ((let created-s-took : Took u64 (c.args.row.now) 0 c.created_s-1.given.0.0 c.created_s-1.given.0.1.0 = took _ _ u64 (number-lawful 8) ((let by : Bytes (c.args.row.now) = typed (c.args.row.now) c.shared_slice_known-1.given in by)) ((let created-s-read : read_at u64 (c.args.row.now) 0 ≡ takes c.created_s-1.given.0.0 c.created_s-1.given.0.1.0 = learn u64_says c.u64_at.ensures c.created_s-1.given.1 in created-s-read)) in created-s-took)))).here) (read_at (optional (group own_envelope)) (c.args.row.now) ((field-yes ((ask-yes (start).so (eq-eqb _ _ c.if-version-ne-BLOB_VERSION.false))).so ((let created-s-took : Took u64 (c.args.row.now) 0 c.created_s-1.given.0.0 c.created_s-1.given.0.1.0 = took _ _ u64 (number-lawful 8) ((let by : Bytes (c.args.row.now) = typed (c.args.row.now) c.shared_slice_known-1.given in by)) ((let created-s-read : read_at u64 (c.args.row.now) 0 ≡ takes c.created_s-1.given.0.0 c.created_s-1.given.0.1.0 = learn u64_says c.u64_at.ensures c.created_s-1.given.1 in created-s-read)) in created-s-took)))).here) c.own-1.given.0.0 c.own-1.given.0.1.0 = located-at (own_at _) _ (learn own_says c.own_envelope_at-own.ensures c.own-1.given.1) in envelope-read)).value c.own-1.given.0.1.0 = took _ _ (optional (group own_envelope)) (optional-lawful (group own_envelope) own_envelope-lawful) ((let by : Bytes (c.args.row.now) = typed (c.args.row.now) c.shared_slice_known-1.given in by)) ((let envelope-read : Located (own_at ((field-yes ((ask-yes (start).so (eq-eqb _ _ c.if-version-ne-BLOB_VERSION.false))).so ((let created-s-took : Took u64 (c.args.row.now) 0 c.created_s-1.given.0.0 c.created_s-1.given.0.1.0 = took _ _ u64 (number-lawful 8) ((let by : Bytes (c.args.row.now) = typed (c.args.row.now) c.shared_slice_known-1.given in by)) ((let created-s-read : read_at u64 (c.args.row.now) 0 ≡ takes c.created_s-1.given.0.0 c.created_s-1.given.0.1.0 = learn u64_says c.u64_at.ensures c.created_s-1.given.1 in created-s-read)) in created-s-took)))).here) (read_at (optional (group own_envelope)) (c.args.row.now) ((field-yes ((ask-yes (start).so (eq-eqb _ _ c.if-version-ne-BLOB_VERSION.false))).so ((let created-s-took : Took u64 (c.args.row.now) 0 c.created_s-1.given.0.0 c.created_s-1.given.0.1.0 = took _ _ u64 (number-lawful 8) ((let by : Bytes (c.args.row.now) = typed (c.args.row.now) c.shared_slice_known-1.given in by)) ((let created-s-read : read_at u64 (c.args.row.now) 0 ≡ takes c.created_s-1.given.0.0 c.created_s-1.given.0.1.0 = learn u64_says c.u64_at.ensures c.created_s-1.given.1 in created-s-read)) in created-s-took)))).here) c.own-1.given.0.0 c.own-1.given.0.1.0 = located-at (own_at _) _ (learn own_says c.own_envelope_at-own.ensures c.own-1.given.1) in envelope-read)).read in envelope-took)))).so (refused-at _ _ u8 (learn u8_says c.byte_at.ensures c.enum_told-in_default-byte_at-1.given.1)) in
+    let r0 : Reached (queued c.args.version) c.args.row.now 0 = start in
+    let r1 : Reached (queued c.args.version) c.args.row.now 0 = ask-yes r0.so (eq-eqb _ _ c.if-version-ne-BLOB_VERSION.false) in
+    let created-s-read : read_at u64 (c.args.row.now) 0 ≡ takes c.in-Value.created_s c.in-Value.at1 = learn u64_says c.u64_at.ensures c.in-Value.is in
+    let created-s-took : Took u64 (c.args.row.now) 0 c.in-Value.created_s c.in-Value.at1 = took _ _ u64 (number-lawful 8) (typed c.args.row.now c.type_inv.row) created-s-read in
+    let r2 : Reached (queued c.args.version) c.args.row.now 0 = field-yes r1.so created-s-took in
+    let envelope-read : Located (own_at r2.here) (read_at (optional (group own_envelope)) (c.args.row.now) r2.here) c.in-Value-own.envelope c.in-Value-own.at2 = located-at (own_at _) _ (learn own_says c.own_envelope_at-own.ensures c.in-Value-own.is) in
+    let envelope-took : Took (optional (group own_envelope)) (c.args.row.now) r2.here envelope-read.value c.in-Value-own.at2 = took _ _ (optional (group own_envelope)) (optional-lawful (group own_envelope) own_envelope-lawful) (typed c.args.row.now c.type_inv.row) envelope-read.read in
+    let r3 : Reached (queued c.args.version) c.args.row.now 0 = field-yes r2.so envelope-took in
+    let stop = field-no r3.so (refused-at _ _ u8 (learn u8_says c.byte_at.ensures c.in_default-byte_at.is)) in
     (sym (ap (λ (x : Read Queued). checked c.args.version (answer x)) stop))
 
 pub returns-in_default-leb128 : goal.returns-in_default-leb128
 returns-in_default-leb128 c =
-    let stop = field-no ((field-yes ((field-yes ((field-yes ((ask-yes (start).so (eq-eqb _ _ c.if-version-ne-BLOB_VERSION.false))).so ((let created-s-took : Took u64 (c.args.row.now) 0 c.created_s-1.given.0.0 c.created_s-1.given.0.1.0 = took _ _ u64 (number-lawful 8) ((let by : Bytes (c.args.row.now) = typed (c.args.row.now) c.shared_slice_known-1.given in by)) ((let created-s-read : read_at u64 (c.args.row.now) 0 ≡ takes c.created_s-1.given.0.0 c.created_s-1.given.0.1.0 = learn u64_says c.u64_at.ensures c.created_s-1.given.1 in created-s-read)) in created-s-took)))).so ((let envelope-took : Took (optional (group own_envelope)) (c.args.row.now) ((field-yes ((ask-yes (start).so (eq-eqb _ _ c.if-version-ne-BLOB_VERSION.false))).so ((let created-s-took : Took u64 (c.args.row.now) 0 c.created_s-1.given.0.0 c.created_s-1.given.0.1.0 = took _ _ u64 (number-lawful 8) ((let by : Bytes (c.args.row.now) = typed (c.args.row.now) c.shared_slice_known-1.given in by)) ((let created-s-read : read_at u64 (c.args.row.now) 0 ≡ takes c.created_s-1.given.0.0 c.created_s-1.given.0.1.0 = learn u64_says c.u64_at.ensures c.created_s-1.given.1 in created-s-read)) in created-s-took)))).here ((let envelope-read : Located (own_at ((field-yes ((ask-yes (start).so (eq-eqb _ _ c.if-version-ne-BLOB_VERSION.false))).so ((let created-s-took : Took u64 (c.args.row.now) 0 c.created_s-1.given.0.0 c.created_s-1.given.0.1.0 = took _ _ u64 (number-lawful 8) ((let by : Bytes (c.args.row.now) = typed (c.args.row.now) c.shared_slice_known-1.given in by)) ((let created-s-read : read_at u64 (c.args.row.now) 0 ≡ takes c.created_s-1.given.0.0 c.created_s-1.given.0.1.0 = learn u64_says c.u64_at.ensures c.created_s-1.given.1 in created-s-read)) in created-s-took)))).here) (read_at (optional (group own_envelope)) (c.args.row.now) ((field-yes ((ask-yes (start).so (eq-eqb _ _ c.if-version-ne-BLOB_VERSION.false))).so ((let created-s-took : Took u64 (c.args.row.now) 0 c.created_s-1.given.0.0 c.created_s-1.given.0.1.0 = took _ _ u64 (number-lawful 8) ((let by : Bytes (c.args.row.now) = typed (c.args.row.now) c.shared_slice_known-1.given in by)) ((let created-s-read : read_at u64 (c.args.row.now) 0 ≡ takes c.created_s-1.given.0.0 c.created_s-1.given.0.1.0 = learn u64_says c.u64_at.ensures c.created_s-1.given.1 in created-s-read)) in created-s-took)))).here) c.own-1.given.0.0 c.own-1.given.0.1.0 = located-at (own_at _) _ (learn own_says c.own_envelope_at-own.ensures c.own-1.given.1) in envelope-read)).value c.own-1.given.0.1.0 = took _ _ (optional (group own_envelope)) (optional-lawful (group own_envelope) own_envelope-lawful) ((let by : Bytes (c.args.row.now) = typed (c.args.row.now) c.shared_slice_known-1.given in by)) ((let envelope-read : Located (own_at ((field-yes ((ask-yes (start).so (eq-eqb _ _ c.if-version-ne-BLOB_VERSION.false))).so ((let created-s-took : Took u64 (c.args.row.now) 0 c.created_s-1.given.0.0 c.created_s-1.given.0.1.0 = took _ _ u64 (number-lawful 8) ((let by : Bytes (c.args.row.now) = typed (c.args.row.now) c.shared_slice_known-1.given in by)) ((let created-s-read : read_at u64 (c.args.row.now) 0 ≡ takes c.created_s-1.given.0.0 c.created_s-1.given.0.1.0 = learn u64_says c.u64_at.ensures c.created_s-1.given.1 in created-s-read)) in created-s-took)))).here) (read_at (optional (group own_envelope)) (c.args.row.now) ((field-yes ((ask-yes (start).so (eq-eqb _ _ c.if-version-ne-BLOB_VERSION.false))).so ((let created-s-took : Took u64 (c.args.row.now) 0 c.created_s-1.given.0.0 c.created_s-1.given.0.1.0 = took _ _ u64 (number-lawful 8) ((let by : Bytes (c.args.row.now) = typed (c.args.row.now) c.shared_slice_known-1.given in by)) ((let created-s-read : read_at u64 (c.args.row.now) 0 ≡ takes c.created_s-1.given.0.0 c.created_s-1.given.0.1.0 = learn u64_says c.u64_at.ensures c.created_s-1.given.1 in created-s-read)) in created-s-took)))).here) c.own-1.given.0.0 c.own-1.given.0.1.0 = located-at (own_at _) _ (learn own_says c.own_envelope_at-own.ensures c.own-1.given.1) in envelope-read)).read in envelope-took)))).so ((let gen-took : Took u8 (c.args.row.now) ((field-yes ((field-yes ((ask-yes (start).so (eq-eqb _ _ c.if-version-ne-BLOB_VERSION.false))).so ((let created-s-took : Took u64 (c.args.row.now) 0 c.created_s-1.given.0.0 c.created_s-1.given.0.1.0 = took _ _ u64 (number-lawful 8) ((let by : Bytes (c.args.row.now) = typed (c.args.row.now) c.shared_slice_known-1.given in by)) ((let created-s-read : read_at u64 (c.args.row.now) 0 ≡ takes c.created_s-1.given.0.0 c.created_s-1.given.0.1.0 = learn u64_says c.u64_at.ensures c.created_s-1.given.1 in created-s-read)) in created-s-took)))).so ((let envelope-took : Took (optional (group own_envelope)) (c.args.row.now) ((field-yes ((ask-yes (start).so (eq-eqb _ _ c.if-version-ne-BLOB_VERSION.false))).so ((let created-s-took : Took u64 (c.args.row.now) 0 c.created_s-1.given.0.0 c.created_s-1.given.0.1.0 = took _ _ u64 (number-lawful 8) ((let by : Bytes (c.args.row.now) = typed (c.args.row.now) c.shared_slice_known-1.given in by)) ((let created-s-read : read_at u64 (c.args.row.now) 0 ≡ takes c.created_s-1.given.0.0 c.created_s-1.given.0.1.0 = learn u64_says c.u64_at.ensures c.created_s-1.given.1 in created-s-read)) in created-s-took)))).here ((let envelope-read : Located (own_at ((field-yes ((ask-yes (start).so (eq-eqb _ _ c.if-version-ne-BLOB_VERSION.false))).so ((let created-s-took : Took u64 (c.args.row.now) 0 c.created_s-1.given.0.0 c.created_s-1.given.0.1.0 = took _ _ u64 (number-lawful 8) ((let by : Bytes (c.args.row.now) = typed (c.args.row.now) c.shared_slice_known-1.given in by)) ((let created-s-read : read_at u64 (c.args.row.now) 0 ≡ takes c.created_s-1.given.0.0 c.created_s-1.given.0.1.0 = learn u64_says c.u64_at.ensures c.created_s-1.given.1 in created-s-read)) in created-s-took)))).here) (read_at (optional (group own_envelope)) (c.args.row.now) ((field-yes ((ask-yes (start).so (eq-eqb _ _ c.if-version-ne-BLOB_VERSION.false))).so ((let created-s-took : Took u64 (c.args.row.now) 0 c.created_s-1.given.0.0 c.created_s-1.given.0.1.0 = took _ _ u64 (number-lawful 8) ((let by : Bytes (c.args.row.now) = typed (c.args.row.now) c.shared_slice_known-1.given in by)) ((let created-s-read : read_at u64 (c.args.row.now) 0 ≡ takes c.created_s-1.given.0.0 c.created_s-1.given.0.1.0 = learn u64_says c.u64_at.ensures c.created_s-1.given.1 in created-s-read)) in created-s-took)))).here) c.own-1.given.0.0 c.own-1.given.0.1.0 = located-at (own_at _) _ (learn own_says c.own_envelope_at-own.ensures c.own-1.given.1) in envelope-read)).value c.own-1.given.0.1.0 = took _ _ (optional (group own_envelope)) (optional-lawful (group own_envelope) own_envelope-lawful) ((let by : Bytes (c.args.row.now) = typed (c.args.row.now) c.shared_slice_known-1.given in by)) ((let envelope-read : Located (own_at ((field-yes ((ask-yes (start).so (eq-eqb _ _ c.if-version-ne-BLOB_VERSION.false))).so ((let created-s-took : Took u64 (c.args.row.now) 0 c.created_s-1.given.0.0 c.created_s-1.given.0.1.0 = took _ _ u64 (number-lawful 8) ((let by : Bytes (c.args.row.now) = typed (c.args.row.now) c.shared_slice_known-1.given in by)) ((let created-s-read : read_at u64 (c.args.row.now) 0 ≡ takes c.created_s-1.given.0.0 c.created_s-1.given.0.1.0 = learn u64_says c.u64_at.ensures c.created_s-1.given.1 in created-s-read)) in created-s-took)))).here) (read_at (optional (group own_envelope)) (c.args.row.now) ((field-yes ((ask-yes (start).so (eq-eqb _ _ c.if-version-ne-BLOB_VERSION.false))).so ((let created-s-took : Took u64 (c.args.row.now) 0 c.created_s-1.given.0.0 c.created_s-1.given.0.1.0 = took _ _ u64 (number-lawful 8) ((let by : Bytes (c.args.row.now) = typed (c.args.row.now) c.shared_slice_known-1.given in by)) ((let created-s-read : read_at u64 (c.args.row.now) 0 ≡ takes c.created_s-1.given.0.0 c.created_s-1.given.0.1.0 = learn u64_says c.u64_at.ensures c.created_s-1.given.1 in created-s-read)) in created-s-took)))).here) c.own-1.given.0.0 c.own-1.given.0.1.0 = located-at (own_at _) _ (learn own_says c.own_envelope_at-own.ensures c.own-1.given.1) in envelope-read)).read in envelope-took)))).here c.gen_-1.given.0.0 c.gen_-1.given.0.1.0 = took _ _ u8 (number-lawful 1) ((let by : Bytes (c.args.row.now) = typed (c.args.row.now) c.shared_slice_known-1.given in by)) ((let gen-read : read_at u8 (c.args.row.now) ((field-yes ((field-yes ((ask-yes (start).so (eq-eqb _ _ c.if-version-ne-BLOB_VERSION.false))).so ((let created-s-took : Took u64 (c.args.row.now) 0 c.created_s-1.given.0.0 c.created_s-1.given.0.1.0 = took _ _ u64 (number-lawful 8) ((let by : Bytes (c.args.row.now) = typed (c.args.row.now) c.shared_slice_known-1.given in by)) ((let created-s-read : read_at u64 (c.args.row.now) 0 ≡ takes c.created_s-1.given.0.0 c.created_s-1.given.0.1.0 = learn u64_says c.u64_at.ensures c.created_s-1.given.1 in created-s-read)) in created-s-took)))).so ((let envelope-took : Took (optional (group own_envelope)) (c.args.row.now) ((field-yes ((ask-yes (start).so (eq-eqb _ _ c.if-version-ne-BLOB_VERSION.false))).so ((let created-s-took : Took u64 (c.args.row.now) 0 c.created_s-1.given.0.0 c.created_s-1.given.0.1.0 = took _ _ u64 (number-lawful 8) ((let by : Bytes (c.args.row.now) = typed (c.args.row.now) c.shared_slice_known-1.given in by)) ((let created-s-read : read_at u64 (c.args.row.now) 0 ≡ takes c.created_s-1.given.0.0 c.created_s-1.given.0.1.0 = learn u64_says c.u64_at.ensures c.created_s-1.given.1 in created-s-read)) in created-s-took)))).here ((let envelope-read : Located (own_at ((field-yes ((ask-yes (start).so (eq-eqb _ _ c.if-version-ne-BLOB_VERSION.false))).so ((let created-s-took : Took u64 (c.args.row.now) 0 c.created_s-1.given.0.0 c.created_s-1.given.0.1.0 = took _ _ u64 (number-lawful 8) ((let by : Bytes (c.args.row.now) = typed (c.args.row.now) c.shared_slice_known-1.given in by)) ((let created-s-read : read_at u64 (c.args.row.now) 0 ≡ takes c.created_s-1.given.0.0 c.created_s-1.given.0.1.0 = learn u64_says c.u64_at.ensures c.created_s-1.given.1 in created-s-read)) in created-s-took)))).here) (read_at (optional (group own_envelope)) (c.args.row.now) ((field-yes ((ask-yes (start).so (eq-eqb _ _ c.if-version-ne-BLOB_VERSION.false))).so ((let created-s-took : Took u64 (c.args.row.now) 0 c.created_s-1.given.0.0 c.created_s-1.given.0.1.0 = took _ _ u64 (number-lawful 8) ((let by : Bytes (c.args.row.now) = typed (c.args.row.now) c.shared_slice_known-1.given in by)) ((let created-s-read : read_at u64 (c.args.row.now) 0 ≡ takes c.created_s-1.given.0.0 c.created_s-1.given.0.1.0 = learn u64_says c.u64_at.ensures c.created_s-1.given.1 in created-s-read)) in created-s-took)))).here) c.own-1.given.0.0 c.own-1.given.0.1.0 = located-at (own_at _) _ (learn own_says c.own_envelope_at-own.ensures c.own-1.given.1) in envelope-read)).value c.own-1.given.0.1.0 = took _ _ (optional (group own_envelope)) (optional-lawful (group own_envelope) own_envelope-lawful) ((let by : Bytes (c.args.row.now) = typed (c.args.row.now) c.shared_slice_known-1.given in by)) ((let envelope-read : Located (own_at ((field-yes ((ask-yes (start).so (eq-eqb _ _ c.if-version-ne-BLOB_VERSION.false))).so ((let created-s-took : Took u64 (c.args.row.now) 0 c.created_s-1.given.0.0 c.created_s-1.given.0.1.0 = took _ _ u64 (number-lawful 8) ((let by : Bytes (c.args.row.now) = typed (c.args.row.now) c.shared_slice_known-1.given in by)) ((let created-s-read : read_at u64 (c.args.row.now) 0 ≡ takes c.created_s-1.given.0.0 c.created_s-1.given.0.1.0 = learn u64_says c.u64_at.ensures c.created_s-1.given.1 in created-s-read)) in created-s-took)))).here) (read_at (optional (group own_envelope)) (c.args.row.now) ((field-yes ((ask-yes (start).so (eq-eqb _ _ c.if-version-ne-BLOB_VERSION.false))).so ((let created-s-took : Took u64 (c.args.row.now) 0 c.created_s-1.given.0.0 c.created_s-1.given.0.1.0 = took _ _ u64 (number-lawful 8) ((let by : Bytes (c.args.row.now) = typed (c.args.row.now) c.shared_slice_known-1.given in by)) ((let created-s-read : read_at u64 (c.args.row.now) 0 ≡ takes c.created_s-1.given.0.0 c.created_s-1.given.0.1.0 = learn u64_says c.u64_at.ensures c.created_s-1.given.1 in created-s-read)) in created-s-took)))).here) c.own-1.given.0.0 c.own-1.given.0.1.0 = located-at (own_at _) _ (learn own_says c.own_envelope_at-own.ensures c.own-1.given.1) in envelope-read)).read in envelope-took)))).here ≡ takes c.gen_-1.given.0.0 c.gen_-1.given.0.1.0 = learn u8_says c.byte_at.ensures c.gen_-1.given.1 in gen-read)) in gen-took)))).so (refused-at _ _ leb128 (learn leb128_says c.leb128_at-leb128.ensures c.enum_told-in_default-leb128-1.given.1)) in
-    rw (c.leb128_refusal.ensures ∙ ap leb_refusal c.enum_told-in_default-leb128-1.given.1) ((sym (ap (λ (x : Read Queued). checked c.args.version (answer x)) stop)))
+    let r0 : Reached (queued c.args.version) c.args.row.now 0 = start in
+    let r1 : Reached (queued c.args.version) c.args.row.now 0 = ask-yes r0.so (eq-eqb _ _ c.if-version-ne-BLOB_VERSION.false) in
+    let created-s-read : read_at u64 (c.args.row.now) 0 ≡ takes c.in-Value.created_s c.in-Value.at1 = learn u64_says c.u64_at.ensures c.in-Value.is in
+    let created-s-took : Took u64 (c.args.row.now) 0 c.in-Value.created_s c.in-Value.at1 = took _ _ u64 (number-lawful 8) (typed c.args.row.now c.type_inv.row) created-s-read in
+    let r2 : Reached (queued c.args.version) c.args.row.now 0 = field-yes r1.so created-s-took in
+    let envelope-read : Located (own_at r2.here) (read_at (optional (group own_envelope)) (c.args.row.now) r2.here) c.in-Value-own.envelope c.in-Value-own.at2 = located-at (own_at _) _ (learn own_says c.own_envelope_at-own.ensures c.in-Value-own.is) in
+    let envelope-took : Took (optional (group own_envelope)) (c.args.row.now) r2.here envelope-read.value c.in-Value-own.at2 = took _ _ (optional (group own_envelope)) (optional-lawful (group own_envelope) own_envelope-lawful) (typed c.args.row.now c.type_inv.row) envelope-read.read in
+    let r3 : Reached (queued c.args.version) c.args.row.now 0 = field-yes r2.so envelope-took in
+    let gen-read : read_at u8 (c.args.row.now) r3.here ≡ takes c.in-Value-byte_at.gen_ c.in-Value-byte_at.at3 = learn u8_says c.byte_at.ensures c.in-Value-byte_at.is in
+    let gen-took : Took u8 (c.args.row.now) r3.here c.in-Value-byte_at.gen_ c.in-Value-byte_at.at3 = took _ _ u8 (number-lawful 1) (typed c.args.row.now c.type_inv.row) gen-read in
+    let r4 : Reached (queued c.args.version) c.args.row.now 0 = field-yes r3.so gen-took in
+    let stop = field-no r4.so (refused-at _ _ leb128 (learn leb128_says c.leb128_at-leb128.ensures c.in_default-leb128.is)) in
+    rw (c.leb128_refusal.ensures ∙ ap leb_refusal c.in_default-leb128.is) ((sym (ap (λ (x : Read Queued). checked c.args.version (answer x)) stop)))
 
 pub overflow_sub-row : goal.overflow_sub-row
 overflow_sub-row c =
-    omega (arith, ((let idx-took : Took leb128 (c.args.row.now) ((field-yes ((field-yes ((field-yes ((ask-yes (start).so (eq-eqb _ _ c.if-version-ne-BLOB_VERSION.false))).so ((let created-s-took : Took u64 (c.args.row.now) 0 c.created_s-1.given.0.0 c.created_s-1.given.0.1.0 = took _ _ u64 (number-lawful 8) ((let by : Bytes (c.args.row.now) = typed (c.args.row.now) c.shared_slice_known-1.given in by)) ((let created-s-read : read_at u64 (c.args.row.now) 0 ≡ takes c.created_s-1.given.0.0 c.created_s-1.given.0.1.0 = learn u64_says c.u64_at.ensures c.created_s-1.given.1 in created-s-read)) in created-s-took)))).so ((let envelope-took : Took (optional (group own_envelope)) (c.args.row.now) ((field-yes ((ask-yes (start).so (eq-eqb _ _ c.if-version-ne-BLOB_VERSION.false))).so ((let created-s-took : Took u64 (c.args.row.now) 0 c.created_s-1.given.0.0 c.created_s-1.given.0.1.0 = took _ _ u64 (number-lawful 8) ((let by : Bytes (c.args.row.now) = typed (c.args.row.now) c.shared_slice_known-1.given in by)) ((let created-s-read : read_at u64 (c.args.row.now) 0 ≡ takes c.created_s-1.given.0.0 c.created_s-1.given.0.1.0 = learn u64_says c.u64_at.ensures c.created_s-1.given.1 in created-s-read)) in created-s-took)))).here ((let envelope-read : Located (own_at ((field-yes ((ask-yes (start).so (eq-eqb _ _ c.if-version-ne-BLOB_VERSION.false))).so ((let created-s-took : Took u64 (c.args.row.now) 0 c.created_s-1.given.0.0 c.created_s-1.given.0.1.0 = took _ _ u64 (number-lawful 8) ((let by : Bytes (c.args.row.now) = typed (c.args.row.now) c.shared_slice_known-1.given in by)) ((let created-s-read : read_at u64 (c.args.row.now) 0 ≡ takes c.created_s-1.given.0.0 c.created_s-1.given.0.1.0 = learn u64_says c.u64_at.ensures c.created_s-1.given.1 in created-s-read)) in created-s-took)))).here) (read_at (optional (group own_envelope)) (c.args.row.now) ((field-yes ((ask-yes (start).so (eq-eqb _ _ c.if-version-ne-BLOB_VERSION.false))).so ((let created-s-took : Took u64 (c.args.row.now) 0 c.created_s-1.given.0.0 c.created_s-1.given.0.1.0 = took _ _ u64 (number-lawful 8) ((let by : Bytes (c.args.row.now) = typed (c.args.row.now) c.shared_slice_known-1.given in by)) ((let created-s-read : read_at u64 (c.args.row.now) 0 ≡ takes c.created_s-1.given.0.0 c.created_s-1.given.0.1.0 = learn u64_says c.u64_at.ensures c.created_s-1.given.1 in created-s-read)) in created-s-took)))).here) c.own-1.given.0.0 c.own-1.given.0.1.0 = located-at (own_at _) _ (learn own_says c.own_envelope_at-own.ensures c.own-1.given.1) in envelope-read)).value c.own-1.given.0.1.0 = took _ _ (optional (group own_envelope)) (optional-lawful (group own_envelope) own_envelope-lawful) ((let by : Bytes (c.args.row.now) = typed (c.args.row.now) c.shared_slice_known-1.given in by)) ((let envelope-read : Located (own_at ((field-yes ((ask-yes (start).so (eq-eqb _ _ c.if-version-ne-BLOB_VERSION.false))).so ((let created-s-took : Took u64 (c.args.row.now) 0 c.created_s-1.given.0.0 c.created_s-1.given.0.1.0 = took _ _ u64 (number-lawful 8) ((let by : Bytes (c.args.row.now) = typed (c.args.row.now) c.shared_slice_known-1.given in by)) ((let created-s-read : read_at u64 (c.args.row.now) 0 ≡ takes c.created_s-1.given.0.0 c.created_s-1.given.0.1.0 = learn u64_says c.u64_at.ensures c.created_s-1.given.1 in created-s-read)) in created-s-took)))).here) (read_at (optional (group own_envelope)) (c.args.row.now) ((field-yes ((ask-yes (start).so (eq-eqb _ _ c.if-version-ne-BLOB_VERSION.false))).so ((let created-s-took : Took u64 (c.args.row.now) 0 c.created_s-1.given.0.0 c.created_s-1.given.0.1.0 = took _ _ u64 (number-lawful 8) ((let by : Bytes (c.args.row.now) = typed (c.args.row.now) c.shared_slice_known-1.given in by)) ((let created-s-read : read_at u64 (c.args.row.now) 0 ≡ takes c.created_s-1.given.0.0 c.created_s-1.given.0.1.0 = learn u64_says c.u64_at.ensures c.created_s-1.given.1 in created-s-read)) in created-s-took)))).here) c.own-1.given.0.0 c.own-1.given.0.1.0 = located-at (own_at _) _ (learn own_says c.own_envelope_at-own.ensures c.own-1.given.1) in envelope-read)).read in envelope-took)))).so ((let gen-took : Took u8 (c.args.row.now) ((field-yes ((field-yes ((ask-yes (start).so (eq-eqb _ _ c.if-version-ne-BLOB_VERSION.false))).so ((let created-s-took : Took u64 (c.args.row.now) 0 c.created_s-1.given.0.0 c.created_s-1.given.0.1.0 = took _ _ u64 (number-lawful 8) ((let by : Bytes (c.args.row.now) = typed (c.args.row.now) c.shared_slice_known-1.given in by)) ((let created-s-read : read_at u64 (c.args.row.now) 0 ≡ takes c.created_s-1.given.0.0 c.created_s-1.given.0.1.0 = learn u64_says c.u64_at.ensures c.created_s-1.given.1 in created-s-read)) in created-s-took)))).so ((let envelope-took : Took (optional (group own_envelope)) (c.args.row.now) ((field-yes ((ask-yes (start).so (eq-eqb _ _ c.if-version-ne-BLOB_VERSION.false))).so ((let created-s-took : Took u64 (c.args.row.now) 0 c.created_s-1.given.0.0 c.created_s-1.given.0.1.0 = took _ _ u64 (number-lawful 8) ((let by : Bytes (c.args.row.now) = typed (c.args.row.now) c.shared_slice_known-1.given in by)) ((let created-s-read : read_at u64 (c.args.row.now) 0 ≡ takes c.created_s-1.given.0.0 c.created_s-1.given.0.1.0 = learn u64_says c.u64_at.ensures c.created_s-1.given.1 in created-s-read)) in created-s-took)))).here ((let envelope-read : Located (own_at ((field-yes ((ask-yes (start).so (eq-eqb _ _ c.if-version-ne-BLOB_VERSION.false))).so ((let created-s-took : Took u64 (c.args.row.now) 0 c.created_s-1.given.0.0 c.created_s-1.given.0.1.0 = took _ _ u64 (number-lawful 8) ((let by : Bytes (c.args.row.now) = typed (c.args.row.now) c.shared_slice_known-1.given in by)) ((let created-s-read : read_at u64 (c.args.row.now) 0 ≡ takes c.created_s-1.given.0.0 c.created_s-1.given.0.1.0 = learn u64_says c.u64_at.ensures c.created_s-1.given.1 in created-s-read)) in created-s-took)))).here) (read_at (optional (group own_envelope)) (c.args.row.now) ((field-yes ((ask-yes (start).so (eq-eqb _ _ c.if-version-ne-BLOB_VERSION.false))).so ((let created-s-took : Took u64 (c.args.row.now) 0 c.created_s-1.given.0.0 c.created_s-1.given.0.1.0 = took _ _ u64 (number-lawful 8) ((let by : Bytes (c.args.row.now) = typed (c.args.row.now) c.shared_slice_known-1.given in by)) ((let created-s-read : read_at u64 (c.args.row.now) 0 ≡ takes c.created_s-1.given.0.0 c.created_s-1.given.0.1.0 = learn u64_says c.u64_at.ensures c.created_s-1.given.1 in created-s-read)) in created-s-took)))).here) c.own-1.given.0.0 c.own-1.given.0.1.0 = located-at (own_at _) _ (learn own_says c.own_envelope_at-own.ensures c.own-1.given.1) in envelope-read)).value c.own-1.given.0.1.0 = took _ _ (optional (group own_envelope)) (optional-lawful (group own_envelope) own_envelope-lawful) ((let by : Bytes (c.args.row.now) = typed (c.args.row.now) c.shared_slice_known-1.given in by)) ((let envelope-read : Located (own_at ((field-yes ((ask-yes (start).so (eq-eqb _ _ c.if-version-ne-BLOB_VERSION.false))).so ((let created-s-took : Took u64 (c.args.row.now) 0 c.created_s-1.given.0.0 c.created_s-1.given.0.1.0 = took _ _ u64 (number-lawful 8) ((let by : Bytes (c.args.row.now) = typed (c.args.row.now) c.shared_slice_known-1.given in by)) ((let created-s-read : read_at u64 (c.args.row.now) 0 ≡ takes c.created_s-1.given.0.0 c.created_s-1.given.0.1.0 = learn u64_says c.u64_at.ensures c.created_s-1.given.1 in created-s-read)) in created-s-took)))).here) (read_at (optional (group own_envelope)) (c.args.row.now) ((field-yes ((ask-yes (start).so (eq-eqb _ _ c.if-version-ne-BLOB_VERSION.false))).so ((let created-s-took : Took u64 (c.args.row.now) 0 c.created_s-1.given.0.0 c.created_s-1.given.0.1.0 = took _ _ u64 (number-lawful 8) ((let by : Bytes (c.args.row.now) = typed (c.args.row.now) c.shared_slice_known-1.given in by)) ((let created-s-read : read_at u64 (c.args.row.now) 0 ≡ takes c.created_s-1.given.0.0 c.created_s-1.given.0.1.0 = learn u64_says c.u64_at.ensures c.created_s-1.given.1 in created-s-read)) in created-s-took)))).here) c.own-1.given.0.0 c.own-1.given.0.1.0 = located-at (own_at _) _ (learn own_says c.own_envelope_at-own.ensures c.own-1.given.1) in envelope-read)).read in envelope-took)))).here c.gen_-1.given.0.0 c.gen_-1.given.0.1.0 = took _ _ u8 (number-lawful 1) ((let by : Bytes (c.args.row.now) = typed (c.args.row.now) c.shared_slice_known-1.given in by)) ((let gen-read : read_at u8 (c.args.row.now) ((field-yes ((field-yes ((ask-yes (start).so (eq-eqb _ _ c.if-version-ne-BLOB_VERSION.false))).so ((let created-s-took : Took u64 (c.args.row.now) 0 c.created_s-1.given.0.0 c.created_s-1.given.0.1.0 = took _ _ u64 (number-lawful 8) ((let by : Bytes (c.args.row.now) = typed (c.args.row.now) c.shared_slice_known-1.given in by)) ((let created-s-read : read_at u64 (c.args.row.now) 0 ≡ takes c.created_s-1.given.0.0 c.created_s-1.given.0.1.0 = learn u64_says c.u64_at.ensures c.created_s-1.given.1 in created-s-read)) in created-s-took)))).so ((let envelope-took : Took (optional (group own_envelope)) (c.args.row.now) ((field-yes ((ask-yes (start).so (eq-eqb _ _ c.if-version-ne-BLOB_VERSION.false))).so ((let created-s-took : Took u64 (c.args.row.now) 0 c.created_s-1.given.0.0 c.created_s-1.given.0.1.0 = took _ _ u64 (number-lawful 8) ((let by : Bytes (c.args.row.now) = typed (c.args.row.now) c.shared_slice_known-1.given in by)) ((let created-s-read : read_at u64 (c.args.row.now) 0 ≡ takes c.created_s-1.given.0.0 c.created_s-1.given.0.1.0 = learn u64_says c.u64_at.ensures c.created_s-1.given.1 in created-s-read)) in created-s-took)))).here ((let envelope-read : Located (own_at ((field-yes ((ask-yes (start).so (eq-eqb _ _ c.if-version-ne-BLOB_VERSION.false))).so ((let created-s-took : Took u64 (c.args.row.now) 0 c.created_s-1.given.0.0 c.created_s-1.given.0.1.0 = took _ _ u64 (number-lawful 8) ((let by : Bytes (c.args.row.now) = typed (c.args.row.now) c.shared_slice_known-1.given in by)) ((let created-s-read : read_at u64 (c.args.row.now) 0 ≡ takes c.created_s-1.given.0.0 c.created_s-1.given.0.1.0 = learn u64_says c.u64_at.ensures c.created_s-1.given.1 in created-s-read)) in created-s-took)))).here) (read_at (optional (group own_envelope)) (c.args.row.now) ((field-yes ((ask-yes (start).so (eq-eqb _ _ c.if-version-ne-BLOB_VERSION.false))).so ((let created-s-took : Took u64 (c.args.row.now) 0 c.created_s-1.given.0.0 c.created_s-1.given.0.1.0 = took _ _ u64 (number-lawful 8) ((let by : Bytes (c.args.row.now) = typed (c.args.row.now) c.shared_slice_known-1.given in by)) ((let created-s-read : read_at u64 (c.args.row.now) 0 ≡ takes c.created_s-1.given.0.0 c.created_s-1.given.0.1.0 = learn u64_says c.u64_at.ensures c.created_s-1.given.1 in created-s-read)) in created-s-took)))).here) c.own-1.given.0.0 c.own-1.given.0.1.0 = located-at (own_at _) _ (learn own_says c.own_envelope_at-own.ensures c.own-1.given.1) in envelope-read)).value c.own-1.given.0.1.0 = took _ _ (optional (group own_envelope)) (optional-lawful (group own_envelope) own_envelope-lawful) ((let by : Bytes (c.args.row.now) = typed (c.args.row.now) c.shared_slice_known-1.given in by)) ((let envelope-read : Located (own_at ((field-yes ((ask-yes (start).so (eq-eqb _ _ c.if-version-ne-BLOB_VERSION.false))).so ((let created-s-took : Took u64 (c.args.row.now) 0 c.created_s-1.given.0.0 c.created_s-1.given.0.1.0 = took _ _ u64 (number-lawful 8) ((let by : Bytes (c.args.row.now) = typed (c.args.row.now) c.shared_slice_known-1.given in by)) ((let created-s-read : read_at u64 (c.args.row.now) 0 ≡ takes c.created_s-1.given.0.0 c.created_s-1.given.0.1.0 = learn u64_says c.u64_at.ensures c.created_s-1.given.1 in created-s-read)) in created-s-took)))).here) (read_at (optional (group own_envelope)) (c.args.row.now) ((field-yes ((ask-yes (start).so (eq-eqb _ _ c.if-version-ne-BLOB_VERSION.false))).so ((let created-s-took : Took u64 (c.args.row.now) 0 c.created_s-1.given.0.0 c.created_s-1.given.0.1.0 = took _ _ u64 (number-lawful 8) ((let by : Bytes (c.args.row.now) = typed (c.args.row.now) c.shared_slice_known-1.given in by)) ((let created-s-read : read_at u64 (c.args.row.now) 0 ≡ takes c.created_s-1.given.0.0 c.created_s-1.given.0.1.0 = learn u64_says c.u64_at.ensures c.created_s-1.given.1 in created-s-read)) in created-s-took)))).here) c.own-1.given.0.0 c.own-1.given.0.1.0 = located-at (own_at _) _ (learn own_says c.own_envelope_at-own.ensures c.own-1.given.1) in envelope-read)).read in envelope-took)))).here ≡ takes c.gen_-1.given.0.0 c.gen_-1.given.0.1.0 = learn u8_says c.byte_at.ensures c.gen_-1.given.1 in gen-read)) in gen-took)))).here c.leb128-1.given.0.0 c.leb128-1.given.0.1.0 = took _ _ leb128 leb128-lawful ((let by : Bytes (c.args.row.now) = typed (c.args.row.now) c.shared_slice_known-1.given in by)) ((let idx-read : read_at leb128 (c.args.row.now) ((field-yes ((field-yes ((field-yes ((ask-yes (start).so (eq-eqb _ _ c.if-version-ne-BLOB_VERSION.false))).so ((let created-s-took : Took u64 (c.args.row.now) 0 c.created_s-1.given.0.0 c.created_s-1.given.0.1.0 = took _ _ u64 (number-lawful 8) ((let by : Bytes (c.args.row.now) = typed (c.args.row.now) c.shared_slice_known-1.given in by)) ((let created-s-read : read_at u64 (c.args.row.now) 0 ≡ takes c.created_s-1.given.0.0 c.created_s-1.given.0.1.0 = learn u64_says c.u64_at.ensures c.created_s-1.given.1 in created-s-read)) in created-s-took)))).so ((let envelope-took : Took (optional (group own_envelope)) (c.args.row.now) ((field-yes ((ask-yes (start).so (eq-eqb _ _ c.if-version-ne-BLOB_VERSION.false))).so ((let created-s-took : Took u64 (c.args.row.now) 0 c.created_s-1.given.0.0 c.created_s-1.given.0.1.0 = took _ _ u64 (number-lawful 8) ((let by : Bytes (c.args.row.now) = typed (c.args.row.now) c.shared_slice_known-1.given in by)) ((let created-s-read : read_at u64 (c.args.row.now) 0 ≡ takes c.created_s-1.given.0.0 c.created_s-1.given.0.1.0 = learn u64_says c.u64_at.ensures c.created_s-1.given.1 in created-s-read)) in created-s-took)))).here ((let envelope-read : Located (own_at ((field-yes ((ask-yes (start).so (eq-eqb _ _ c.if-version-ne-BLOB_VERSION.false))).so ((let created-s-took : Took u64 (c.args.row.now) 0 c.created_s-1.given.0.0 c.created_s-1.given.0.1.0 = took _ _ u64 (number-lawful 8) ((let by : Bytes (c.args.row.now) = typed (c.args.row.now) c.shared_slice_known-1.given in by)) ((let created-s-read : read_at u64 (c.args.row.now) 0 ≡ takes c.created_s-1.given.0.0 c.created_s-1.given.0.1.0 = learn u64_says c.u64_at.ensures c.created_s-1.given.1 in created-s-read)) in created-s-took)))).here) (read_at (optional (group own_envelope)) (c.args.row.now) ((field-yes ((ask-yes (start).so (eq-eqb _ _ c.if-version-ne-BLOB_VERSION.false))).so ((let created-s-took : Took u64 (c.args.row.now) 0 c.created_s-1.given.0.0 c.created_s-1.given.0.1.0 = took _ _ u64 (number-lawful 8) ((let by : Bytes (c.args.row.now) = typed (c.args.row.now) c.shared_slice_known-1.given in by)) ((let created-s-read : read_at u64 (c.args.row.now) 0 ≡ takes c.created_s-1.given.0.0 c.created_s-1.given.0.1.0 = learn u64_says c.u64_at.ensures c.created_s-1.given.1 in created-s-read)) in created-s-took)))).here) c.own-1.given.0.0 c.own-1.given.0.1.0 = located-at (own_at _) _ (learn own_says c.own_envelope_at-own.ensures c.own-1.given.1) in envelope-read)).value c.own-1.given.0.1.0 = took _ _ (optional (group own_envelope)) (optional-lawful (group own_envelope) own_envelope-lawful) ((let by : Bytes (c.args.row.now) = typed (c.args.row.now) c.shared_slice_known-1.given in by)) ((let envelope-read : Located (own_at ((field-yes ((ask-yes (start).so (eq-eqb _ _ c.if-version-ne-BLOB_VERSION.false))).so ((let created-s-took : Took u64 (c.args.row.now) 0 c.created_s-1.given.0.0 c.created_s-1.given.0.1.0 = took _ _ u64 (number-lawful 8) ((let by : Bytes (c.args.row.now) = typed (c.args.row.now) c.shared_slice_known-1.given in by)) ((let created-s-read : read_at u64 (c.args.row.now) 0 ≡ takes c.created_s-1.given.0.0 c.created_s-1.given.0.1.0 = learn u64_says c.u64_at.ensures c.created_s-1.given.1 in created-s-read)) in created-s-took)))).here) (read_at (optional (group own_envelope)) (c.args.row.now) ((field-yes ((ask-yes (start).so (eq-eqb _ _ c.if-version-ne-BLOB_VERSION.false))).so ((let created-s-took : Took u64 (c.args.row.now) 0 c.created_s-1.given.0.0 c.created_s-1.given.0.1.0 = took _ _ u64 (number-lawful 8) ((let by : Bytes (c.args.row.now) = typed (c.args.row.now) c.shared_slice_known-1.given in by)) ((let created-s-read : read_at u64 (c.args.row.now) 0 ≡ takes c.created_s-1.given.0.0 c.created_s-1.given.0.1.0 = learn u64_says c.u64_at.ensures c.created_s-1.given.1 in created-s-read)) in created-s-took)))).here) c.own-1.given.0.0 c.own-1.given.0.1.0 = located-at (own_at _) _ (learn own_says c.own_envelope_at-own.ensures c.own-1.given.1) in envelope-read)).read in envelope-took)))).so ((let gen-took : Took u8 (c.args.row.now) ((field-yes ((field-yes ((ask-yes (start).so (eq-eqb _ _ c.if-version-ne-BLOB_VERSION.false))).so ((let created-s-took : Took u64 (c.args.row.now) 0 c.created_s-1.given.0.0 c.created_s-1.given.0.1.0 = took _ _ u64 (number-lawful 8) ((let by : Bytes (c.args.row.now) = typed (c.args.row.now) c.shared_slice_known-1.given in by)) ((let created-s-read : read_at u64 (c.args.row.now) 0 ≡ takes c.created_s-1.given.0.0 c.created_s-1.given.0.1.0 = learn u64_says c.u64_at.ensures c.created_s-1.given.1 in created-s-read)) in created-s-took)))).so ((let envelope-took : Took (optional (group own_envelope)) (c.args.row.now) ((field-yes ((ask-yes (start).so (eq-eqb _ _ c.if-version-ne-BLOB_VERSION.false))).so ((let created-s-took : Took u64 (c.args.row.now) 0 c.created_s-1.given.0.0 c.created_s-1.given.0.1.0 = took _ _ u64 (number-lawful 8) ((let by : Bytes (c.args.row.now) = typed (c.args.row.now) c.shared_slice_known-1.given in by)) ((let created-s-read : read_at u64 (c.args.row.now) 0 ≡ takes c.created_s-1.given.0.0 c.created_s-1.given.0.1.0 = learn u64_says c.u64_at.ensures c.created_s-1.given.1 in created-s-read)) in created-s-took)))).here ((let envelope-read : Located (own_at ((field-yes ((ask-yes (start).so (eq-eqb _ _ c.if-version-ne-BLOB_VERSION.false))).so ((let created-s-took : Took u64 (c.args.row.now) 0 c.created_s-1.given.0.0 c.created_s-1.given.0.1.0 = took _ _ u64 (number-lawful 8) ((let by : Bytes (c.args.row.now) = typed (c.args.row.now) c.shared_slice_known-1.given in by)) ((let created-s-read : read_at u64 (c.args.row.now) 0 ≡ takes c.created_s-1.given.0.0 c.created_s-1.given.0.1.0 = learn u64_says c.u64_at.ensures c.created_s-1.given.1 in created-s-read)) in created-s-took)))).here) (read_at (optional (group own_envelope)) (c.args.row.now) ((field-yes ((ask-yes (start).so (eq-eqb _ _ c.if-version-ne-BLOB_VERSION.false))).so ((let created-s-took : Took u64 (c.args.row.now) 0 c.created_s-1.given.0.0 c.created_s-1.given.0.1.0 = took _ _ u64 (number-lawful 8) ((let by : Bytes (c.args.row.now) = typed (c.args.row.now) c.shared_slice_known-1.given in by)) ((let created-s-read : read_at u64 (c.args.row.now) 0 ≡ takes c.created_s-1.given.0.0 c.created_s-1.given.0.1.0 = learn u64_says c.u64_at.ensures c.created_s-1.given.1 in created-s-read)) in created-s-took)))).here) c.own-1.given.0.0 c.own-1.given.0.1.0 = located-at (own_at _) _ (learn own_says c.own_envelope_at-own.ensures c.own-1.given.1) in envelope-read)).value c.own-1.given.0.1.0 = took _ _ (optional (group own_envelope)) (optional-lawful (group own_envelope) own_envelope-lawful) ((let by : Bytes (c.args.row.now) = typed (c.args.row.now) c.shared_slice_known-1.given in by)) ((let envelope-read : Located (own_at ((field-yes ((ask-yes (start).so (eq-eqb _ _ c.if-version-ne-BLOB_VERSION.false))).so ((let created-s-took : Took u64 (c.args.row.now) 0 c.created_s-1.given.0.0 c.created_s-1.given.0.1.0 = took _ _ u64 (number-lawful 8) ((let by : Bytes (c.args.row.now) = typed (c.args.row.now) c.shared_slice_known-1.given in by)) ((let created-s-read : read_at u64 (c.args.row.now) 0 ≡ takes c.created_s-1.given.0.0 c.created_s-1.given.0.1.0 = learn u64_says c.u64_at.ensures c.created_s-1.given.1 in created-s-read)) in created-s-took)))).here) (read_at (optional (group own_envelope)) (c.args.row.now) ((field-yes ((ask-yes (start).so (eq-eqb _ _ c.if-version-ne-BLOB_VERSION.false))).so ((let created-s-took : Took u64 (c.args.row.now) 0 c.created_s-1.given.0.0 c.created_s-1.given.0.1.0 = took _ _ u64 (number-lawful 8) ((let by : Bytes (c.args.row.now) = typed (c.args.row.now) c.shared_slice_known-1.given in by)) ((let created-s-read : read_at u64 (c.args.row.now) 0 ≡ takes c.created_s-1.given.0.0 c.created_s-1.given.0.1.0 = learn u64_says c.u64_at.ensures c.created_s-1.given.1 in created-s-read)) in created-s-took)))).here) c.own-1.given.0.0 c.own-1.given.0.1.0 = located-at (own_at _) _ (learn own_says c.own_envelope_at-own.ensures c.own-1.given.1) in envelope-read)).read in envelope-took)))).here c.gen_-1.given.0.0 c.gen_-1.given.0.1.0 = took _ _ u8 (number-lawful 1) ((let by : Bytes (c.args.row.now) = typed (c.args.row.now) c.shared_slice_known-1.given in by)) ((let gen-read : read_at u8 (c.args.row.now) ((field-yes ((field-yes ((ask-yes (start).so (eq-eqb _ _ c.if-version-ne-BLOB_VERSION.false))).so ((let created-s-took : Took u64 (c.args.row.now) 0 c.created_s-1.given.0.0 c.created_s-1.given.0.1.0 = took _ _ u64 (number-lawful 8) ((let by : Bytes (c.args.row.now) = typed (c.args.row.now) c.shared_slice_known-1.given in by)) ((let created-s-read : read_at u64 (c.args.row.now) 0 ≡ takes c.created_s-1.given.0.0 c.created_s-1.given.0.1.0 = learn u64_says c.u64_at.ensures c.created_s-1.given.1 in created-s-read)) in created-s-took)))).so ((let envelope-took : Took (optional (group own_envelope)) (c.args.row.now) ((field-yes ((ask-yes (start).so (eq-eqb _ _ c.if-version-ne-BLOB_VERSION.false))).so ((let created-s-took : Took u64 (c.args.row.now) 0 c.created_s-1.given.0.0 c.created_s-1.given.0.1.0 = took _ _ u64 (number-lawful 8) ((let by : Bytes (c.args.row.now) = typed (c.args.row.now) c.shared_slice_known-1.given in by)) ((let created-s-read : read_at u64 (c.args.row.now) 0 ≡ takes c.created_s-1.given.0.0 c.created_s-1.given.0.1.0 = learn u64_says c.u64_at.ensures c.created_s-1.given.1 in created-s-read)) in created-s-took)))).here ((let envelope-read : Located (own_at ((field-yes ((ask-yes (start).so (eq-eqb _ _ c.if-version-ne-BLOB_VERSION.false))).so ((let created-s-took : Took u64 (c.args.row.now) 0 c.created_s-1.given.0.0 c.created_s-1.given.0.1.0 = took _ _ u64 (number-lawful 8) ((let by : Bytes (c.args.row.now) = typed (c.args.row.now) c.shared_slice_known-1.given in by)) ((let created-s-read : read_at u64 (c.args.row.now) 0 ≡ takes c.created_s-1.given.0.0 c.created_s-1.given.0.1.0 = learn u64_says c.u64_at.ensures c.created_s-1.given.1 in created-s-read)) in created-s-took)))).here) (read_at (optional (group own_envelope)) (c.args.row.now) ((field-yes ((ask-yes (start).so (eq-eqb _ _ c.if-version-ne-BLOB_VERSION.false))).so ((let created-s-took : Took u64 (c.args.row.now) 0 c.created_s-1.given.0.0 c.created_s-1.given.0.1.0 = took _ _ u64 (number-lawful 8) ((let by : Bytes (c.args.row.now) = typed (c.args.row.now) c.shared_slice_known-1.given in by)) ((let created-s-read : read_at u64 (c.args.row.now) 0 ≡ takes c.created_s-1.given.0.0 c.created_s-1.given.0.1.0 = learn u64_says c.u64_at.ensures c.created_s-1.given.1 in created-s-read)) in created-s-took)))).here) c.own-1.given.0.0 c.own-1.given.0.1.0 = located-at (own_at _) _ (learn own_says c.own_envelope_at-own.ensures c.own-1.given.1) in envelope-read)).value c.own-1.given.0.1.0 = took _ _ (optional (group own_envelope)) (optional-lawful (group own_envelope) own_envelope-lawful) ((let by : Bytes (c.args.row.now) = typed (c.args.row.now) c.shared_slice_known-1.given in by)) ((let envelope-read : Located (own_at ((field-yes ((ask-yes (start).so (eq-eqb _ _ c.if-version-ne-BLOB_VERSION.false))).so ((let created-s-took : Took u64 (c.args.row.now) 0 c.created_s-1.given.0.0 c.created_s-1.given.0.1.0 = took _ _ u64 (number-lawful 8) ((let by : Bytes (c.args.row.now) = typed (c.args.row.now) c.shared_slice_known-1.given in by)) ((let created-s-read : read_at u64 (c.args.row.now) 0 ≡ takes c.created_s-1.given.0.0 c.created_s-1.given.0.1.0 = learn u64_says c.u64_at.ensures c.created_s-1.given.1 in created-s-read)) in created-s-took)))).here) (read_at (optional (group own_envelope)) (c.args.row.now) ((field-yes ((ask-yes (start).so (eq-eqb _ _ c.if-version-ne-BLOB_VERSION.false))).so ((let created-s-took : Took u64 (c.args.row.now) 0 c.created_s-1.given.0.0 c.created_s-1.given.0.1.0 = took _ _ u64 (number-lawful 8) ((let by : Bytes (c.args.row.now) = typed (c.args.row.now) c.shared_slice_known-1.given in by)) ((let created-s-read : read_at u64 (c.args.row.now) 0 ≡ takes c.created_s-1.given.0.0 c.created_s-1.given.0.1.0 = learn u64_says c.u64_at.ensures c.created_s-1.given.1 in created-s-read)) in created-s-took)))).here) c.own-1.given.0.0 c.own-1.given.0.1.0 = located-at (own_at _) _ (learn own_says c.own_envelope_at-own.ensures c.own-1.given.1) in envelope-read)).read in envelope-took)))).here ≡ takes c.gen_-1.given.0.0 c.gen_-1.given.0.1.0 = learn u8_says c.byte_at.ensures c.gen_-1.given.1 in gen-read)) in gen-took)))).here ≡ takes c.leb128-1.given.0.0 c.leb128-1.given.0.1.0 = learn leb128_says c.leb128_at-leb128.ensures c.leb128-1.given.1 in idx-read)) in idx-took)).inside)
+    let r0 : Reached (queued c.args.version) c.args.row.now 0 = start in
+    let r1 : Reached (queued c.args.version) c.args.row.now 0 = ask-yes r0.so (eq-eqb _ _ c.if-version-ne-BLOB_VERSION.false) in
+    let created-s-read : read_at u64 (c.args.row.now) 0 ≡ takes c.in-Value.created_s c.in-Value.at1 = learn u64_says c.u64_at.ensures c.in-Value.is in
+    let created-s-took : Took u64 (c.args.row.now) 0 c.in-Value.created_s c.in-Value.at1 = took _ _ u64 (number-lawful 8) (typed c.args.row.now c.type_inv.row) created-s-read in
+    let r2 : Reached (queued c.args.version) c.args.row.now 0 = field-yes r1.so created-s-took in
+    let envelope-read : Located (own_at r2.here) (read_at (optional (group own_envelope)) (c.args.row.now) r2.here) c.in-Value-own.envelope c.in-Value-own.at2 = located-at (own_at _) _ (learn own_says c.own_envelope_at-own.ensures c.in-Value-own.is) in
+    let envelope-took : Took (optional (group own_envelope)) (c.args.row.now) r2.here envelope-read.value c.in-Value-own.at2 = took _ _ (optional (group own_envelope)) (optional-lawful (group own_envelope) own_envelope-lawful) (typed c.args.row.now c.type_inv.row) envelope-read.read in
+    let r3 : Reached (queued c.args.version) c.args.row.now 0 = field-yes r2.so envelope-took in
+    let gen-read : read_at u8 (c.args.row.now) r3.here ≡ takes c.in-Value-byte_at.gen_ c.in-Value-byte_at.at3 = learn u8_says c.byte_at.ensures c.in-Value-byte_at.is in
+    let gen-took : Took u8 (c.args.row.now) r3.here c.in-Value-byte_at.gen_ c.in-Value-byte_at.at3 = took _ _ u8 (number-lawful 1) (typed c.args.row.now c.type_inv.row) gen-read in
+    let r4 : Reached (queued c.args.version) c.args.row.now 0 = field-yes r3.so gen-took in
+    let idx-read : read_at leb128 (c.args.row.now) r4.here ≡ takes c.in-Value-leb128.idx c.in-Value-leb128.at4 = learn leb128_says c.leb128_at-leb128.ensures c.in-Value-leb128.is in
+    let idx-took : Took leb128 (c.args.row.now) r4.here c.in-Value-leb128.idx c.in-Value-leb128.at4 = took _ _ leb128 leb128-lawful (typed c.args.row.now c.type_inv.row) idx-read in
+    omega (arith, idx-took.inside)
 
 pub returns-then-sealed_queued : goal.returns-then-sealed_queued
 returns-then-sealed_queued c =
-    let text = text-took veiled SEALED_LENGTH sealed_queued (c.args.row.now) ((field-yes ((field-yes ((field-yes ((field-yes ((ask-yes (start).so (eq-eqb _ _ c.if-version-ne-BLOB_VERSION.false))).so ((let created-s-took : Took u64 (c.args.row.now) 0 c.created_s-1.given.0.0 c.created_s-1.given.0.1.0 = took _ _ u64 (number-lawful 8) ((let by : Bytes (c.args.row.now) = typed (c.args.row.now) c.shared_slice_known-1.given in by)) ((let created-s-read : read_at u64 (c.args.row.now) 0 ≡ takes c.created_s-1.given.0.0 c.created_s-1.given.0.1.0 = learn u64_says c.u64_at.ensures c.created_s-1.given.1 in created-s-read)) in created-s-took)))).so ((let envelope-took : Took (optional (group own_envelope)) (c.args.row.now) ((field-yes ((ask-yes (start).so (eq-eqb _ _ c.if-version-ne-BLOB_VERSION.false))).so ((let created-s-took : Took u64 (c.args.row.now) 0 c.created_s-1.given.0.0 c.created_s-1.given.0.1.0 = took _ _ u64 (number-lawful 8) ((let by : Bytes (c.args.row.now) = typed (c.args.row.now) c.shared_slice_known-1.given in by)) ((let created-s-read : read_at u64 (c.args.row.now) 0 ≡ takes c.created_s-1.given.0.0 c.created_s-1.given.0.1.0 = learn u64_says c.u64_at.ensures c.created_s-1.given.1 in created-s-read)) in created-s-took)))).here ((let envelope-read : Located (own_at ((field-yes ((ask-yes (start).so (eq-eqb _ _ c.if-version-ne-BLOB_VERSION.false))).so ((let created-s-took : Took u64 (c.args.row.now) 0 c.created_s-1.given.0.0 c.created_s-1.given.0.1.0 = took _ _ u64 (number-lawful 8) ((let by : Bytes (c.args.row.now) = typed (c.args.row.now) c.shared_slice_known-1.given in by)) ((let created-s-read : read_at u64 (c.args.row.now) 0 ≡ takes c.created_s-1.given.0.0 c.created_s-1.given.0.1.0 = learn u64_says c.u64_at.ensures c.created_s-1.given.1 in created-s-read)) in created-s-took)))).here) (read_at (optional (group own_envelope)) (c.args.row.now) ((field-yes ((ask-yes (start).so (eq-eqb _ _ c.if-version-ne-BLOB_VERSION.false))).so ((let created-s-took : Took u64 (c.args.row.now) 0 c.created_s-1.given.0.0 c.created_s-1.given.0.1.0 = took _ _ u64 (number-lawful 8) ((let by : Bytes (c.args.row.now) = typed (c.args.row.now) c.shared_slice_known-1.given in by)) ((let created-s-read : read_at u64 (c.args.row.now) 0 ≡ takes c.created_s-1.given.0.0 c.created_s-1.given.0.1.0 = learn u64_says c.u64_at.ensures c.created_s-1.given.1 in created-s-read)) in created-s-took)))).here) c.own-1.given.0.0 c.own-1.given.0.1.0 = located-at (own_at _) _ (learn own_says c.own_envelope_at-own.ensures c.own-1.given.1) in envelope-read)).value c.own-1.given.0.1.0 = took _ _ (optional (group own_envelope)) (optional-lawful (group own_envelope) own_envelope-lawful) ((let by : Bytes (c.args.row.now) = typed (c.args.row.now) c.shared_slice_known-1.given in by)) ((let envelope-read : Located (own_at ((field-yes ((ask-yes (start).so (eq-eqb _ _ c.if-version-ne-BLOB_VERSION.false))).so ((let created-s-took : Took u64 (c.args.row.now) 0 c.created_s-1.given.0.0 c.created_s-1.given.0.1.0 = took _ _ u64 (number-lawful 8) ((let by : Bytes (c.args.row.now) = typed (c.args.row.now) c.shared_slice_known-1.given in by)) ((let created-s-read : read_at u64 (c.args.row.now) 0 ≡ takes c.created_s-1.given.0.0 c.created_s-1.given.0.1.0 = learn u64_says c.u64_at.ensures c.created_s-1.given.1 in created-s-read)) in created-s-took)))).here) (read_at (optional (group own_envelope)) (c.args.row.now) ((field-yes ((ask-yes (start).so (eq-eqb _ _ c.if-version-ne-BLOB_VERSION.false))).so ((let created-s-took : Took u64 (c.args.row.now) 0 c.created_s-1.given.0.0 c.created_s-1.given.0.1.0 = took _ _ u64 (number-lawful 8) ((let by : Bytes (c.args.row.now) = typed (c.args.row.now) c.shared_slice_known-1.given in by)) ((let created-s-read : read_at u64 (c.args.row.now) 0 ≡ takes c.created_s-1.given.0.0 c.created_s-1.given.0.1.0 = learn u64_says c.u64_at.ensures c.created_s-1.given.1 in created-s-read)) in created-s-took)))).here) c.own-1.given.0.0 c.own-1.given.0.1.0 = located-at (own_at _) _ (learn own_says c.own_envelope_at-own.ensures c.own-1.given.1) in envelope-read)).read in envelope-took)))).so ((let gen-took : Took u8 (c.args.row.now) ((field-yes ((field-yes ((ask-yes (start).so (eq-eqb _ _ c.if-version-ne-BLOB_VERSION.false))).so ((let created-s-took : Took u64 (c.args.row.now) 0 c.created_s-1.given.0.0 c.created_s-1.given.0.1.0 = took _ _ u64 (number-lawful 8) ((let by : Bytes (c.args.row.now) = typed (c.args.row.now) c.shared_slice_known-1.given in by)) ((let created-s-read : read_at u64 (c.args.row.now) 0 ≡ takes c.created_s-1.given.0.0 c.created_s-1.given.0.1.0 = learn u64_says c.u64_at.ensures c.created_s-1.given.1 in created-s-read)) in created-s-took)))).so ((let envelope-took : Took (optional (group own_envelope)) (c.args.row.now) ((field-yes ((ask-yes (start).so (eq-eqb _ _ c.if-version-ne-BLOB_VERSION.false))).so ((let created-s-took : Took u64 (c.args.row.now) 0 c.created_s-1.given.0.0 c.created_s-1.given.0.1.0 = took _ _ u64 (number-lawful 8) ((let by : Bytes (c.args.row.now) = typed (c.args.row.now) c.shared_slice_known-1.given in by)) ((let created-s-read : read_at u64 (c.args.row.now) 0 ≡ takes c.created_s-1.given.0.0 c.created_s-1.given.0.1.0 = learn u64_says c.u64_at.ensures c.created_s-1.given.1 in created-s-read)) in created-s-took)))).here ((let envelope-read : Located (own_at ((field-yes ((ask-yes (start).so (eq-eqb _ _ c.if-version-ne-BLOB_VERSION.false))).so ((let created-s-took : Took u64 (c.args.row.now) 0 c.created_s-1.given.0.0 c.created_s-1.given.0.1.0 = took _ _ u64 (number-lawful 8) ((let by : Bytes (c.args.row.now) = typed (c.args.row.now) c.shared_slice_known-1.given in by)) ((let created-s-read : read_at u64 (c.args.row.now) 0 ≡ takes c.created_s-1.given.0.0 c.created_s-1.given.0.1.0 = learn u64_says c.u64_at.ensures c.created_s-1.given.1 in created-s-read)) in created-s-took)))).here) (read_at (optional (group own_envelope)) (c.args.row.now) ((field-yes ((ask-yes (start).so (eq-eqb _ _ c.if-version-ne-BLOB_VERSION.false))).so ((let created-s-took : Took u64 (c.args.row.now) 0 c.created_s-1.given.0.0 c.created_s-1.given.0.1.0 = took _ _ u64 (number-lawful 8) ((let by : Bytes (c.args.row.now) = typed (c.args.row.now) c.shared_slice_known-1.given in by)) ((let created-s-read : read_at u64 (c.args.row.now) 0 ≡ takes c.created_s-1.given.0.0 c.created_s-1.given.0.1.0 = learn u64_says c.u64_at.ensures c.created_s-1.given.1 in created-s-read)) in created-s-took)))).here) c.own-1.given.0.0 c.own-1.given.0.1.0 = located-at (own_at _) _ (learn own_says c.own_envelope_at-own.ensures c.own-1.given.1) in envelope-read)).value c.own-1.given.0.1.0 = took _ _ (optional (group own_envelope)) (optional-lawful (group own_envelope) own_envelope-lawful) ((let by : Bytes (c.args.row.now) = typed (c.args.row.now) c.shared_slice_known-1.given in by)) ((let envelope-read : Located (own_at ((field-yes ((ask-yes (start).so (eq-eqb _ _ c.if-version-ne-BLOB_VERSION.false))).so ((let created-s-took : Took u64 (c.args.row.now) 0 c.created_s-1.given.0.0 c.created_s-1.given.0.1.0 = took _ _ u64 (number-lawful 8) ((let by : Bytes (c.args.row.now) = typed (c.args.row.now) c.shared_slice_known-1.given in by)) ((let created-s-read : read_at u64 (c.args.row.now) 0 ≡ takes c.created_s-1.given.0.0 c.created_s-1.given.0.1.0 = learn u64_says c.u64_at.ensures c.created_s-1.given.1 in created-s-read)) in created-s-took)))).here) (read_at (optional (group own_envelope)) (c.args.row.now) ((field-yes ((ask-yes (start).so (eq-eqb _ _ c.if-version-ne-BLOB_VERSION.false))).so ((let created-s-took : Took u64 (c.args.row.now) 0 c.created_s-1.given.0.0 c.created_s-1.given.0.1.0 = took _ _ u64 (number-lawful 8) ((let by : Bytes (c.args.row.now) = typed (c.args.row.now) c.shared_slice_known-1.given in by)) ((let created-s-read : read_at u64 (c.args.row.now) 0 ≡ takes c.created_s-1.given.0.0 c.created_s-1.given.0.1.0 = learn u64_says c.u64_at.ensures c.created_s-1.given.1 in created-s-read)) in created-s-took)))).here) c.own-1.given.0.0 c.own-1.given.0.1.0 = located-at (own_at _) _ (learn own_says c.own_envelope_at-own.ensures c.own-1.given.1) in envelope-read)).read in envelope-took)))).here c.gen_-1.given.0.0 c.gen_-1.given.0.1.0 = took _ _ u8 (number-lawful 1) ((let by : Bytes (c.args.row.now) = typed (c.args.row.now) c.shared_slice_known-1.given in by)) ((let gen-read : read_at u8 (c.args.row.now) ((field-yes ((field-yes ((ask-yes (start).so (eq-eqb _ _ c.if-version-ne-BLOB_VERSION.false))).so ((let created-s-took : Took u64 (c.args.row.now) 0 c.created_s-1.given.0.0 c.created_s-1.given.0.1.0 = took _ _ u64 (number-lawful 8) ((let by : Bytes (c.args.row.now) = typed (c.args.row.now) c.shared_slice_known-1.given in by)) ((let created-s-read : read_at u64 (c.args.row.now) 0 ≡ takes c.created_s-1.given.0.0 c.created_s-1.given.0.1.0 = learn u64_says c.u64_at.ensures c.created_s-1.given.1 in created-s-read)) in created-s-took)))).so ((let envelope-took : Took (optional (group own_envelope)) (c.args.row.now) ((field-yes ((ask-yes (start).so (eq-eqb _ _ c.if-version-ne-BLOB_VERSION.false))).so ((let created-s-took : Took u64 (c.args.row.now) 0 c.created_s-1.given.0.0 c.created_s-1.given.0.1.0 = took _ _ u64 (number-lawful 8) ((let by : Bytes (c.args.row.now) = typed (c.args.row.now) c.shared_slice_known-1.given in by)) ((let created-s-read : read_at u64 (c.args.row.now) 0 ≡ takes c.created_s-1.given.0.0 c.created_s-1.given.0.1.0 = learn u64_says c.u64_at.ensures c.created_s-1.given.1 in created-s-read)) in created-s-took)))).here ((let envelope-read : Located (own_at ((field-yes ((ask-yes (start).so (eq-eqb _ _ c.if-version-ne-BLOB_VERSION.false))).so ((let created-s-took : Took u64 (c.args.row.now) 0 c.created_s-1.given.0.0 c.created_s-1.given.0.1.0 = took _ _ u64 (number-lawful 8) ((let by : Bytes (c.args.row.now) = typed (c.args.row.now) c.shared_slice_known-1.given in by)) ((let created-s-read : read_at u64 (c.args.row.now) 0 ≡ takes c.created_s-1.given.0.0 c.created_s-1.given.0.1.0 = learn u64_says c.u64_at.ensures c.created_s-1.given.1 in created-s-read)) in created-s-took)))).here) (read_at (optional (group own_envelope)) (c.args.row.now) ((field-yes ((ask-yes (start).so (eq-eqb _ _ c.if-version-ne-BLOB_VERSION.false))).so ((let created-s-took : Took u64 (c.args.row.now) 0 c.created_s-1.given.0.0 c.created_s-1.given.0.1.0 = took _ _ u64 (number-lawful 8) ((let by : Bytes (c.args.row.now) = typed (c.args.row.now) c.shared_slice_known-1.given in by)) ((let created-s-read : read_at u64 (c.args.row.now) 0 ≡ takes c.created_s-1.given.0.0 c.created_s-1.given.0.1.0 = learn u64_says c.u64_at.ensures c.created_s-1.given.1 in created-s-read)) in created-s-took)))).here) c.own-1.given.0.0 c.own-1.given.0.1.0 = located-at (own_at _) _ (learn own_says c.own_envelope_at-own.ensures c.own-1.given.1) in envelope-read)).value c.own-1.given.0.1.0 = took _ _ (optional (group own_envelope)) (optional-lawful (group own_envelope) own_envelope-lawful) ((let by : Bytes (c.args.row.now) = typed (c.args.row.now) c.shared_slice_known-1.given in by)) ((let envelope-read : Located (own_at ((field-yes ((ask-yes (start).so (eq-eqb _ _ c.if-version-ne-BLOB_VERSION.false))).so ((let created-s-took : Took u64 (c.args.row.now) 0 c.created_s-1.given.0.0 c.created_s-1.given.0.1.0 = took _ _ u64 (number-lawful 8) ((let by : Bytes (c.args.row.now) = typed (c.args.row.now) c.shared_slice_known-1.given in by)) ((let created-s-read : read_at u64 (c.args.row.now) 0 ≡ takes c.created_s-1.given.0.0 c.created_s-1.given.0.1.0 = learn u64_says c.u64_at.ensures c.created_s-1.given.1 in created-s-read)) in created-s-took)))).here) (read_at (optional (group own_envelope)) (c.args.row.now) ((field-yes ((ask-yes (start).so (eq-eqb _ _ c.if-version-ne-BLOB_VERSION.false))).so ((let created-s-took : Took u64 (c.args.row.now) 0 c.created_s-1.given.0.0 c.created_s-1.given.0.1.0 = took _ _ u64 (number-lawful 8) ((let by : Bytes (c.args.row.now) = typed (c.args.row.now) c.shared_slice_known-1.given in by)) ((let created-s-read : read_at u64 (c.args.row.now) 0 ≡ takes c.created_s-1.given.0.0 c.created_s-1.given.0.1.0 = learn u64_says c.u64_at.ensures c.created_s-1.given.1 in created-s-read)) in created-s-took)))).here) c.own-1.given.0.0 c.own-1.given.0.1.0 = located-at (own_at _) _ (learn own_says c.own_envelope_at-own.ensures c.own-1.given.1) in envelope-read)).read in envelope-took)))).here ≡ takes c.gen_-1.given.0.0 c.gen_-1.given.0.1.0 = learn u8_says c.byte_at.ensures c.gen_-1.given.1 in gen-read)) in gen-took)))).so ((let idx-took : Took leb128 (c.args.row.now) ((field-yes ((field-yes ((field-yes ((ask-yes (start).so (eq-eqb _ _ c.if-version-ne-BLOB_VERSION.false))).so ((let created-s-took : Took u64 (c.args.row.now) 0 c.created_s-1.given.0.0 c.created_s-1.given.0.1.0 = took _ _ u64 (number-lawful 8) ((let by : Bytes (c.args.row.now) = typed (c.args.row.now) c.shared_slice_known-1.given in by)) ((let created-s-read : read_at u64 (c.args.row.now) 0 ≡ takes c.created_s-1.given.0.0 c.created_s-1.given.0.1.0 = learn u64_says c.u64_at.ensures c.created_s-1.given.1 in created-s-read)) in created-s-took)))).so ((let envelope-took : Took (optional (group own_envelope)) (c.args.row.now) ((field-yes ((ask-yes (start).so (eq-eqb _ _ c.if-version-ne-BLOB_VERSION.false))).so ((let created-s-took : Took u64 (c.args.row.now) 0 c.created_s-1.given.0.0 c.created_s-1.given.0.1.0 = took _ _ u64 (number-lawful 8) ((let by : Bytes (c.args.row.now) = typed (c.args.row.now) c.shared_slice_known-1.given in by)) ((let created-s-read : read_at u64 (c.args.row.now) 0 ≡ takes c.created_s-1.given.0.0 c.created_s-1.given.0.1.0 = learn u64_says c.u64_at.ensures c.created_s-1.given.1 in created-s-read)) in created-s-took)))).here ((let envelope-read : Located (own_at ((field-yes ((ask-yes (start).so (eq-eqb _ _ c.if-version-ne-BLOB_VERSION.false))).so ((let created-s-took : Took u64 (c.args.row.now) 0 c.created_s-1.given.0.0 c.created_s-1.given.0.1.0 = took _ _ u64 (number-lawful 8) ((let by : Bytes (c.args.row.now) = typed (c.args.row.now) c.shared_slice_known-1.given in by)) ((let created-s-read : read_at u64 (c.args.row.now) 0 ≡ takes c.created_s-1.given.0.0 c.created_s-1.given.0.1.0 = learn u64_says c.u64_at.ensures c.created_s-1.given.1 in created-s-read)) in created-s-took)))).here) (read_at (optional (group own_envelope)) (c.args.row.now) ((field-yes ((ask-yes (start).so (eq-eqb _ _ c.if-version-ne-BLOB_VERSION.false))).so ((let created-s-took : Took u64 (c.args.row.now) 0 c.created_s-1.given.0.0 c.created_s-1.given.0.1.0 = took _ _ u64 (number-lawful 8) ((let by : Bytes (c.args.row.now) = typed (c.args.row.now) c.shared_slice_known-1.given in by)) ((let created-s-read : read_at u64 (c.args.row.now) 0 ≡ takes c.created_s-1.given.0.0 c.created_s-1.given.0.1.0 = learn u64_says c.u64_at.ensures c.created_s-1.given.1 in created-s-read)) in created-s-took)))).here) c.own-1.given.0.0 c.own-1.given.0.1.0 = located-at (own_at _) _ (learn own_says c.own_envelope_at-own.ensures c.own-1.given.1) in envelope-read)).value c.own-1.given.0.1.0 = took _ _ (optional (group own_envelope)) (optional-lawful (group own_envelope) own_envelope-lawful) ((let by : Bytes (c.args.row.now) = typed (c.args.row.now) c.shared_slice_known-1.given in by)) ((let envelope-read : Located (own_at ((field-yes ((ask-yes (start).so (eq-eqb _ _ c.if-version-ne-BLOB_VERSION.false))).so ((let created-s-took : Took u64 (c.args.row.now) 0 c.created_s-1.given.0.0 c.created_s-1.given.0.1.0 = took _ _ u64 (number-lawful 8) ((let by : Bytes (c.args.row.now) = typed (c.args.row.now) c.shared_slice_known-1.given in by)) ((let created-s-read : read_at u64 (c.args.row.now) 0 ≡ takes c.created_s-1.given.0.0 c.created_s-1.given.0.1.0 = learn u64_says c.u64_at.ensures c.created_s-1.given.1 in created-s-read)) in created-s-took)))).here) (read_at (optional (group own_envelope)) (c.args.row.now) ((field-yes ((ask-yes (start).so (eq-eqb _ _ c.if-version-ne-BLOB_VERSION.false))).so ((let created-s-took : Took u64 (c.args.row.now) 0 c.created_s-1.given.0.0 c.created_s-1.given.0.1.0 = took _ _ u64 (number-lawful 8) ((let by : Bytes (c.args.row.now) = typed (c.args.row.now) c.shared_slice_known-1.given in by)) ((let created-s-read : read_at u64 (c.args.row.now) 0 ≡ takes c.created_s-1.given.0.0 c.created_s-1.given.0.1.0 = learn u64_says c.u64_at.ensures c.created_s-1.given.1 in created-s-read)) in created-s-took)))).here) c.own-1.given.0.0 c.own-1.given.0.1.0 = located-at (own_at _) _ (learn own_says c.own_envelope_at-own.ensures c.own-1.given.1) in envelope-read)).read in envelope-took)))).so ((let gen-took : Took u8 (c.args.row.now) ((field-yes ((field-yes ((ask-yes (start).so (eq-eqb _ _ c.if-version-ne-BLOB_VERSION.false))).so ((let created-s-took : Took u64 (c.args.row.now) 0 c.created_s-1.given.0.0 c.created_s-1.given.0.1.0 = took _ _ u64 (number-lawful 8) ((let by : Bytes (c.args.row.now) = typed (c.args.row.now) c.shared_slice_known-1.given in by)) ((let created-s-read : read_at u64 (c.args.row.now) 0 ≡ takes c.created_s-1.given.0.0 c.created_s-1.given.0.1.0 = learn u64_says c.u64_at.ensures c.created_s-1.given.1 in created-s-read)) in created-s-took)))).so ((let envelope-took : Took (optional (group own_envelope)) (c.args.row.now) ((field-yes ((ask-yes (start).so (eq-eqb _ _ c.if-version-ne-BLOB_VERSION.false))).so ((let created-s-took : Took u64 (c.args.row.now) 0 c.created_s-1.given.0.0 c.created_s-1.given.0.1.0 = took _ _ u64 (number-lawful 8) ((let by : Bytes (c.args.row.now) = typed (c.args.row.now) c.shared_slice_known-1.given in by)) ((let created-s-read : read_at u64 (c.args.row.now) 0 ≡ takes c.created_s-1.given.0.0 c.created_s-1.given.0.1.0 = learn u64_says c.u64_at.ensures c.created_s-1.given.1 in created-s-read)) in created-s-took)))).here ((let envelope-read : Located (own_at ((field-yes ((ask-yes (start).so (eq-eqb _ _ c.if-version-ne-BLOB_VERSION.false))).so ((let created-s-took : Took u64 (c.args.row.now) 0 c.created_s-1.given.0.0 c.created_s-1.given.0.1.0 = took _ _ u64 (number-lawful 8) ((let by : Bytes (c.args.row.now) = typed (c.args.row.now) c.shared_slice_known-1.given in by)) ((let created-s-read : read_at u64 (c.args.row.now) 0 ≡ takes c.created_s-1.given.0.0 c.created_s-1.given.0.1.0 = learn u64_says c.u64_at.ensures c.created_s-1.given.1 in created-s-read)) in created-s-took)))).here) (read_at (optional (group own_envelope)) (c.args.row.now) ((field-yes ((ask-yes (start).so (eq-eqb _ _ c.if-version-ne-BLOB_VERSION.false))).so ((let created-s-took : Took u64 (c.args.row.now) 0 c.created_s-1.given.0.0 c.created_s-1.given.0.1.0 = took _ _ u64 (number-lawful 8) ((let by : Bytes (c.args.row.now) = typed (c.args.row.now) c.shared_slice_known-1.given in by)) ((let created-s-read : read_at u64 (c.args.row.now) 0 ≡ takes c.created_s-1.given.0.0 c.created_s-1.given.0.1.0 = learn u64_says c.u64_at.ensures c.created_s-1.given.1 in created-s-read)) in created-s-took)))).here) c.own-1.given.0.0 c.own-1.given.0.1.0 = located-at (own_at _) _ (learn own_says c.own_envelope_at-own.ensures c.own-1.given.1) in envelope-read)).value c.own-1.given.0.1.0 = took _ _ (optional (group own_envelope)) (optional-lawful (group own_envelope) own_envelope-lawful) ((let by : Bytes (c.args.row.now) = typed (c.args.row.now) c.shared_slice_known-1.given in by)) ((let envelope-read : Located (own_at ((field-yes ((ask-yes (start).so (eq-eqb _ _ c.if-version-ne-BLOB_VERSION.false))).so ((let created-s-took : Took u64 (c.args.row.now) 0 c.created_s-1.given.0.0 c.created_s-1.given.0.1.0 = took _ _ u64 (number-lawful 8) ((let by : Bytes (c.args.row.now) = typed (c.args.row.now) c.shared_slice_known-1.given in by)) ((let created-s-read : read_at u64 (c.args.row.now) 0 ≡ takes c.created_s-1.given.0.0 c.created_s-1.given.0.1.0 = learn u64_says c.u64_at.ensures c.created_s-1.given.1 in created-s-read)) in created-s-took)))).here) (read_at (optional (group own_envelope)) (c.args.row.now) ((field-yes ((ask-yes (start).so (eq-eqb _ _ c.if-version-ne-BLOB_VERSION.false))).so ((let created-s-took : Took u64 (c.args.row.now) 0 c.created_s-1.given.0.0 c.created_s-1.given.0.1.0 = took _ _ u64 (number-lawful 8) ((let by : Bytes (c.args.row.now) = typed (c.args.row.now) c.shared_slice_known-1.given in by)) ((let created-s-read : read_at u64 (c.args.row.now) 0 ≡ takes c.created_s-1.given.0.0 c.created_s-1.given.0.1.0 = learn u64_says c.u64_at.ensures c.created_s-1.given.1 in created-s-read)) in created-s-took)))).here) c.own-1.given.0.0 c.own-1.given.0.1.0 = located-at (own_at _) _ (learn own_says c.own_envelope_at-own.ensures c.own-1.given.1) in envelope-read)).read in envelope-took)))).here c.gen_-1.given.0.0 c.gen_-1.given.0.1.0 = took _ _ u8 (number-lawful 1) ((let by : Bytes (c.args.row.now) = typed (c.args.row.now) c.shared_slice_known-1.given in by)) ((let gen-read : read_at u8 (c.args.row.now) ((field-yes ((field-yes ((ask-yes (start).so (eq-eqb _ _ c.if-version-ne-BLOB_VERSION.false))).so ((let created-s-took : Took u64 (c.args.row.now) 0 c.created_s-1.given.0.0 c.created_s-1.given.0.1.0 = took _ _ u64 (number-lawful 8) ((let by : Bytes (c.args.row.now) = typed (c.args.row.now) c.shared_slice_known-1.given in by)) ((let created-s-read : read_at u64 (c.args.row.now) 0 ≡ takes c.created_s-1.given.0.0 c.created_s-1.given.0.1.0 = learn u64_says c.u64_at.ensures c.created_s-1.given.1 in created-s-read)) in created-s-took)))).so ((let envelope-took : Took (optional (group own_envelope)) (c.args.row.now) ((field-yes ((ask-yes (start).so (eq-eqb _ _ c.if-version-ne-BLOB_VERSION.false))).so ((let created-s-took : Took u64 (c.args.row.now) 0 c.created_s-1.given.0.0 c.created_s-1.given.0.1.0 = took _ _ u64 (number-lawful 8) ((let by : Bytes (c.args.row.now) = typed (c.args.row.now) c.shared_slice_known-1.given in by)) ((let created-s-read : read_at u64 (c.args.row.now) 0 ≡ takes c.created_s-1.given.0.0 c.created_s-1.given.0.1.0 = learn u64_says c.u64_at.ensures c.created_s-1.given.1 in created-s-read)) in created-s-took)))).here ((let envelope-read : Located (own_at ((field-yes ((ask-yes (start).so (eq-eqb _ _ c.if-version-ne-BLOB_VERSION.false))).so ((let created-s-took : Took u64 (c.args.row.now) 0 c.created_s-1.given.0.0 c.created_s-1.given.0.1.0 = took _ _ u64 (number-lawful 8) ((let by : Bytes (c.args.row.now) = typed (c.args.row.now) c.shared_slice_known-1.given in by)) ((let created-s-read : read_at u64 (c.args.row.now) 0 ≡ takes c.created_s-1.given.0.0 c.created_s-1.given.0.1.0 = learn u64_says c.u64_at.ensures c.created_s-1.given.1 in created-s-read)) in created-s-took)))).here) (read_at (optional (group own_envelope)) (c.args.row.now) ((field-yes ((ask-yes (start).so (eq-eqb _ _ c.if-version-ne-BLOB_VERSION.false))).so ((let created-s-took : Took u64 (c.args.row.now) 0 c.created_s-1.given.0.0 c.created_s-1.given.0.1.0 = took _ _ u64 (number-lawful 8) ((let by : Bytes (c.args.row.now) = typed (c.args.row.now) c.shared_slice_known-1.given in by)) ((let created-s-read : read_at u64 (c.args.row.now) 0 ≡ takes c.created_s-1.given.0.0 c.created_s-1.given.0.1.0 = learn u64_says c.u64_at.ensures c.created_s-1.given.1 in created-s-read)) in created-s-took)))).here) c.own-1.given.0.0 c.own-1.given.0.1.0 = located-at (own_at _) _ (learn own_says c.own_envelope_at-own.ensures c.own-1.given.1) in envelope-read)).value c.own-1.given.0.1.0 = took _ _ (optional (group own_envelope)) (optional-lawful (group own_envelope) own_envelope-lawful) ((let by : Bytes (c.args.row.now) = typed (c.args.row.now) c.shared_slice_known-1.given in by)) ((let envelope-read : Located (own_at ((field-yes ((ask-yes (start).so (eq-eqb _ _ c.if-version-ne-BLOB_VERSION.false))).so ((let created-s-took : Took u64 (c.args.row.now) 0 c.created_s-1.given.0.0 c.created_s-1.given.0.1.0 = took _ _ u64 (number-lawful 8) ((let by : Bytes (c.args.row.now) = typed (c.args.row.now) c.shared_slice_known-1.given in by)) ((let created-s-read : read_at u64 (c.args.row.now) 0 ≡ takes c.created_s-1.given.0.0 c.created_s-1.given.0.1.0 = learn u64_says c.u64_at.ensures c.created_s-1.given.1 in created-s-read)) in created-s-took)))).here) (read_at (optional (group own_envelope)) (c.args.row.now) ((field-yes ((ask-yes (start).so (eq-eqb _ _ c.if-version-ne-BLOB_VERSION.false))).so ((let created-s-took : Took u64 (c.args.row.now) 0 c.created_s-1.given.0.0 c.created_s-1.given.0.1.0 = took _ _ u64 (number-lawful 8) ((let by : Bytes (c.args.row.now) = typed (c.args.row.now) c.shared_slice_known-1.given in by)) ((let created-s-read : read_at u64 (c.args.row.now) 0 ≡ takes c.created_s-1.given.0.0 c.created_s-1.given.0.1.0 = learn u64_says c.u64_at.ensures c.created_s-1.given.1 in created-s-read)) in created-s-took)))).here) c.own-1.given.0.0 c.own-1.given.0.1.0 = located-at (own_at _) _ (learn own_says c.own_envelope_at-own.ensures c.own-1.given.1) in envelope-read)).read in envelope-took)))).here ≡ takes c.gen_-1.given.0.0 c.gen_-1.given.0.1.0 = learn u8_says c.byte_at.ensures c.gen_-1.given.1 in gen-read)) in gen-took)))).here c.leb128-1.given.0.0 c.leb128-1.given.0.1.0 = took _ _ leb128 leb128-lawful ((let by : Bytes (c.args.row.now) = typed (c.args.row.now) c.shared_slice_known-1.given in by)) ((let idx-read : read_at leb128 (c.args.row.now) ((field-yes ((field-yes ((field-yes ((ask-yes (start).so (eq-eqb _ _ c.if-version-ne-BLOB_VERSION.false))).so ((let created-s-took : Took u64 (c.args.row.now) 0 c.created_s-1.given.0.0 c.created_s-1.given.0.1.0 = took _ _ u64 (number-lawful 8) ((let by : Bytes (c.args.row.now) = typed (c.args.row.now) c.shared_slice_known-1.given in by)) ((let created-s-read : read_at u64 (c.args.row.now) 0 ≡ takes c.created_s-1.given.0.0 c.created_s-1.given.0.1.0 = learn u64_says c.u64_at.ensures c.created_s-1.given.1 in created-s-read)) in created-s-took)))).so ((let envelope-took : Took (optional (group own_envelope)) (c.args.row.now) ((field-yes ((ask-yes (start).so (eq-eqb _ _ c.if-version-ne-BLOB_VERSION.false))).so ((let created-s-took : Took u64 (c.args.row.now) 0 c.created_s-1.given.0.0 c.created_s-1.given.0.1.0 = took _ _ u64 (number-lawful 8) ((let by : Bytes (c.args.row.now) = typed (c.args.row.now) c.shared_slice_known-1.given in by)) ((let created-s-read : read_at u64 (c.args.row.now) 0 ≡ takes c.created_s-1.given.0.0 c.created_s-1.given.0.1.0 = learn u64_says c.u64_at.ensures c.created_s-1.given.1 in created-s-read)) in created-s-took)))).here ((let envelope-read : Located (own_at ((field-yes ((ask-yes (start).so (eq-eqb _ _ c.if-version-ne-BLOB_VERSION.false))).so ((let created-s-took : Took u64 (c.args.row.now) 0 c.created_s-1.given.0.0 c.created_s-1.given.0.1.0 = took _ _ u64 (number-lawful 8) ((let by : Bytes (c.args.row.now) = typed (c.args.row.now) c.shared_slice_known-1.given in by)) ((let created-s-read : read_at u64 (c.args.row.now) 0 ≡ takes c.created_s-1.given.0.0 c.created_s-1.given.0.1.0 = learn u64_says c.u64_at.ensures c.created_s-1.given.1 in created-s-read)) in created-s-took)))).here) (read_at (optional (group own_envelope)) (c.args.row.now) ((field-yes ((ask-yes (start).so (eq-eqb _ _ c.if-version-ne-BLOB_VERSION.false))).so ((let created-s-took : Took u64 (c.args.row.now) 0 c.created_s-1.given.0.0 c.created_s-1.given.0.1.0 = took _ _ u64 (number-lawful 8) ((let by : Bytes (c.args.row.now) = typed (c.args.row.now) c.shared_slice_known-1.given in by)) ((let created-s-read : read_at u64 (c.args.row.now) 0 ≡ takes c.created_s-1.given.0.0 c.created_s-1.given.0.1.0 = learn u64_says c.u64_at.ensures c.created_s-1.given.1 in created-s-read)) in created-s-took)))).here) c.own-1.given.0.0 c.own-1.given.0.1.0 = located-at (own_at _) _ (learn own_says c.own_envelope_at-own.ensures c.own-1.given.1) in envelope-read)).value c.own-1.given.0.1.0 = took _ _ (optional (group own_envelope)) (optional-lawful (group own_envelope) own_envelope-lawful) ((let by : Bytes (c.args.row.now) = typed (c.args.row.now) c.shared_slice_known-1.given in by)) ((let envelope-read : Located (own_at ((field-yes ((ask-yes (start).so (eq-eqb _ _ c.if-version-ne-BLOB_VERSION.false))).so ((let created-s-took : Took u64 (c.args.row.now) 0 c.created_s-1.given.0.0 c.created_s-1.given.0.1.0 = took _ _ u64 (number-lawful 8) ((let by : Bytes (c.args.row.now) = typed (c.args.row.now) c.shared_slice_known-1.given in by)) ((let created-s-read : read_at u64 (c.args.row.now) 0 ≡ takes c.created_s-1.given.0.0 c.created_s-1.given.0.1.0 = learn u64_says c.u64_at.ensures c.created_s-1.given.1 in created-s-read)) in created-s-took)))).here) (read_at (optional (group own_envelope)) (c.args.row.now) ((field-yes ((ask-yes (start).so (eq-eqb _ _ c.if-version-ne-BLOB_VERSION.false))).so ((let created-s-took : Took u64 (c.args.row.now) 0 c.created_s-1.given.0.0 c.created_s-1.given.0.1.0 = took _ _ u64 (number-lawful 8) ((let by : Bytes (c.args.row.now) = typed (c.args.row.now) c.shared_slice_known-1.given in by)) ((let created-s-read : read_at u64 (c.args.row.now) 0 ≡ takes c.created_s-1.given.0.0 c.created_s-1.given.0.1.0 = learn u64_says c.u64_at.ensures c.created_s-1.given.1 in created-s-read)) in created-s-took)))).here) c.own-1.given.0.0 c.own-1.given.0.1.0 = located-at (own_at _) _ (learn own_says c.own_envelope_at-own.ensures c.own-1.given.1) in envelope-read)).read in envelope-took)))).so ((let gen-took : Took u8 (c.args.row.now) ((field-yes ((field-yes ((ask-yes (start).so (eq-eqb _ _ c.if-version-ne-BLOB_VERSION.false))).so ((let created-s-took : Took u64 (c.args.row.now) 0 c.created_s-1.given.0.0 c.created_s-1.given.0.1.0 = took _ _ u64 (number-lawful 8) ((let by : Bytes (c.args.row.now) = typed (c.args.row.now) c.shared_slice_known-1.given in by)) ((let created-s-read : read_at u64 (c.args.row.now) 0 ≡ takes c.created_s-1.given.0.0 c.created_s-1.given.0.1.0 = learn u64_says c.u64_at.ensures c.created_s-1.given.1 in created-s-read)) in created-s-took)))).so ((let envelope-took : Took (optional (group own_envelope)) (c.args.row.now) ((field-yes ((ask-yes (start).so (eq-eqb _ _ c.if-version-ne-BLOB_VERSION.false))).so ((let created-s-took : Took u64 (c.args.row.now) 0 c.created_s-1.given.0.0 c.created_s-1.given.0.1.0 = took _ _ u64 (number-lawful 8) ((let by : Bytes (c.args.row.now) = typed (c.args.row.now) c.shared_slice_known-1.given in by)) ((let created-s-read : read_at u64 (c.args.row.now) 0 ≡ takes c.created_s-1.given.0.0 c.created_s-1.given.0.1.0 = learn u64_says c.u64_at.ensures c.created_s-1.given.1 in created-s-read)) in created-s-took)))).here ((let envelope-read : Located (own_at ((field-yes ((ask-yes (start).so (eq-eqb _ _ c.if-version-ne-BLOB_VERSION.false))).so ((let created-s-took : Took u64 (c.args.row.now) 0 c.created_s-1.given.0.0 c.created_s-1.given.0.1.0 = took _ _ u64 (number-lawful 8) ((let by : Bytes (c.args.row.now) = typed (c.args.row.now) c.shared_slice_known-1.given in by)) ((let created-s-read : read_at u64 (c.args.row.now) 0 ≡ takes c.created_s-1.given.0.0 c.created_s-1.given.0.1.0 = learn u64_says c.u64_at.ensures c.created_s-1.given.1 in created-s-read)) in created-s-took)))).here) (read_at (optional (group own_envelope)) (c.args.row.now) ((field-yes ((ask-yes (start).so (eq-eqb _ _ c.if-version-ne-BLOB_VERSION.false))).so ((let created-s-took : Took u64 (c.args.row.now) 0 c.created_s-1.given.0.0 c.created_s-1.given.0.1.0 = took _ _ u64 (number-lawful 8) ((let by : Bytes (c.args.row.now) = typed (c.args.row.now) c.shared_slice_known-1.given in by)) ((let created-s-read : read_at u64 (c.args.row.now) 0 ≡ takes c.created_s-1.given.0.0 c.created_s-1.given.0.1.0 = learn u64_says c.u64_at.ensures c.created_s-1.given.1 in created-s-read)) in created-s-took)))).here) c.own-1.given.0.0 c.own-1.given.0.1.0 = located-at (own_at _) _ (learn own_says c.own_envelope_at-own.ensures c.own-1.given.1) in envelope-read)).value c.own-1.given.0.1.0 = took _ _ (optional (group own_envelope)) (optional-lawful (group own_envelope) own_envelope-lawful) ((let by : Bytes (c.args.row.now) = typed (c.args.row.now) c.shared_slice_known-1.given in by)) ((let envelope-read : Located (own_at ((field-yes ((ask-yes (start).so (eq-eqb _ _ c.if-version-ne-BLOB_VERSION.false))).so ((let created-s-took : Took u64 (c.args.row.now) 0 c.created_s-1.given.0.0 c.created_s-1.given.0.1.0 = took _ _ u64 (number-lawful 8) ((let by : Bytes (c.args.row.now) = typed (c.args.row.now) c.shared_slice_known-1.given in by)) ((let created-s-read : read_at u64 (c.args.row.now) 0 ≡ takes c.created_s-1.given.0.0 c.created_s-1.given.0.1.0 = learn u64_says c.u64_at.ensures c.created_s-1.given.1 in created-s-read)) in created-s-took)))).here) (read_at (optional (group own_envelope)) (c.args.row.now) ((field-yes ((ask-yes (start).so (eq-eqb _ _ c.if-version-ne-BLOB_VERSION.false))).so ((let created-s-took : Took u64 (c.args.row.now) 0 c.created_s-1.given.0.0 c.created_s-1.given.0.1.0 = took _ _ u64 (number-lawful 8) ((let by : Bytes (c.args.row.now) = typed (c.args.row.now) c.shared_slice_known-1.given in by)) ((let created-s-read : read_at u64 (c.args.row.now) 0 ≡ takes c.created_s-1.given.0.0 c.created_s-1.given.0.1.0 = learn u64_says c.u64_at.ensures c.created_s-1.given.1 in created-s-read)) in created-s-took)))).here) c.own-1.given.0.0 c.own-1.given.0.1.0 = located-at (own_at _) _ (learn own_says c.own_envelope_at-own.ensures c.own-1.given.1) in envelope-read)).read in envelope-took)))).here c.gen_-1.given.0.0 c.gen_-1.given.0.1.0 = took _ _ u8 (number-lawful 1) ((let by : Bytes (c.args.row.now) = typed (c.args.row.now) c.shared_slice_known-1.given in by)) ((let gen-read : read_at u8 (c.args.row.now) ((field-yes ((field-yes ((ask-yes (start).so (eq-eqb _ _ c.if-version-ne-BLOB_VERSION.false))).so ((let created-s-took : Took u64 (c.args.row.now) 0 c.created_s-1.given.0.0 c.created_s-1.given.0.1.0 = took _ _ u64 (number-lawful 8) ((let by : Bytes (c.args.row.now) = typed (c.args.row.now) c.shared_slice_known-1.given in by)) ((let created-s-read : read_at u64 (c.args.row.now) 0 ≡ takes c.created_s-1.given.0.0 c.created_s-1.given.0.1.0 = learn u64_says c.u64_at.ensures c.created_s-1.given.1 in created-s-read)) in created-s-took)))).so ((let envelope-took : Took (optional (group own_envelope)) (c.args.row.now) ((field-yes ((ask-yes (start).so (eq-eqb _ _ c.if-version-ne-BLOB_VERSION.false))).so ((let created-s-took : Took u64 (c.args.row.now) 0 c.created_s-1.given.0.0 c.created_s-1.given.0.1.0 = took _ _ u64 (number-lawful 8) ((let by : Bytes (c.args.row.now) = typed (c.args.row.now) c.shared_slice_known-1.given in by)) ((let created-s-read : read_at u64 (c.args.row.now) 0 ≡ takes c.created_s-1.given.0.0 c.created_s-1.given.0.1.0 = learn u64_says c.u64_at.ensures c.created_s-1.given.1 in created-s-read)) in created-s-took)))).here ((let envelope-read : Located (own_at ((field-yes ((ask-yes (start).so (eq-eqb _ _ c.if-version-ne-BLOB_VERSION.false))).so ((let created-s-took : Took u64 (c.args.row.now) 0 c.created_s-1.given.0.0 c.created_s-1.given.0.1.0 = took _ _ u64 (number-lawful 8) ((let by : Bytes (c.args.row.now) = typed (c.args.row.now) c.shared_slice_known-1.given in by)) ((let created-s-read : read_at u64 (c.args.row.now) 0 ≡ takes c.created_s-1.given.0.0 c.created_s-1.given.0.1.0 = learn u64_says c.u64_at.ensures c.created_s-1.given.1 in created-s-read)) in created-s-took)))).here) (read_at (optional (group own_envelope)) (c.args.row.now) ((field-yes ((ask-yes (start).so (eq-eqb _ _ c.if-version-ne-BLOB_VERSION.false))).so ((let created-s-took : Took u64 (c.args.row.now) 0 c.created_s-1.given.0.0 c.created_s-1.given.0.1.0 = took _ _ u64 (number-lawful 8) ((let by : Bytes (c.args.row.now) = typed (c.args.row.now) c.shared_slice_known-1.given in by)) ((let created-s-read : read_at u64 (c.args.row.now) 0 ≡ takes c.created_s-1.given.0.0 c.created_s-1.given.0.1.0 = learn u64_says c.u64_at.ensures c.created_s-1.given.1 in created-s-read)) in created-s-took)))).here) c.own-1.given.0.0 c.own-1.given.0.1.0 = located-at (own_at _) _ (learn own_says c.own_envelope_at-own.ensures c.own-1.given.1) in envelope-read)).value c.own-1.given.0.1.0 = took _ _ (optional (group own_envelope)) (optional-lawful (group own_envelope) own_envelope-lawful) ((let by : Bytes (c.args.row.now) = typed (c.args.row.now) c.shared_slice_known-1.given in by)) ((let envelope-read : Located (own_at ((field-yes ((ask-yes (start).so (eq-eqb _ _ c.if-version-ne-BLOB_VERSION.false))).so ((let created-s-took : Took u64 (c.args.row.now) 0 c.created_s-1.given.0.0 c.created_s-1.given.0.1.0 = took _ _ u64 (number-lawful 8) ((let by : Bytes (c.args.row.now) = typed (c.args.row.now) c.shared_slice_known-1.given in by)) ((let created-s-read : read_at u64 (c.args.row.now) 0 ≡ takes c.created_s-1.given.0.0 c.created_s-1.given.0.1.0 = learn u64_says c.u64_at.ensures c.created_s-1.given.1 in created-s-read)) in created-s-took)))).here) (read_at (optional (group own_envelope)) (c.args.row.now) ((field-yes ((ask-yes (start).so (eq-eqb _ _ c.if-version-ne-BLOB_VERSION.false))).so ((let created-s-took : Took u64 (c.args.row.now) 0 c.created_s-1.given.0.0 c.created_s-1.given.0.1.0 = took _ _ u64 (number-lawful 8) ((let by : Bytes (c.args.row.now) = typed (c.args.row.now) c.shared_slice_known-1.given in by)) ((let created-s-read : read_at u64 (c.args.row.now) 0 ≡ takes c.created_s-1.given.0.0 c.created_s-1.given.0.1.0 = learn u64_says c.u64_at.ensures c.created_s-1.given.1 in created-s-read)) in created-s-took)))).here) c.own-1.given.0.0 c.own-1.given.0.1.0 = located-at (own_at _) _ (learn own_says c.own_envelope_at-own.ensures c.own-1.given.1) in envelope-read)).read in envelope-took)))).here ≡ takes c.gen_-1.given.0.0 c.gen_-1.given.0.1.0 = learn u8_says c.byte_at.ensures c.gen_-1.given.1 in gen-read)) in gen-took)))).here ≡ takes c.leb128-1.given.0.0 c.leb128-1.given.0.1.0 = learn leb128_says c.leb128_at-leb128.ensures c.leb128-1.given.1 in idx-read)) in idx-took)))).here ((let idx-took : Took leb128 (c.args.row.now) ((field-yes ((field-yes ((field-yes ((ask-yes (start).so (eq-eqb _ _ c.if-version-ne-BLOB_VERSION.false))).so ((let created-s-took : Took u64 (c.args.row.now) 0 c.created_s-1.given.0.0 c.created_s-1.given.0.1.0 = took _ _ u64 (number-lawful 8) ((let by : Bytes (c.args.row.now) = typed (c.args.row.now) c.shared_slice_known-1.given in by)) ((let created-s-read : read_at u64 (c.args.row.now) 0 ≡ takes c.created_s-1.given.0.0 c.created_s-1.given.0.1.0 = learn u64_says c.u64_at.ensures c.created_s-1.given.1 in created-s-read)) in created-s-took)))).so ((let envelope-took : Took (optional (group own_envelope)) (c.args.row.now) ((field-yes ((ask-yes (start).so (eq-eqb _ _ c.if-version-ne-BLOB_VERSION.false))).so ((let created-s-took : Took u64 (c.args.row.now) 0 c.created_s-1.given.0.0 c.created_s-1.given.0.1.0 = took _ _ u64 (number-lawful 8) ((let by : Bytes (c.args.row.now) = typed (c.args.row.now) c.shared_slice_known-1.given in by)) ((let created-s-read : read_at u64 (c.args.row.now) 0 ≡ takes c.created_s-1.given.0.0 c.created_s-1.given.0.1.0 = learn u64_says c.u64_at.ensures c.created_s-1.given.1 in created-s-read)) in created-s-took)))).here ((let envelope-read : Located (own_at ((field-yes ((ask-yes (start).so (eq-eqb _ _ c.if-version-ne-BLOB_VERSION.false))).so ((let created-s-took : Took u64 (c.args.row.now) 0 c.created_s-1.given.0.0 c.created_s-1.given.0.1.0 = took _ _ u64 (number-lawful 8) ((let by : Bytes (c.args.row.now) = typed (c.args.row.now) c.shared_slice_known-1.given in by)) ((let created-s-read : read_at u64 (c.args.row.now) 0 ≡ takes c.created_s-1.given.0.0 c.created_s-1.given.0.1.0 = learn u64_says c.u64_at.ensures c.created_s-1.given.1 in created-s-read)) in created-s-took)))).here) (read_at (optional (group own_envelope)) (c.args.row.now) ((field-yes ((ask-yes (start).so (eq-eqb _ _ c.if-version-ne-BLOB_VERSION.false))).so ((let created-s-took : Took u64 (c.args.row.now) 0 c.created_s-1.given.0.0 c.created_s-1.given.0.1.0 = took _ _ u64 (number-lawful 8) ((let by : Bytes (c.args.row.now) = typed (c.args.row.now) c.shared_slice_known-1.given in by)) ((let created-s-read : read_at u64 (c.args.row.now) 0 ≡ takes c.created_s-1.given.0.0 c.created_s-1.given.0.1.0 = learn u64_says c.u64_at.ensures c.created_s-1.given.1 in created-s-read)) in created-s-took)))).here) c.own-1.given.0.0 c.own-1.given.0.1.0 = located-at (own_at _) _ (learn own_says c.own_envelope_at-own.ensures c.own-1.given.1) in envelope-read)).value c.own-1.given.0.1.0 = took _ _ (optional (group own_envelope)) (optional-lawful (group own_envelope) own_envelope-lawful) ((let by : Bytes (c.args.row.now) = typed (c.args.row.now) c.shared_slice_known-1.given in by)) ((let envelope-read : Located (own_at ((field-yes ((ask-yes (start).so (eq-eqb _ _ c.if-version-ne-BLOB_VERSION.false))).so ((let created-s-took : Took u64 (c.args.row.now) 0 c.created_s-1.given.0.0 c.created_s-1.given.0.1.0 = took _ _ u64 (number-lawful 8) ((let by : Bytes (c.args.row.now) = typed (c.args.row.now) c.shared_slice_known-1.given in by)) ((let created-s-read : read_at u64 (c.args.row.now) 0 ≡ takes c.created_s-1.given.0.0 c.created_s-1.given.0.1.0 = learn u64_says c.u64_at.ensures c.created_s-1.given.1 in created-s-read)) in created-s-took)))).here) (read_at (optional (group own_envelope)) (c.args.row.now) ((field-yes ((ask-yes (start).so (eq-eqb _ _ c.if-version-ne-BLOB_VERSION.false))).so ((let created-s-took : Took u64 (c.args.row.now) 0 c.created_s-1.given.0.0 c.created_s-1.given.0.1.0 = took _ _ u64 (number-lawful 8) ((let by : Bytes (c.args.row.now) = typed (c.args.row.now) c.shared_slice_known-1.given in by)) ((let created-s-read : read_at u64 (c.args.row.now) 0 ≡ takes c.created_s-1.given.0.0 c.created_s-1.given.0.1.0 = learn u64_says c.u64_at.ensures c.created_s-1.given.1 in created-s-read)) in created-s-took)))).here) c.own-1.given.0.0 c.own-1.given.0.1.0 = located-at (own_at _) _ (learn own_says c.own_envelope_at-own.ensures c.own-1.given.1) in envelope-read)).read in envelope-took)))).so ((let gen-took : Took u8 (c.args.row.now) ((field-yes ((field-yes ((ask-yes (start).so (eq-eqb _ _ c.if-version-ne-BLOB_VERSION.false))).so ((let created-s-took : Took u64 (c.args.row.now) 0 c.created_s-1.given.0.0 c.created_s-1.given.0.1.0 = took _ _ u64 (number-lawful 8) ((let by : Bytes (c.args.row.now) = typed (c.args.row.now) c.shared_slice_known-1.given in by)) ((let created-s-read : read_at u64 (c.args.row.now) 0 ≡ takes c.created_s-1.given.0.0 c.created_s-1.given.0.1.0 = learn u64_says c.u64_at.ensures c.created_s-1.given.1 in created-s-read)) in created-s-took)))).so ((let envelope-took : Took (optional (group own_envelope)) (c.args.row.now) ((field-yes ((ask-yes (start).so (eq-eqb _ _ c.if-version-ne-BLOB_VERSION.false))).so ((let created-s-took : Took u64 (c.args.row.now) 0 c.created_s-1.given.0.0 c.created_s-1.given.0.1.0 = took _ _ u64 (number-lawful 8) ((let by : Bytes (c.args.row.now) = typed (c.args.row.now) c.shared_slice_known-1.given in by)) ((let created-s-read : read_at u64 (c.args.row.now) 0 ≡ takes c.created_s-1.given.0.0 c.created_s-1.given.0.1.0 = learn u64_says c.u64_at.ensures c.created_s-1.given.1 in created-s-read)) in created-s-took)))).here ((let envelope-read : Located (own_at ((field-yes ((ask-yes (start).so (eq-eqb _ _ c.if-version-ne-BLOB_VERSION.false))).so ((let created-s-took : Took u64 (c.args.row.now) 0 c.created_s-1.given.0.0 c.created_s-1.given.0.1.0 = took _ _ u64 (number-lawful 8) ((let by : Bytes (c.args.row.now) = typed (c.args.row.now) c.shared_slice_known-1.given in by)) ((let created-s-read : read_at u64 (c.args.row.now) 0 ≡ takes c.created_s-1.given.0.0 c.created_s-1.given.0.1.0 = learn u64_says c.u64_at.ensures c.created_s-1.given.1 in created-s-read)) in created-s-took)))).here) (read_at (optional (group own_envelope)) (c.args.row.now) ((field-yes ((ask-yes (start).so (eq-eqb _ _ c.if-version-ne-BLOB_VERSION.false))).so ((let created-s-took : Took u64 (c.args.row.now) 0 c.created_s-1.given.0.0 c.created_s-1.given.0.1.0 = took _ _ u64 (number-lawful 8) ((let by : Bytes (c.args.row.now) = typed (c.args.row.now) c.shared_slice_known-1.given in by)) ((let created-s-read : read_at u64 (c.args.row.now) 0 ≡ takes c.created_s-1.given.0.0 c.created_s-1.given.0.1.0 = learn u64_says c.u64_at.ensures c.created_s-1.given.1 in created-s-read)) in created-s-took)))).here) c.own-1.given.0.0 c.own-1.given.0.1.0 = located-at (own_at _) _ (learn own_says c.own_envelope_at-own.ensures c.own-1.given.1) in envelope-read)).value c.own-1.given.0.1.0 = took _ _ (optional (group own_envelope)) (optional-lawful (group own_envelope) own_envelope-lawful) ((let by : Bytes (c.args.row.now) = typed (c.args.row.now) c.shared_slice_known-1.given in by)) ((let envelope-read : Located (own_at ((field-yes ((ask-yes (start).so (eq-eqb _ _ c.if-version-ne-BLOB_VERSION.false))).so ((let created-s-took : Took u64 (c.args.row.now) 0 c.created_s-1.given.0.0 c.created_s-1.given.0.1.0 = took _ _ u64 (number-lawful 8) ((let by : Bytes (c.args.row.now) = typed (c.args.row.now) c.shared_slice_known-1.given in by)) ((let created-s-read : read_at u64 (c.args.row.now) 0 ≡ takes c.created_s-1.given.0.0 c.created_s-1.given.0.1.0 = learn u64_says c.u64_at.ensures c.created_s-1.given.1 in created-s-read)) in created-s-took)))).here) (read_at (optional (group own_envelope)) (c.args.row.now) ((field-yes ((ask-yes (start).so (eq-eqb _ _ c.if-version-ne-BLOB_VERSION.false))).so ((let created-s-took : Took u64 (c.args.row.now) 0 c.created_s-1.given.0.0 c.created_s-1.given.0.1.0 = took _ _ u64 (number-lawful 8) ((let by : Bytes (c.args.row.now) = typed (c.args.row.now) c.shared_slice_known-1.given in by)) ((let created-s-read : read_at u64 (c.args.row.now) 0 ≡ takes c.created_s-1.given.0.0 c.created_s-1.given.0.1.0 = learn u64_says c.u64_at.ensures c.created_s-1.given.1 in created-s-read)) in created-s-took)))).here) c.own-1.given.0.0 c.own-1.given.0.1.0 = located-at (own_at _) _ (learn own_says c.own_envelope_at-own.ensures c.own-1.given.1) in envelope-read)).read in envelope-took)))).here c.gen_-1.given.0.0 c.gen_-1.given.0.1.0 = took _ _ u8 (number-lawful 1) ((let by : Bytes (c.args.row.now) = typed (c.args.row.now) c.shared_slice_known-1.given in by)) ((let gen-read : read_at u8 (c.args.row.now) ((field-yes ((field-yes ((ask-yes (start).so (eq-eqb _ _ c.if-version-ne-BLOB_VERSION.false))).so ((let created-s-took : Took u64 (c.args.row.now) 0 c.created_s-1.given.0.0 c.created_s-1.given.0.1.0 = took _ _ u64 (number-lawful 8) ((let by : Bytes (c.args.row.now) = typed (c.args.row.now) c.shared_slice_known-1.given in by)) ((let created-s-read : read_at u64 (c.args.row.now) 0 ≡ takes c.created_s-1.given.0.0 c.created_s-1.given.0.1.0 = learn u64_says c.u64_at.ensures c.created_s-1.given.1 in created-s-read)) in created-s-took)))).so ((let envelope-took : Took (optional (group own_envelope)) (c.args.row.now) ((field-yes ((ask-yes (start).so (eq-eqb _ _ c.if-version-ne-BLOB_VERSION.false))).so ((let created-s-took : Took u64 (c.args.row.now) 0 c.created_s-1.given.0.0 c.created_s-1.given.0.1.0 = took _ _ u64 (number-lawful 8) ((let by : Bytes (c.args.row.now) = typed (c.args.row.now) c.shared_slice_known-1.given in by)) ((let created-s-read : read_at u64 (c.args.row.now) 0 ≡ takes c.created_s-1.given.0.0 c.created_s-1.given.0.1.0 = learn u64_says c.u64_at.ensures c.created_s-1.given.1 in created-s-read)) in created-s-took)))).here ((let envelope-read : Located (own_at ((field-yes ((ask-yes (start).so (eq-eqb _ _ c.if-version-ne-BLOB_VERSION.false))).so ((let created-s-took : Took u64 (c.args.row.now) 0 c.created_s-1.given.0.0 c.created_s-1.given.0.1.0 = took _ _ u64 (number-lawful 8) ((let by : Bytes (c.args.row.now) = typed (c.args.row.now) c.shared_slice_known-1.given in by)) ((let created-s-read : read_at u64 (c.args.row.now) 0 ≡ takes c.created_s-1.given.0.0 c.created_s-1.given.0.1.0 = learn u64_says c.u64_at.ensures c.created_s-1.given.1 in created-s-read)) in created-s-took)))).here) (read_at (optional (group own_envelope)) (c.args.row.now) ((field-yes ((ask-yes (start).so (eq-eqb _ _ c.if-version-ne-BLOB_VERSION.false))).so ((let created-s-took : Took u64 (c.args.row.now) 0 c.created_s-1.given.0.0 c.created_s-1.given.0.1.0 = took _ _ u64 (number-lawful 8) ((let by : Bytes (c.args.row.now) = typed (c.args.row.now) c.shared_slice_known-1.given in by)) ((let created-s-read : read_at u64 (c.args.row.now) 0 ≡ takes c.created_s-1.given.0.0 c.created_s-1.given.0.1.0 = learn u64_says c.u64_at.ensures c.created_s-1.given.1 in created-s-read)) in created-s-took)))).here) c.own-1.given.0.0 c.own-1.given.0.1.0 = located-at (own_at _) _ (learn own_says c.own_envelope_at-own.ensures c.own-1.given.1) in envelope-read)).value c.own-1.given.0.1.0 = took _ _ (optional (group own_envelope)) (optional-lawful (group own_envelope) own_envelope-lawful) ((let by : Bytes (c.args.row.now) = typed (c.args.row.now) c.shared_slice_known-1.given in by)) ((let envelope-read : Located (own_at ((field-yes ((ask-yes (start).so (eq-eqb _ _ c.if-version-ne-BLOB_VERSION.false))).so ((let created-s-took : Took u64 (c.args.row.now) 0 c.created_s-1.given.0.0 c.created_s-1.given.0.1.0 = took _ _ u64 (number-lawful 8) ((let by : Bytes (c.args.row.now) = typed (c.args.row.now) c.shared_slice_known-1.given in by)) ((let created-s-read : read_at u64 (c.args.row.now) 0 ≡ takes c.created_s-1.given.0.0 c.created_s-1.given.0.1.0 = learn u64_says c.u64_at.ensures c.created_s-1.given.1 in created-s-read)) in created-s-took)))).here) (read_at (optional (group own_envelope)) (c.args.row.now) ((field-yes ((ask-yes (start).so (eq-eqb _ _ c.if-version-ne-BLOB_VERSION.false))).so ((let created-s-took : Took u64 (c.args.row.now) 0 c.created_s-1.given.0.0 c.created_s-1.given.0.1.0 = took _ _ u64 (number-lawful 8) ((let by : Bytes (c.args.row.now) = typed (c.args.row.now) c.shared_slice_known-1.given in by)) ((let created-s-read : read_at u64 (c.args.row.now) 0 ≡ takes c.created_s-1.given.0.0 c.created_s-1.given.0.1.0 = learn u64_says c.u64_at.ensures c.created_s-1.given.1 in created-s-read)) in created-s-took)))).here) c.own-1.given.0.0 c.own-1.given.0.1.0 = located-at (own_at _) _ (learn own_says c.own_envelope_at-own.ensures c.own-1.given.1) in envelope-read)).read in envelope-took)))).here ≡ takes c.gen_-1.given.0.0 c.gen_-1.given.0.1.0 = learn u8_says c.byte_at.ensures c.gen_-1.given.1 in gen-read)) in gen-took)))).here c.leb128-1.given.0.0 c.leb128-1.given.0.1.0 = took _ _ leb128 leb128-lawful ((let by : Bytes (c.args.row.now) = typed (c.args.row.now) c.shared_slice_known-1.given in by)) ((let idx-read : read_at leb128 (c.args.row.now) ((field-yes ((field-yes ((field-yes ((ask-yes (start).so (eq-eqb _ _ c.if-version-ne-BLOB_VERSION.false))).so ((let created-s-took : Took u64 (c.args.row.now) 0 c.created_s-1.given.0.0 c.created_s-1.given.0.1.0 = took _ _ u64 (number-lawful 8) ((let by : Bytes (c.args.row.now) = typed (c.args.row.now) c.shared_slice_known-1.given in by)) ((let created-s-read : read_at u64 (c.args.row.now) 0 ≡ takes c.created_s-1.given.0.0 c.created_s-1.given.0.1.0 = learn u64_says c.u64_at.ensures c.created_s-1.given.1 in created-s-read)) in created-s-took)))).so ((let envelope-took : Took (optional (group own_envelope)) (c.args.row.now) ((field-yes ((ask-yes (start).so (eq-eqb _ _ c.if-version-ne-BLOB_VERSION.false))).so ((let created-s-took : Took u64 (c.args.row.now) 0 c.created_s-1.given.0.0 c.created_s-1.given.0.1.0 = took _ _ u64 (number-lawful 8) ((let by : Bytes (c.args.row.now) = typed (c.args.row.now) c.shared_slice_known-1.given in by)) ((let created-s-read : read_at u64 (c.args.row.now) 0 ≡ takes c.created_s-1.given.0.0 c.created_s-1.given.0.1.0 = learn u64_says c.u64_at.ensures c.created_s-1.given.1 in created-s-read)) in created-s-took)))).here ((let envelope-read : Located (own_at ((field-yes ((ask-yes (start).so (eq-eqb _ _ c.if-version-ne-BLOB_VERSION.false))).so ((let created-s-took : Took u64 (c.args.row.now) 0 c.created_s-1.given.0.0 c.created_s-1.given.0.1.0 = took _ _ u64 (number-lawful 8) ((let by : Bytes (c.args.row.now) = typed (c.args.row.now) c.shared_slice_known-1.given in by)) ((let created-s-read : read_at u64 (c.args.row.now) 0 ≡ takes c.created_s-1.given.0.0 c.created_s-1.given.0.1.0 = learn u64_says c.u64_at.ensures c.created_s-1.given.1 in created-s-read)) in created-s-took)))).here) (read_at (optional (group own_envelope)) (c.args.row.now) ((field-yes ((ask-yes (start).so (eq-eqb _ _ c.if-version-ne-BLOB_VERSION.false))).so ((let created-s-took : Took u64 (c.args.row.now) 0 c.created_s-1.given.0.0 c.created_s-1.given.0.1.0 = took _ _ u64 (number-lawful 8) ((let by : Bytes (c.args.row.now) = typed (c.args.row.now) c.shared_slice_known-1.given in by)) ((let created-s-read : read_at u64 (c.args.row.now) 0 ≡ takes c.created_s-1.given.0.0 c.created_s-1.given.0.1.0 = learn u64_says c.u64_at.ensures c.created_s-1.given.1 in created-s-read)) in created-s-took)))).here) c.own-1.given.0.0 c.own-1.given.0.1.0 = located-at (own_at _) _ (learn own_says c.own_envelope_at-own.ensures c.own-1.given.1) in envelope-read)).value c.own-1.given.0.1.0 = took _ _ (optional (group own_envelope)) (optional-lawful (group own_envelope) own_envelope-lawful) ((let by : Bytes (c.args.row.now) = typed (c.args.row.now) c.shared_slice_known-1.given in by)) ((let envelope-read : Located (own_at ((field-yes ((ask-yes (start).so (eq-eqb _ _ c.if-version-ne-BLOB_VERSION.false))).so ((let created-s-took : Took u64 (c.args.row.now) 0 c.created_s-1.given.0.0 c.created_s-1.given.0.1.0 = took _ _ u64 (number-lawful 8) ((let by : Bytes (c.args.row.now) = typed (c.args.row.now) c.shared_slice_known-1.given in by)) ((let created-s-read : read_at u64 (c.args.row.now) 0 ≡ takes c.created_s-1.given.0.0 c.created_s-1.given.0.1.0 = learn u64_says c.u64_at.ensures c.created_s-1.given.1 in created-s-read)) in created-s-took)))).here) (read_at (optional (group own_envelope)) (c.args.row.now) ((field-yes ((ask-yes (start).so (eq-eqb _ _ c.if-version-ne-BLOB_VERSION.false))).so ((let created-s-took : Took u64 (c.args.row.now) 0 c.created_s-1.given.0.0 c.created_s-1.given.0.1.0 = took _ _ u64 (number-lawful 8) ((let by : Bytes (c.args.row.now) = typed (c.args.row.now) c.shared_slice_known-1.given in by)) ((let created-s-read : read_at u64 (c.args.row.now) 0 ≡ takes c.created_s-1.given.0.0 c.created_s-1.given.0.1.0 = learn u64_says c.u64_at.ensures c.created_s-1.given.1 in created-s-read)) in created-s-took)))).here) c.own-1.given.0.0 c.own-1.given.0.1.0 = located-at (own_at _) _ (learn own_says c.own_envelope_at-own.ensures c.own-1.given.1) in envelope-read)).read in envelope-took)))).so ((let gen-took : Took u8 (c.args.row.now) ((field-yes ((field-yes ((ask-yes (start).so (eq-eqb _ _ c.if-version-ne-BLOB_VERSION.false))).so ((let created-s-took : Took u64 (c.args.row.now) 0 c.created_s-1.given.0.0 c.created_s-1.given.0.1.0 = took _ _ u64 (number-lawful 8) ((let by : Bytes (c.args.row.now) = typed (c.args.row.now) c.shared_slice_known-1.given in by)) ((let created-s-read : read_at u64 (c.args.row.now) 0 ≡ takes c.created_s-1.given.0.0 c.created_s-1.given.0.1.0 = learn u64_says c.u64_at.ensures c.created_s-1.given.1 in created-s-read)) in created-s-took)))).so ((let envelope-took : Took (optional (group own_envelope)) (c.args.row.now) ((field-yes ((ask-yes (start).so (eq-eqb _ _ c.if-version-ne-BLOB_VERSION.false))).so ((let created-s-took : Took u64 (c.args.row.now) 0 c.created_s-1.given.0.0 c.created_s-1.given.0.1.0 = took _ _ u64 (number-lawful 8) ((let by : Bytes (c.args.row.now) = typed (c.args.row.now) c.shared_slice_known-1.given in by)) ((let created-s-read : read_at u64 (c.args.row.now) 0 ≡ takes c.created_s-1.given.0.0 c.created_s-1.given.0.1.0 = learn u64_says c.u64_at.ensures c.created_s-1.given.1 in created-s-read)) in created-s-took)))).here ((let envelope-read : Located (own_at ((field-yes ((ask-yes (start).so (eq-eqb _ _ c.if-version-ne-BLOB_VERSION.false))).so ((let created-s-took : Took u64 (c.args.row.now) 0 c.created_s-1.given.0.0 c.created_s-1.given.0.1.0 = took _ _ u64 (number-lawful 8) ((let by : Bytes (c.args.row.now) = typed (c.args.row.now) c.shared_slice_known-1.given in by)) ((let created-s-read : read_at u64 (c.args.row.now) 0 ≡ takes c.created_s-1.given.0.0 c.created_s-1.given.0.1.0 = learn u64_says c.u64_at.ensures c.created_s-1.given.1 in created-s-read)) in created-s-took)))).here) (read_at (optional (group own_envelope)) (c.args.row.now) ((field-yes ((ask-yes (start).so (eq-eqb _ _ c.if-version-ne-BLOB_VERSION.false))).so ((let created-s-took : Took u64 (c.args.row.now) 0 c.created_s-1.given.0.0 c.created_s-1.given.0.1.0 = took _ _ u64 (number-lawful 8) ((let by : Bytes (c.args.row.now) = typed (c.args.row.now) c.shared_slice_known-1.given in by)) ((let created-s-read : read_at u64 (c.args.row.now) 0 ≡ takes c.created_s-1.given.0.0 c.created_s-1.given.0.1.0 = learn u64_says c.u64_at.ensures c.created_s-1.given.1 in created-s-read)) in created-s-took)))).here) c.own-1.given.0.0 c.own-1.given.0.1.0 = located-at (own_at _) _ (learn own_says c.own_envelope_at-own.ensures c.own-1.given.1) in envelope-read)).value c.own-1.given.0.1.0 = took _ _ (optional (group own_envelope)) (optional-lawful (group own_envelope) own_envelope-lawful) ((let by : Bytes (c.args.row.now) = typed (c.args.row.now) c.shared_slice_known-1.given in by)) ((let envelope-read : Located (own_at ((field-yes ((ask-yes (start).so (eq-eqb _ _ c.if-version-ne-BLOB_VERSION.false))).so ((let created-s-took : Took u64 (c.args.row.now) 0 c.created_s-1.given.0.0 c.created_s-1.given.0.1.0 = took _ _ u64 (number-lawful 8) ((let by : Bytes (c.args.row.now) = typed (c.args.row.now) c.shared_slice_known-1.given in by)) ((let created-s-read : read_at u64 (c.args.row.now) 0 ≡ takes c.created_s-1.given.0.0 c.created_s-1.given.0.1.0 = learn u64_says c.u64_at.ensures c.created_s-1.given.1 in created-s-read)) in created-s-took)))).here) (read_at (optional (group own_envelope)) (c.args.row.now) ((field-yes ((ask-yes (start).so (eq-eqb _ _ c.if-version-ne-BLOB_VERSION.false))).so ((let created-s-took : Took u64 (c.args.row.now) 0 c.created_s-1.given.0.0 c.created_s-1.given.0.1.0 = took _ _ u64 (number-lawful 8) ((let by : Bytes (c.args.row.now) = typed (c.args.row.now) c.shared_slice_known-1.given in by)) ((let created-s-read : read_at u64 (c.args.row.now) 0 ≡ takes c.created_s-1.given.0.0 c.created_s-1.given.0.1.0 = learn u64_says c.u64_at.ensures c.created_s-1.given.1 in created-s-read)) in created-s-took)))).here) c.own-1.given.0.0 c.own-1.given.0.1.0 = located-at (own_at _) _ (learn own_says c.own_envelope_at-own.ensures c.own-1.given.1) in envelope-read)).read in envelope-took)))).here c.gen_-1.given.0.0 c.gen_-1.given.0.1.0 = took _ _ u8 (number-lawful 1) ((let by : Bytes (c.args.row.now) = typed (c.args.row.now) c.shared_slice_known-1.given in by)) ((let gen-read : read_at u8 (c.args.row.now) ((field-yes ((field-yes ((ask-yes (start).so (eq-eqb _ _ c.if-version-ne-BLOB_VERSION.false))).so ((let created-s-took : Took u64 (c.args.row.now) 0 c.created_s-1.given.0.0 c.created_s-1.given.0.1.0 = took _ _ u64 (number-lawful 8) ((let by : Bytes (c.args.row.now) = typed (c.args.row.now) c.shared_slice_known-1.given in by)) ((let created-s-read : read_at u64 (c.args.row.now) 0 ≡ takes c.created_s-1.given.0.0 c.created_s-1.given.0.1.0 = learn u64_says c.u64_at.ensures c.created_s-1.given.1 in created-s-read)) in created-s-took)))).so ((let envelope-took : Took (optional (group own_envelope)) (c.args.row.now) ((field-yes ((ask-yes (start).so (eq-eqb _ _ c.if-version-ne-BLOB_VERSION.false))).so ((let created-s-took : Took u64 (c.args.row.now) 0 c.created_s-1.given.0.0 c.created_s-1.given.0.1.0 = took _ _ u64 (number-lawful 8) ((let by : Bytes (c.args.row.now) = typed (c.args.row.now) c.shared_slice_known-1.given in by)) ((let created-s-read : read_at u64 (c.args.row.now) 0 ≡ takes c.created_s-1.given.0.0 c.created_s-1.given.0.1.0 = learn u64_says c.u64_at.ensures c.created_s-1.given.1 in created-s-read)) in created-s-took)))).here ((let envelope-read : Located (own_at ((field-yes ((ask-yes (start).so (eq-eqb _ _ c.if-version-ne-BLOB_VERSION.false))).so ((let created-s-took : Took u64 (c.args.row.now) 0 c.created_s-1.given.0.0 c.created_s-1.given.0.1.0 = took _ _ u64 (number-lawful 8) ((let by : Bytes (c.args.row.now) = typed (c.args.row.now) c.shared_slice_known-1.given in by)) ((let created-s-read : read_at u64 (c.args.row.now) 0 ≡ takes c.created_s-1.given.0.0 c.created_s-1.given.0.1.0 = learn u64_says c.u64_at.ensures c.created_s-1.given.1 in created-s-read)) in created-s-took)))).here) (read_at (optional (group own_envelope)) (c.args.row.now) ((field-yes ((ask-yes (start).so (eq-eqb _ _ c.if-version-ne-BLOB_VERSION.false))).so ((let created-s-took : Took u64 (c.args.row.now) 0 c.created_s-1.given.0.0 c.created_s-1.given.0.1.0 = took _ _ u64 (number-lawful 8) ((let by : Bytes (c.args.row.now) = typed (c.args.row.now) c.shared_slice_known-1.given in by)) ((let created-s-read : read_at u64 (c.args.row.now) 0 ≡ takes c.created_s-1.given.0.0 c.created_s-1.given.0.1.0 = learn u64_says c.u64_at.ensures c.created_s-1.given.1 in created-s-read)) in created-s-took)))).here) c.own-1.given.0.0 c.own-1.given.0.1.0 = located-at (own_at _) _ (learn own_says c.own_envelope_at-own.ensures c.own-1.given.1) in envelope-read)).value c.own-1.given.0.1.0 = took _ _ (optional (group own_envelope)) (optional-lawful (group own_envelope) own_envelope-lawful) ((let by : Bytes (c.args.row.now) = typed (c.args.row.now) c.shared_slice_known-1.given in by)) ((let envelope-read : Located (own_at ((field-yes ((ask-yes (start).so (eq-eqb _ _ c.if-version-ne-BLOB_VERSION.false))).so ((let created-s-took : Took u64 (c.args.row.now) 0 c.created_s-1.given.0.0 c.created_s-1.given.0.1.0 = took _ _ u64 (number-lawful 8) ((let by : Bytes (c.args.row.now) = typed (c.args.row.now) c.shared_slice_known-1.given in by)) ((let created-s-read : read_at u64 (c.args.row.now) 0 ≡ takes c.created_s-1.given.0.0 c.created_s-1.given.0.1.0 = learn u64_says c.u64_at.ensures c.created_s-1.given.1 in created-s-read)) in created-s-took)))).here) (read_at (optional (group own_envelope)) (c.args.row.now) ((field-yes ((ask-yes (start).so (eq-eqb _ _ c.if-version-ne-BLOB_VERSION.false))).so ((let created-s-took : Took u64 (c.args.row.now) 0 c.created_s-1.given.0.0 c.created_s-1.given.0.1.0 = took _ _ u64 (number-lawful 8) ((let by : Bytes (c.args.row.now) = typed (c.args.row.now) c.shared_slice_known-1.given in by)) ((let created-s-read : read_at u64 (c.args.row.now) 0 ≡ takes c.created_s-1.given.0.0 c.created_s-1.given.0.1.0 = learn u64_says c.u64_at.ensures c.created_s-1.given.1 in created-s-read)) in created-s-took)))).here) c.own-1.given.0.0 c.own-1.given.0.1.0 = located-at (own_at _) _ (learn own_says c.own_envelope_at-own.ensures c.own-1.given.1) in envelope-read)).read in envelope-took)))).here ≡ takes c.gen_-1.given.0.0 c.gen_-1.given.0.1.0 = learn u8_says c.byte_at.ensures c.gen_-1.given.1 in gen-read)) in gen-took)))).here ≡ takes c.leb128-1.given.0.0 c.leb128-1.given.0.1.0 = learn leb128_says c.leb128_at-leb128.ensures c.leb128-1.given.1 in idx-read)) in idx-took)).inside (sym c.sealed_queued.ensures ∙ c.if-sealed_queued.true) in
+    let r0 : Reached (queued c.args.version) c.args.row.now 0 = start in
+    let r1 : Reached (queued c.args.version) c.args.row.now 0 = ask-yes r0.so (eq-eqb _ _ c.if-version-ne-BLOB_VERSION.false) in
+    let created-s-read : read_at u64 (c.args.row.now) 0 ≡ takes c.in-Value.created_s c.in-Value.at1 = learn u64_says c.u64_at.ensures c.in-Value.is in
+    let created-s-took : Took u64 (c.args.row.now) 0 c.in-Value.created_s c.in-Value.at1 = took _ _ u64 (number-lawful 8) (typed c.args.row.now c.type_inv.row) created-s-read in
+    let r2 : Reached (queued c.args.version) c.args.row.now 0 = field-yes r1.so created-s-took in
+    let envelope-read : Located (own_at r2.here) (read_at (optional (group own_envelope)) (c.args.row.now) r2.here) c.in-Value-own.envelope c.in-Value-own.at2 = located-at (own_at _) _ (learn own_says c.own_envelope_at-own.ensures c.in-Value-own.is) in
+    let envelope-took : Took (optional (group own_envelope)) (c.args.row.now) r2.here envelope-read.value c.in-Value-own.at2 = took _ _ (optional (group own_envelope)) (optional-lawful (group own_envelope) own_envelope-lawful) (typed c.args.row.now c.type_inv.row) envelope-read.read in
+    let r3 : Reached (queued c.args.version) c.args.row.now 0 = field-yes r2.so envelope-took in
+    let gen-read : read_at u8 (c.args.row.now) r3.here ≡ takes c.in-Value-byte_at.gen_ c.in-Value-byte_at.at3 = learn u8_says c.byte_at.ensures c.in-Value-byte_at.is in
+    let gen-took : Took u8 (c.args.row.now) r3.here c.in-Value-byte_at.gen_ c.in-Value-byte_at.at3 = took _ _ u8 (number-lawful 1) (typed c.args.row.now c.type_inv.row) gen-read in
+    let r4 : Reached (queued c.args.version) c.args.row.now 0 = field-yes r3.so gen-took in
+    let idx-read : read_at leb128 (c.args.row.now) r4.here ≡ takes c.in-Value-leb128.idx c.in-Value-leb128.at4 = learn leb128_says c.leb128_at-leb128.ensures c.in-Value-leb128.is in
+    let idx-took : Took leb128 (c.args.row.now) r4.here c.in-Value-leb128.idx c.in-Value-leb128.at4 = took _ _ leb128 leb128-lawful (typed c.args.row.now c.type_inv.row) idx-read in
+    let r5 : Reached (queued c.args.version) c.args.row.now 0 = field-yes r4.so idx-took in
+    let created-s-next : c.in-Value.at1 ≡ 0 + length (u64.print c.in-Value.created_s) = took-next _ _ u64 (number-lawful 8) (typed c.args.row.now c.type_inv.row) created-s-read (omega arith) in
+    let envelope-next : c.in-Value-own.at2 ≡ r2.here + length ((optional (group own_envelope)).print envelope-read.value) = took-next _ _ (optional (group own_envelope)) (optional-lawful (group own_envelope) own_envelope-lawful) (typed c.args.row.now c.type_inv.row) envelope-read.read created-s-took.inside in
+    let gen-next : c.in-Value-byte_at.at3 ≡ r3.here + length (u8.print c.in-Value-byte_at.gen_) = took-next _ _ u8 (number-lawful 1) (typed c.args.row.now c.type_inv.row) gen-read envelope-took.inside in
+    let idx-next : c.in-Value-leb128.at4 ≡ r4.here + length (leb128.print c.in-Value-leb128.idx) = took-next _ _ leb128 leb128-lawful (typed c.args.row.now c.type_inv.row) idx-read gen-took.inside in
+    let text = text-took veiled SEALED_LENGTH sealed_queued (c.args.row.now) r5.here idx-took.inside (sym c.sealed_queued.ensures ∙ c.if-sealed_queued.true) in
+    let r6 : Reached (queued c.args.version) c.args.row.now 0 = field-yes r5.so text in
+    let r7 : Reached (queued c.args.version) c.args.row.now 0 = end-yes r6.so (omega arith) in
     let its : Queued = record {
-      created_s = c.created_s-1.given.0.0;
-      envelope = ((let envelope-read : Located (own_at ((field-yes ((ask-yes (start).so (eq-eqb _ _ c.if-version-ne-BLOB_VERSION.false))).so ((let created-s-took : Took u64 (c.args.row.now) 0 c.created_s-1.given.0.0 c.created_s-1.given.0.1.0 = took _ _ u64 (number-lawful 8) ((let by : Bytes (c.args.row.now) = typed (c.args.row.now) c.shared_slice_known-1.given in by)) ((let created-s-read : read_at u64 (c.args.row.now) 0 ≡ takes c.created_s-1.given.0.0 c.created_s-1.given.0.1.0 = learn u64_says c.u64_at.ensures c.created_s-1.given.1 in created-s-read)) in created-s-took)))).here) (read_at (optional (group own_envelope)) (c.args.row.now) ((field-yes ((ask-yes (start).so (eq-eqb _ _ c.if-version-ne-BLOB_VERSION.false))).so ((let created-s-took : Took u64 (c.args.row.now) 0 c.created_s-1.given.0.0 c.created_s-1.given.0.1.0 = took _ _ u64 (number-lawful 8) ((let by : Bytes (c.args.row.now) = typed (c.args.row.now) c.shared_slice_known-1.given in by)) ((let created-s-read : read_at u64 (c.args.row.now) 0 ≡ takes c.created_s-1.given.0.0 c.created_s-1.given.0.1.0 = learn u64_says c.u64_at.ensures c.created_s-1.given.1 in created-s-read)) in created-s-took)))).here) c.own-1.given.0.0 c.own-1.given.0.1.0 = located-at (own_at _) _ (learn own_says c.own_envelope_at-own.ensures c.own-1.given.1) in envelope-read)).value;
-      gen = c.gen_-1.given.0.0;
-      idx = c.leb128-1.given.0.0;
-      sealed = drop ((field-yes ((field-yes ((field-yes ((field-yes ((ask-yes (start).so (eq-eqb _ _ c.if-version-ne-BLOB_VERSION.false))).so ((let created-s-took : Took u64 (c.args.row.now) 0 c.created_s-1.given.0.0 c.created_s-1.given.0.1.0 = took _ _ u64 (number-lawful 8) ((let by : Bytes (c.args.row.now) = typed (c.args.row.now) c.shared_slice_known-1.given in by)) ((let created-s-read : read_at u64 (c.args.row.now) 0 ≡ takes c.created_s-1.given.0.0 c.created_s-1.given.0.1.0 = learn u64_says c.u64_at.ensures c.created_s-1.given.1 in created-s-read)) in created-s-took)))).so ((let envelope-took : Took (optional (group own_envelope)) (c.args.row.now) ((field-yes ((ask-yes (start).so (eq-eqb _ _ c.if-version-ne-BLOB_VERSION.false))).so ((let created-s-took : Took u64 (c.args.row.now) 0 c.created_s-1.given.0.0 c.created_s-1.given.0.1.0 = took _ _ u64 (number-lawful 8) ((let by : Bytes (c.args.row.now) = typed (c.args.row.now) c.shared_slice_known-1.given in by)) ((let created-s-read : read_at u64 (c.args.row.now) 0 ≡ takes c.created_s-1.given.0.0 c.created_s-1.given.0.1.0 = learn u64_says c.u64_at.ensures c.created_s-1.given.1 in created-s-read)) in created-s-took)))).here ((let envelope-read : Located (own_at ((field-yes ((ask-yes (start).so (eq-eqb _ _ c.if-version-ne-BLOB_VERSION.false))).so ((let created-s-took : Took u64 (c.args.row.now) 0 c.created_s-1.given.0.0 c.created_s-1.given.0.1.0 = took _ _ u64 (number-lawful 8) ((let by : Bytes (c.args.row.now) = typed (c.args.row.now) c.shared_slice_known-1.given in by)) ((let created-s-read : read_at u64 (c.args.row.now) 0 ≡ takes c.created_s-1.given.0.0 c.created_s-1.given.0.1.0 = learn u64_says c.u64_at.ensures c.created_s-1.given.1 in created-s-read)) in created-s-took)))).here) (read_at (optional (group own_envelope)) (c.args.row.now) ((field-yes ((ask-yes (start).so (eq-eqb _ _ c.if-version-ne-BLOB_VERSION.false))).so ((let created-s-took : Took u64 (c.args.row.now) 0 c.created_s-1.given.0.0 c.created_s-1.given.0.1.0 = took _ _ u64 (number-lawful 8) ((let by : Bytes (c.args.row.now) = typed (c.args.row.now) c.shared_slice_known-1.given in by)) ((let created-s-read : read_at u64 (c.args.row.now) 0 ≡ takes c.created_s-1.given.0.0 c.created_s-1.given.0.1.0 = learn u64_says c.u64_at.ensures c.created_s-1.given.1 in created-s-read)) in created-s-took)))).here) c.own-1.given.0.0 c.own-1.given.0.1.0 = located-at (own_at _) _ (learn own_says c.own_envelope_at-own.ensures c.own-1.given.1) in envelope-read)).value c.own-1.given.0.1.0 = took _ _ (optional (group own_envelope)) (optional-lawful (group own_envelope) own_envelope-lawful) ((let by : Bytes (c.args.row.now) = typed (c.args.row.now) c.shared_slice_known-1.given in by)) ((let envelope-read : Located (own_at ((field-yes ((ask-yes (start).so (eq-eqb _ _ c.if-version-ne-BLOB_VERSION.false))).so ((let created-s-took : Took u64 (c.args.row.now) 0 c.created_s-1.given.0.0 c.created_s-1.given.0.1.0 = took _ _ u64 (number-lawful 8) ((let by : Bytes (c.args.row.now) = typed (c.args.row.now) c.shared_slice_known-1.given in by)) ((let created-s-read : read_at u64 (c.args.row.now) 0 ≡ takes c.created_s-1.given.0.0 c.created_s-1.given.0.1.0 = learn u64_says c.u64_at.ensures c.created_s-1.given.1 in created-s-read)) in created-s-took)))).here) (read_at (optional (group own_envelope)) (c.args.row.now) ((field-yes ((ask-yes (start).so (eq-eqb _ _ c.if-version-ne-BLOB_VERSION.false))).so ((let created-s-took : Took u64 (c.args.row.now) 0 c.created_s-1.given.0.0 c.created_s-1.given.0.1.0 = took _ _ u64 (number-lawful 8) ((let by : Bytes (c.args.row.now) = typed (c.args.row.now) c.shared_slice_known-1.given in by)) ((let created-s-read : read_at u64 (c.args.row.now) 0 ≡ takes c.created_s-1.given.0.0 c.created_s-1.given.0.1.0 = learn u64_says c.u64_at.ensures c.created_s-1.given.1 in created-s-read)) in created-s-took)))).here) c.own-1.given.0.0 c.own-1.given.0.1.0 = located-at (own_at _) _ (learn own_says c.own_envelope_at-own.ensures c.own-1.given.1) in envelope-read)).read in envelope-took)))).so ((let gen-took : Took u8 (c.args.row.now) ((field-yes ((field-yes ((ask-yes (start).so (eq-eqb _ _ c.if-version-ne-BLOB_VERSION.false))).so ((let created-s-took : Took u64 (c.args.row.now) 0 c.created_s-1.given.0.0 c.created_s-1.given.0.1.0 = took _ _ u64 (number-lawful 8) ((let by : Bytes (c.args.row.now) = typed (c.args.row.now) c.shared_slice_known-1.given in by)) ((let created-s-read : read_at u64 (c.args.row.now) 0 ≡ takes c.created_s-1.given.0.0 c.created_s-1.given.0.1.0 = learn u64_says c.u64_at.ensures c.created_s-1.given.1 in created-s-read)) in created-s-took)))).so ((let envelope-took : Took (optional (group own_envelope)) (c.args.row.now) ((field-yes ((ask-yes (start).so (eq-eqb _ _ c.if-version-ne-BLOB_VERSION.false))).so ((let created-s-took : Took u64 (c.args.row.now) 0 c.created_s-1.given.0.0 c.created_s-1.given.0.1.0 = took _ _ u64 (number-lawful 8) ((let by : Bytes (c.args.row.now) = typed (c.args.row.now) c.shared_slice_known-1.given in by)) ((let created-s-read : read_at u64 (c.args.row.now) 0 ≡ takes c.created_s-1.given.0.0 c.created_s-1.given.0.1.0 = learn u64_says c.u64_at.ensures c.created_s-1.given.1 in created-s-read)) in created-s-took)))).here ((let envelope-read : Located (own_at ((field-yes ((ask-yes (start).so (eq-eqb _ _ c.if-version-ne-BLOB_VERSION.false))).so ((let created-s-took : Took u64 (c.args.row.now) 0 c.created_s-1.given.0.0 c.created_s-1.given.0.1.0 = took _ _ u64 (number-lawful 8) ((let by : Bytes (c.args.row.now) = typed (c.args.row.now) c.shared_slice_known-1.given in by)) ((let created-s-read : read_at u64 (c.args.row.now) 0 ≡ takes c.created_s-1.given.0.0 c.created_s-1.given.0.1.0 = learn u64_says c.u64_at.ensures c.created_s-1.given.1 in created-s-read)) in created-s-took)))).here) (read_at (optional (group own_envelope)) (c.args.row.now) ((field-yes ((ask-yes (start).so (eq-eqb _ _ c.if-version-ne-BLOB_VERSION.false))).so ((let created-s-took : Took u64 (c.args.row.now) 0 c.created_s-1.given.0.0 c.created_s-1.given.0.1.0 = took _ _ u64 (number-lawful 8) ((let by : Bytes (c.args.row.now) = typed (c.args.row.now) c.shared_slice_known-1.given in by)) ((let created-s-read : read_at u64 (c.args.row.now) 0 ≡ takes c.created_s-1.given.0.0 c.created_s-1.given.0.1.0 = learn u64_says c.u64_at.ensures c.created_s-1.given.1 in created-s-read)) in created-s-took)))).here) c.own-1.given.0.0 c.own-1.given.0.1.0 = located-at (own_at _) _ (learn own_says c.own_envelope_at-own.ensures c.own-1.given.1) in envelope-read)).value c.own-1.given.0.1.0 = took _ _ (optional (group own_envelope)) (optional-lawful (group own_envelope) own_envelope-lawful) ((let by : Bytes (c.args.row.now) = typed (c.args.row.now) c.shared_slice_known-1.given in by)) ((let envelope-read : Located (own_at ((field-yes ((ask-yes (start).so (eq-eqb _ _ c.if-version-ne-BLOB_VERSION.false))).so ((let created-s-took : Took u64 (c.args.row.now) 0 c.created_s-1.given.0.0 c.created_s-1.given.0.1.0 = took _ _ u64 (number-lawful 8) ((let by : Bytes (c.args.row.now) = typed (c.args.row.now) c.shared_slice_known-1.given in by)) ((let created-s-read : read_at u64 (c.args.row.now) 0 ≡ takes c.created_s-1.given.0.0 c.created_s-1.given.0.1.0 = learn u64_says c.u64_at.ensures c.created_s-1.given.1 in created-s-read)) in created-s-took)))).here) (read_at (optional (group own_envelope)) (c.args.row.now) ((field-yes ((ask-yes (start).so (eq-eqb _ _ c.if-version-ne-BLOB_VERSION.false))).so ((let created-s-took : Took u64 (c.args.row.now) 0 c.created_s-1.given.0.0 c.created_s-1.given.0.1.0 = took _ _ u64 (number-lawful 8) ((let by : Bytes (c.args.row.now) = typed (c.args.row.now) c.shared_slice_known-1.given in by)) ((let created-s-read : read_at u64 (c.args.row.now) 0 ≡ takes c.created_s-1.given.0.0 c.created_s-1.given.0.1.0 = learn u64_says c.u64_at.ensures c.created_s-1.given.1 in created-s-read)) in created-s-took)))).here) c.own-1.given.0.0 c.own-1.given.0.1.0 = located-at (own_at _) _ (learn own_says c.own_envelope_at-own.ensures c.own-1.given.1) in envelope-read)).read in envelope-took)))).here c.gen_-1.given.0.0 c.gen_-1.given.0.1.0 = took _ _ u8 (number-lawful 1) ((let by : Bytes (c.args.row.now) = typed (c.args.row.now) c.shared_slice_known-1.given in by)) ((let gen-read : read_at u8 (c.args.row.now) ((field-yes ((field-yes ((ask-yes (start).so (eq-eqb _ _ c.if-version-ne-BLOB_VERSION.false))).so ((let created-s-took : Took u64 (c.args.row.now) 0 c.created_s-1.given.0.0 c.created_s-1.given.0.1.0 = took _ _ u64 (number-lawful 8) ((let by : Bytes (c.args.row.now) = typed (c.args.row.now) c.shared_slice_known-1.given in by)) ((let created-s-read : read_at u64 (c.args.row.now) 0 ≡ takes c.created_s-1.given.0.0 c.created_s-1.given.0.1.0 = learn u64_says c.u64_at.ensures c.created_s-1.given.1 in created-s-read)) in created-s-took)))).so ((let envelope-took : Took (optional (group own_envelope)) (c.args.row.now) ((field-yes ((ask-yes (start).so (eq-eqb _ _ c.if-version-ne-BLOB_VERSION.false))).so ((let created-s-took : Took u64 (c.args.row.now) 0 c.created_s-1.given.0.0 c.created_s-1.given.0.1.0 = took _ _ u64 (number-lawful 8) ((let by : Bytes (c.args.row.now) = typed (c.args.row.now) c.shared_slice_known-1.given in by)) ((let created-s-read : read_at u64 (c.args.row.now) 0 ≡ takes c.created_s-1.given.0.0 c.created_s-1.given.0.1.0 = learn u64_says c.u64_at.ensures c.created_s-1.given.1 in created-s-read)) in created-s-took)))).here ((let envelope-read : Located (own_at ((field-yes ((ask-yes (start).so (eq-eqb _ _ c.if-version-ne-BLOB_VERSION.false))).so ((let created-s-took : Took u64 (c.args.row.now) 0 c.created_s-1.given.0.0 c.created_s-1.given.0.1.0 = took _ _ u64 (number-lawful 8) ((let by : Bytes (c.args.row.now) = typed (c.args.row.now) c.shared_slice_known-1.given in by)) ((let created-s-read : read_at u64 (c.args.row.now) 0 ≡ takes c.created_s-1.given.0.0 c.created_s-1.given.0.1.0 = learn u64_says c.u64_at.ensures c.created_s-1.given.1 in created-s-read)) in created-s-took)))).here) (read_at (optional (group own_envelope)) (c.args.row.now) ((field-yes ((ask-yes (start).so (eq-eqb _ _ c.if-version-ne-BLOB_VERSION.false))).so ((let created-s-took : Took u64 (c.args.row.now) 0 c.created_s-1.given.0.0 c.created_s-1.given.0.1.0 = took _ _ u64 (number-lawful 8) ((let by : Bytes (c.args.row.now) = typed (c.args.row.now) c.shared_slice_known-1.given in by)) ((let created-s-read : read_at u64 (c.args.row.now) 0 ≡ takes c.created_s-1.given.0.0 c.created_s-1.given.0.1.0 = learn u64_says c.u64_at.ensures c.created_s-1.given.1 in created-s-read)) in created-s-took)))).here) c.own-1.given.0.0 c.own-1.given.0.1.0 = located-at (own_at _) _ (learn own_says c.own_envelope_at-own.ensures c.own-1.given.1) in envelope-read)).value c.own-1.given.0.1.0 = took _ _ (optional (group own_envelope)) (optional-lawful (group own_envelope) own_envelope-lawful) ((let by : Bytes (c.args.row.now) = typed (c.args.row.now) c.shared_slice_known-1.given in by)) ((let envelope-read : Located (own_at ((field-yes ((ask-yes (start).so (eq-eqb _ _ c.if-version-ne-BLOB_VERSION.false))).so ((let created-s-took : Took u64 (c.args.row.now) 0 c.created_s-1.given.0.0 c.created_s-1.given.0.1.0 = took _ _ u64 (number-lawful 8) ((let by : Bytes (c.args.row.now) = typed (c.args.row.now) c.shared_slice_known-1.given in by)) ((let created-s-read : read_at u64 (c.args.row.now) 0 ≡ takes c.created_s-1.given.0.0 c.created_s-1.given.0.1.0 = learn u64_says c.u64_at.ensures c.created_s-1.given.1 in created-s-read)) in created-s-took)))).here) (read_at (optional (group own_envelope)) (c.args.row.now) ((field-yes ((ask-yes (start).so (eq-eqb _ _ c.if-version-ne-BLOB_VERSION.false))).so ((let created-s-took : Took u64 (c.args.row.now) 0 c.created_s-1.given.0.0 c.created_s-1.given.0.1.0 = took _ _ u64 (number-lawful 8) ((let by : Bytes (c.args.row.now) = typed (c.args.row.now) c.shared_slice_known-1.given in by)) ((let created-s-read : read_at u64 (c.args.row.now) 0 ≡ takes c.created_s-1.given.0.0 c.created_s-1.given.0.1.0 = learn u64_says c.u64_at.ensures c.created_s-1.given.1 in created-s-read)) in created-s-took)))).here) c.own-1.given.0.0 c.own-1.given.0.1.0 = located-at (own_at _) _ (learn own_says c.own_envelope_at-own.ensures c.own-1.given.1) in envelope-read)).read in envelope-took)))).here ≡ takes c.gen_-1.given.0.0 c.gen_-1.given.0.1.0 = learn u8_says c.byte_at.ensures c.gen_-1.given.1 in gen-read)) in gen-took)))).so ((let idx-took : Took leb128 (c.args.row.now) ((field-yes ((field-yes ((field-yes ((ask-yes (start).so (eq-eqb _ _ c.if-version-ne-BLOB_VERSION.false))).so ((let created-s-took : Took u64 (c.args.row.now) 0 c.created_s-1.given.0.0 c.created_s-1.given.0.1.0 = took _ _ u64 (number-lawful 8) ((let by : Bytes (c.args.row.now) = typed (c.args.row.now) c.shared_slice_known-1.given in by)) ((let created-s-read : read_at u64 (c.args.row.now) 0 ≡ takes c.created_s-1.given.0.0 c.created_s-1.given.0.1.0 = learn u64_says c.u64_at.ensures c.created_s-1.given.1 in created-s-read)) in created-s-took)))).so ((let envelope-took : Took (optional (group own_envelope)) (c.args.row.now) ((field-yes ((ask-yes (start).so (eq-eqb _ _ c.if-version-ne-BLOB_VERSION.false))).so ((let created-s-took : Took u64 (c.args.row.now) 0 c.created_s-1.given.0.0 c.created_s-1.given.0.1.0 = took _ _ u64 (number-lawful 8) ((let by : Bytes (c.args.row.now) = typed (c.args.row.now) c.shared_slice_known-1.given in by)) ((let created-s-read : read_at u64 (c.args.row.now) 0 ≡ takes c.created_s-1.given.0.0 c.created_s-1.given.0.1.0 = learn u64_says c.u64_at.ensures c.created_s-1.given.1 in created-s-read)) in created-s-took)))).here ((let envelope-read : Located (own_at ((field-yes ((ask-yes (start).so (eq-eqb _ _ c.if-version-ne-BLOB_VERSION.false))).so ((let created-s-took : Took u64 (c.args.row.now) 0 c.created_s-1.given.0.0 c.created_s-1.given.0.1.0 = took _ _ u64 (number-lawful 8) ((let by : Bytes (c.args.row.now) = typed (c.args.row.now) c.shared_slice_known-1.given in by)) ((let created-s-read : read_at u64 (c.args.row.now) 0 ≡ takes c.created_s-1.given.0.0 c.created_s-1.given.0.1.0 = learn u64_says c.u64_at.ensures c.created_s-1.given.1 in created-s-read)) in created-s-took)))).here) (read_at (optional (group own_envelope)) (c.args.row.now) ((field-yes ((ask-yes (start).so (eq-eqb _ _ c.if-version-ne-BLOB_VERSION.false))).so ((let created-s-took : Took u64 (c.args.row.now) 0 c.created_s-1.given.0.0 c.created_s-1.given.0.1.0 = took _ _ u64 (number-lawful 8) ((let by : Bytes (c.args.row.now) = typed (c.args.row.now) c.shared_slice_known-1.given in by)) ((let created-s-read : read_at u64 (c.args.row.now) 0 ≡ takes c.created_s-1.given.0.0 c.created_s-1.given.0.1.0 = learn u64_says c.u64_at.ensures c.created_s-1.given.1 in created-s-read)) in created-s-took)))).here) c.own-1.given.0.0 c.own-1.given.0.1.0 = located-at (own_at _) _ (learn own_says c.own_envelope_at-own.ensures c.own-1.given.1) in envelope-read)).value c.own-1.given.0.1.0 = took _ _ (optional (group own_envelope)) (optional-lawful (group own_envelope) own_envelope-lawful) ((let by : Bytes (c.args.row.now) = typed (c.args.row.now) c.shared_slice_known-1.given in by)) ((let envelope-read : Located (own_at ((field-yes ((ask-yes (start).so (eq-eqb _ _ c.if-version-ne-BLOB_VERSION.false))).so ((let created-s-took : Took u64 (c.args.row.now) 0 c.created_s-1.given.0.0 c.created_s-1.given.0.1.0 = took _ _ u64 (number-lawful 8) ((let by : Bytes (c.args.row.now) = typed (c.args.row.now) c.shared_slice_known-1.given in by)) ((let created-s-read : read_at u64 (c.args.row.now) 0 ≡ takes c.created_s-1.given.0.0 c.created_s-1.given.0.1.0 = learn u64_says c.u64_at.ensures c.created_s-1.given.1 in created-s-read)) in created-s-took)))).here) (read_at (optional (group own_envelope)) (c.args.row.now) ((field-yes ((ask-yes (start).so (eq-eqb _ _ c.if-version-ne-BLOB_VERSION.false))).so ((let created-s-took : Took u64 (c.args.row.now) 0 c.created_s-1.given.0.0 c.created_s-1.given.0.1.0 = took _ _ u64 (number-lawful 8) ((let by : Bytes (c.args.row.now) = typed (c.args.row.now) c.shared_slice_known-1.given in by)) ((let created-s-read : read_at u64 (c.args.row.now) 0 ≡ takes c.created_s-1.given.0.0 c.created_s-1.given.0.1.0 = learn u64_says c.u64_at.ensures c.created_s-1.given.1 in created-s-read)) in created-s-took)))).here) c.own-1.given.0.0 c.own-1.given.0.1.0 = located-at (own_at _) _ (learn own_says c.own_envelope_at-own.ensures c.own-1.given.1) in envelope-read)).read in envelope-took)))).so ((let gen-took : Took u8 (c.args.row.now) ((field-yes ((field-yes ((ask-yes (start).so (eq-eqb _ _ c.if-version-ne-BLOB_VERSION.false))).so ((let created-s-took : Took u64 (c.args.row.now) 0 c.created_s-1.given.0.0 c.created_s-1.given.0.1.0 = took _ _ u64 (number-lawful 8) ((let by : Bytes (c.args.row.now) = typed (c.args.row.now) c.shared_slice_known-1.given in by)) ((let created-s-read : read_at u64 (c.args.row.now) 0 ≡ takes c.created_s-1.given.0.0 c.created_s-1.given.0.1.0 = learn u64_says c.u64_at.ensures c.created_s-1.given.1 in created-s-read)) in created-s-took)))).so ((let envelope-took : Took (optional (group own_envelope)) (c.args.row.now) ((field-yes ((ask-yes (start).so (eq-eqb _ _ c.if-version-ne-BLOB_VERSION.false))).so ((let created-s-took : Took u64 (c.args.row.now) 0 c.created_s-1.given.0.0 c.created_s-1.given.0.1.0 = took _ _ u64 (number-lawful 8) ((let by : Bytes (c.args.row.now) = typed (c.args.row.now) c.shared_slice_known-1.given in by)) ((let created-s-read : read_at u64 (c.args.row.now) 0 ≡ takes c.created_s-1.given.0.0 c.created_s-1.given.0.1.0 = learn u64_says c.u64_at.ensures c.created_s-1.given.1 in created-s-read)) in created-s-took)))).here ((let envelope-read : Located (own_at ((field-yes ((ask-yes (start).so (eq-eqb _ _ c.if-version-ne-BLOB_VERSION.false))).so ((let created-s-took : Took u64 (c.args.row.now) 0 c.created_s-1.given.0.0 c.created_s-1.given.0.1.0 = took _ _ u64 (number-lawful 8) ((let by : Bytes (c.args.row.now) = typed (c.args.row.now) c.shared_slice_known-1.given in by)) ((let created-s-read : read_at u64 (c.args.row.now) 0 ≡ takes c.created_s-1.given.0.0 c.created_s-1.given.0.1.0 = learn u64_says c.u64_at.ensures c.created_s-1.given.1 in created-s-read)) in created-s-took)))).here) (read_at (optional (group own_envelope)) (c.args.row.now) ((field-yes ((ask-yes (start).so (eq-eqb _ _ c.if-version-ne-BLOB_VERSION.false))).so ((let created-s-took : Took u64 (c.args.row.now) 0 c.created_s-1.given.0.0 c.created_s-1.given.0.1.0 = took _ _ u64 (number-lawful 8) ((let by : Bytes (c.args.row.now) = typed (c.args.row.now) c.shared_slice_known-1.given in by)) ((let created-s-read : read_at u64 (c.args.row.now) 0 ≡ takes c.created_s-1.given.0.0 c.created_s-1.given.0.1.0 = learn u64_says c.u64_at.ensures c.created_s-1.given.1 in created-s-read)) in created-s-took)))).here) c.own-1.given.0.0 c.own-1.given.0.1.0 = located-at (own_at _) _ (learn own_says c.own_envelope_at-own.ensures c.own-1.given.1) in envelope-read)).value c.own-1.given.0.1.0 = took _ _ (optional (group own_envelope)) (optional-lawful (group own_envelope) own_envelope-lawful) ((let by : Bytes (c.args.row.now) = typed (c.args.row.now) c.shared_slice_known-1.given in by)) ((let envelope-read : Located (own_at ((field-yes ((ask-yes (start).so (eq-eqb _ _ c.if-version-ne-BLOB_VERSION.false))).so ((let created-s-took : Took u64 (c.args.row.now) 0 c.created_s-1.given.0.0 c.created_s-1.given.0.1.0 = took _ _ u64 (number-lawful 8) ((let by : Bytes (c.args.row.now) = typed (c.args.row.now) c.shared_slice_known-1.given in by)) ((let created-s-read : read_at u64 (c.args.row.now) 0 ≡ takes c.created_s-1.given.0.0 c.created_s-1.given.0.1.0 = learn u64_says c.u64_at.ensures c.created_s-1.given.1 in created-s-read)) in created-s-took)))).here) (read_at (optional (group own_envelope)) (c.args.row.now) ((field-yes ((ask-yes (start).so (eq-eqb _ _ c.if-version-ne-BLOB_VERSION.false))).so ((let created-s-took : Took u64 (c.args.row.now) 0 c.created_s-1.given.0.0 c.created_s-1.given.0.1.0 = took _ _ u64 (number-lawful 8) ((let by : Bytes (c.args.row.now) = typed (c.args.row.now) c.shared_slice_known-1.given in by)) ((let created-s-read : read_at u64 (c.args.row.now) 0 ≡ takes c.created_s-1.given.0.0 c.created_s-1.given.0.1.0 = learn u64_says c.u64_at.ensures c.created_s-1.given.1 in created-s-read)) in created-s-took)))).here) c.own-1.given.0.0 c.own-1.given.0.1.0 = located-at (own_at _) _ (learn own_says c.own_envelope_at-own.ensures c.own-1.given.1) in envelope-read)).read in envelope-took)))).here c.gen_-1.given.0.0 c.gen_-1.given.0.1.0 = took _ _ u8 (number-lawful 1) ((let by : Bytes (c.args.row.now) = typed (c.args.row.now) c.shared_slice_known-1.given in by)) ((let gen-read : read_at u8 (c.args.row.now) ((field-yes ((field-yes ((ask-yes (start).so (eq-eqb _ _ c.if-version-ne-BLOB_VERSION.false))).so ((let created-s-took : Took u64 (c.args.row.now) 0 c.created_s-1.given.0.0 c.created_s-1.given.0.1.0 = took _ _ u64 (number-lawful 8) ((let by : Bytes (c.args.row.now) = typed (c.args.row.now) c.shared_slice_known-1.given in by)) ((let created-s-read : read_at u64 (c.args.row.now) 0 ≡ takes c.created_s-1.given.0.0 c.created_s-1.given.0.1.0 = learn u64_says c.u64_at.ensures c.created_s-1.given.1 in created-s-read)) in created-s-took)))).so ((let envelope-took : Took (optional (group own_envelope)) (c.args.row.now) ((field-yes ((ask-yes (start).so (eq-eqb _ _ c.if-version-ne-BLOB_VERSION.false))).so ((let created-s-took : Took u64 (c.args.row.now) 0 c.created_s-1.given.0.0 c.created_s-1.given.0.1.0 = took _ _ u64 (number-lawful 8) ((let by : Bytes (c.args.row.now) = typed (c.args.row.now) c.shared_slice_known-1.given in by)) ((let created-s-read : read_at u64 (c.args.row.now) 0 ≡ takes c.created_s-1.given.0.0 c.created_s-1.given.0.1.0 = learn u64_says c.u64_at.ensures c.created_s-1.given.1 in created-s-read)) in created-s-took)))).here ((let envelope-read : Located (own_at ((field-yes ((ask-yes (start).so (eq-eqb _ _ c.if-version-ne-BLOB_VERSION.false))).so ((let created-s-took : Took u64 (c.args.row.now) 0 c.created_s-1.given.0.0 c.created_s-1.given.0.1.0 = took _ _ u64 (number-lawful 8) ((let by : Bytes (c.args.row.now) = typed (c.args.row.now) c.shared_slice_known-1.given in by)) ((let created-s-read : read_at u64 (c.args.row.now) 0 ≡ takes c.created_s-1.given.0.0 c.created_s-1.given.0.1.0 = learn u64_says c.u64_at.ensures c.created_s-1.given.1 in created-s-read)) in created-s-took)))).here) (read_at (optional (group own_envelope)) (c.args.row.now) ((field-yes ((ask-yes (start).so (eq-eqb _ _ c.if-version-ne-BLOB_VERSION.false))).so ((let created-s-took : Took u64 (c.args.row.now) 0 c.created_s-1.given.0.0 c.created_s-1.given.0.1.0 = took _ _ u64 (number-lawful 8) ((let by : Bytes (c.args.row.now) = typed (c.args.row.now) c.shared_slice_known-1.given in by)) ((let created-s-read : read_at u64 (c.args.row.now) 0 ≡ takes c.created_s-1.given.0.0 c.created_s-1.given.0.1.0 = learn u64_says c.u64_at.ensures c.created_s-1.given.1 in created-s-read)) in created-s-took)))).here) c.own-1.given.0.0 c.own-1.given.0.1.0 = located-at (own_at _) _ (learn own_says c.own_envelope_at-own.ensures c.own-1.given.1) in envelope-read)).value c.own-1.given.0.1.0 = took _ _ (optional (group own_envelope)) (optional-lawful (group own_envelope) own_envelope-lawful) ((let by : Bytes (c.args.row.now) = typed (c.args.row.now) c.shared_slice_known-1.given in by)) ((let envelope-read : Located (own_at ((field-yes ((ask-yes (start).so (eq-eqb _ _ c.if-version-ne-BLOB_VERSION.false))).so ((let created-s-took : Took u64 (c.args.row.now) 0 c.created_s-1.given.0.0 c.created_s-1.given.0.1.0 = took _ _ u64 (number-lawful 8) ((let by : Bytes (c.args.row.now) = typed (c.args.row.now) c.shared_slice_known-1.given in by)) ((let created-s-read : read_at u64 (c.args.row.now) 0 ≡ takes c.created_s-1.given.0.0 c.created_s-1.given.0.1.0 = learn u64_says c.u64_at.ensures c.created_s-1.given.1 in created-s-read)) in created-s-took)))).here) (read_at (optional (group own_envelope)) (c.args.row.now) ((field-yes ((ask-yes (start).so (eq-eqb _ _ c.if-version-ne-BLOB_VERSION.false))).so ((let created-s-took : Took u64 (c.args.row.now) 0 c.created_s-1.given.0.0 c.created_s-1.given.0.1.0 = took _ _ u64 (number-lawful 8) ((let by : Bytes (c.args.row.now) = typed (c.args.row.now) c.shared_slice_known-1.given in by)) ((let created-s-read : read_at u64 (c.args.row.now) 0 ≡ takes c.created_s-1.given.0.0 c.created_s-1.given.0.1.0 = learn u64_says c.u64_at.ensures c.created_s-1.given.1 in created-s-read)) in created-s-took)))).here) c.own-1.given.0.0 c.own-1.given.0.1.0 = located-at (own_at _) _ (learn own_says c.own_envelope_at-own.ensures c.own-1.given.1) in envelope-read)).read in envelope-took)))).here ≡ takes c.gen_-1.given.0.0 c.gen_-1.given.0.1.0 = learn u8_says c.byte_at.ensures c.gen_-1.given.1 in gen-read)) in gen-took)))).here c.leb128-1.given.0.0 c.leb128-1.given.0.1.0 = took _ _ leb128 leb128-lawful ((let by : Bytes (c.args.row.now) = typed (c.args.row.now) c.shared_slice_known-1.given in by)) ((let idx-read : read_at leb128 (c.args.row.now) ((field-yes ((field-yes ((field-yes ((ask-yes (start).so (eq-eqb _ _ c.if-version-ne-BLOB_VERSION.false))).so ((let created-s-took : Took u64 (c.args.row.now) 0 c.created_s-1.given.0.0 c.created_s-1.given.0.1.0 = took _ _ u64 (number-lawful 8) ((let by : Bytes (c.args.row.now) = typed (c.args.row.now) c.shared_slice_known-1.given in by)) ((let created-s-read : read_at u64 (c.args.row.now) 0 ≡ takes c.created_s-1.given.0.0 c.created_s-1.given.0.1.0 = learn u64_says c.u64_at.ensures c.created_s-1.given.1 in created-s-read)) in created-s-took)))).so ((let envelope-took : Took (optional (group own_envelope)) (c.args.row.now) ((field-yes ((ask-yes (start).so (eq-eqb _ _ c.if-version-ne-BLOB_VERSION.false))).so ((let created-s-took : Took u64 (c.args.row.now) 0 c.created_s-1.given.0.0 c.created_s-1.given.0.1.0 = took _ _ u64 (number-lawful 8) ((let by : Bytes (c.args.row.now) = typed (c.args.row.now) c.shared_slice_known-1.given in by)) ((let created-s-read : read_at u64 (c.args.row.now) 0 ≡ takes c.created_s-1.given.0.0 c.created_s-1.given.0.1.0 = learn u64_says c.u64_at.ensures c.created_s-1.given.1 in created-s-read)) in created-s-took)))).here ((let envelope-read : Located (own_at ((field-yes ((ask-yes (start).so (eq-eqb _ _ c.if-version-ne-BLOB_VERSION.false))).so ((let created-s-took : Took u64 (c.args.row.now) 0 c.created_s-1.given.0.0 c.created_s-1.given.0.1.0 = took _ _ u64 (number-lawful 8) ((let by : Bytes (c.args.row.now) = typed (c.args.row.now) c.shared_slice_known-1.given in by)) ((let created-s-read : read_at u64 (c.args.row.now) 0 ≡ takes c.created_s-1.given.0.0 c.created_s-1.given.0.1.0 = learn u64_says c.u64_at.ensures c.created_s-1.given.1 in created-s-read)) in created-s-took)))).here) (read_at (optional (group own_envelope)) (c.args.row.now) ((field-yes ((ask-yes (start).so (eq-eqb _ _ c.if-version-ne-BLOB_VERSION.false))).so ((let created-s-took : Took u64 (c.args.row.now) 0 c.created_s-1.given.0.0 c.created_s-1.given.0.1.0 = took _ _ u64 (number-lawful 8) ((let by : Bytes (c.args.row.now) = typed (c.args.row.now) c.shared_slice_known-1.given in by)) ((let created-s-read : read_at u64 (c.args.row.now) 0 ≡ takes c.created_s-1.given.0.0 c.created_s-1.given.0.1.0 = learn u64_says c.u64_at.ensures c.created_s-1.given.1 in created-s-read)) in created-s-took)))).here) c.own-1.given.0.0 c.own-1.given.0.1.0 = located-at (own_at _) _ (learn own_says c.own_envelope_at-own.ensures c.own-1.given.1) in envelope-read)).value c.own-1.given.0.1.0 = took _ _ (optional (group own_envelope)) (optional-lawful (group own_envelope) own_envelope-lawful) ((let by : Bytes (c.args.row.now) = typed (c.args.row.now) c.shared_slice_known-1.given in by)) ((let envelope-read : Located (own_at ((field-yes ((ask-yes (start).so (eq-eqb _ _ c.if-version-ne-BLOB_VERSION.false))).so ((let created-s-took : Took u64 (c.args.row.now) 0 c.created_s-1.given.0.0 c.created_s-1.given.0.1.0 = took _ _ u64 (number-lawful 8) ((let by : Bytes (c.args.row.now) = typed (c.args.row.now) c.shared_slice_known-1.given in by)) ((let created-s-read : read_at u64 (c.args.row.now) 0 ≡ takes c.created_s-1.given.0.0 c.created_s-1.given.0.1.0 = learn u64_says c.u64_at.ensures c.created_s-1.given.1 in created-s-read)) in created-s-took)))).here) (read_at (optional (group own_envelope)) (c.args.row.now) ((field-yes ((ask-yes (start).so (eq-eqb _ _ c.if-version-ne-BLOB_VERSION.false))).so ((let created-s-took : Took u64 (c.args.row.now) 0 c.created_s-1.given.0.0 c.created_s-1.given.0.1.0 = took _ _ u64 (number-lawful 8) ((let by : Bytes (c.args.row.now) = typed (c.args.row.now) c.shared_slice_known-1.given in by)) ((let created-s-read : read_at u64 (c.args.row.now) 0 ≡ takes c.created_s-1.given.0.0 c.created_s-1.given.0.1.0 = learn u64_says c.u64_at.ensures c.created_s-1.given.1 in created-s-read)) in created-s-took)))).here) c.own-1.given.0.0 c.own-1.given.0.1.0 = located-at (own_at _) _ (learn own_says c.own_envelope_at-own.ensures c.own-1.given.1) in envelope-read)).read in envelope-took)))).so ((let gen-took : Took u8 (c.args.row.now) ((field-yes ((field-yes ((ask-yes (start).so (eq-eqb _ _ c.if-version-ne-BLOB_VERSION.false))).so ((let created-s-took : Took u64 (c.args.row.now) 0 c.created_s-1.given.0.0 c.created_s-1.given.0.1.0 = took _ _ u64 (number-lawful 8) ((let by : Bytes (c.args.row.now) = typed (c.args.row.now) c.shared_slice_known-1.given in by)) ((let created-s-read : read_at u64 (c.args.row.now) 0 ≡ takes c.created_s-1.given.0.0 c.created_s-1.given.0.1.0 = learn u64_says c.u64_at.ensures c.created_s-1.given.1 in created-s-read)) in created-s-took)))).so ((let envelope-took : Took (optional (group own_envelope)) (c.args.row.now) ((field-yes ((ask-yes (start).so (eq-eqb _ _ c.if-version-ne-BLOB_VERSION.false))).so ((let created-s-took : Took u64 (c.args.row.now) 0 c.created_s-1.given.0.0 c.created_s-1.given.0.1.0 = took _ _ u64 (number-lawful 8) ((let by : Bytes (c.args.row.now) = typed (c.args.row.now) c.shared_slice_known-1.given in by)) ((let created-s-read : read_at u64 (c.args.row.now) 0 ≡ takes c.created_s-1.given.0.0 c.created_s-1.given.0.1.0 = learn u64_says c.u64_at.ensures c.created_s-1.given.1 in created-s-read)) in created-s-took)))).here ((let envelope-read : Located (own_at ((field-yes ((ask-yes (start).so (eq-eqb _ _ c.if-version-ne-BLOB_VERSION.false))).so ((let created-s-took : Took u64 (c.args.row.now) 0 c.created_s-1.given.0.0 c.created_s-1.given.0.1.0 = took _ _ u64 (number-lawful 8) ((let by : Bytes (c.args.row.now) = typed (c.args.row.now) c.shared_slice_known-1.given in by)) ((let created-s-read : read_at u64 (c.args.row.now) 0 ≡ takes c.created_s-1.given.0.0 c.created_s-1.given.0.1.0 = learn u64_says c.u64_at.ensures c.created_s-1.given.1 in created-s-read)) in created-s-took)))).here) (read_at (optional (group own_envelope)) (c.args.row.now) ((field-yes ((ask-yes (start).so (eq-eqb _ _ c.if-version-ne-BLOB_VERSION.false))).so ((let created-s-took : Took u64 (c.args.row.now) 0 c.created_s-1.given.0.0 c.created_s-1.given.0.1.0 = took _ _ u64 (number-lawful 8) ((let by : Bytes (c.args.row.now) = typed (c.args.row.now) c.shared_slice_known-1.given in by)) ((let created-s-read : read_at u64 (c.args.row.now) 0 ≡ takes c.created_s-1.given.0.0 c.created_s-1.given.0.1.0 = learn u64_says c.u64_at.ensures c.created_s-1.given.1 in created-s-read)) in created-s-took)))).here) c.own-1.given.0.0 c.own-1.given.0.1.0 = located-at (own_at _) _ (learn own_says c.own_envelope_at-own.ensures c.own-1.given.1) in envelope-read)).value c.own-1.given.0.1.0 = took _ _ (optional (group own_envelope)) (optional-lawful (group own_envelope) own_envelope-lawful) ((let by : Bytes (c.args.row.now) = typed (c.args.row.now) c.shared_slice_known-1.given in by)) ((let envelope-read : Located (own_at ((field-yes ((ask-yes (start).so (eq-eqb _ _ c.if-version-ne-BLOB_VERSION.false))).so ((let created-s-took : Took u64 (c.args.row.now) 0 c.created_s-1.given.0.0 c.created_s-1.given.0.1.0 = took _ _ u64 (number-lawful 8) ((let by : Bytes (c.args.row.now) = typed (c.args.row.now) c.shared_slice_known-1.given in by)) ((let created-s-read : read_at u64 (c.args.row.now) 0 ≡ takes c.created_s-1.given.0.0 c.created_s-1.given.0.1.0 = learn u64_says c.u64_at.ensures c.created_s-1.given.1 in created-s-read)) in created-s-took)))).here) (read_at (optional (group own_envelope)) (c.args.row.now) ((field-yes ((ask-yes (start).so (eq-eqb _ _ c.if-version-ne-BLOB_VERSION.false))).so ((let created-s-took : Took u64 (c.args.row.now) 0 c.created_s-1.given.0.0 c.created_s-1.given.0.1.0 = took _ _ u64 (number-lawful 8) ((let by : Bytes (c.args.row.now) = typed (c.args.row.now) c.shared_slice_known-1.given in by)) ((let created-s-read : read_at u64 (c.args.row.now) 0 ≡ takes c.created_s-1.given.0.0 c.created_s-1.given.0.1.0 = learn u64_says c.u64_at.ensures c.created_s-1.given.1 in created-s-read)) in created-s-took)))).here) c.own-1.given.0.0 c.own-1.given.0.1.0 = located-at (own_at _) _ (learn own_says c.own_envelope_at-own.ensures c.own-1.given.1) in envelope-read)).read in envelope-took)))).here c.gen_-1.given.0.0 c.gen_-1.given.0.1.0 = took _ _ u8 (number-lawful 1) ((let by : Bytes (c.args.row.now) = typed (c.args.row.now) c.shared_slice_known-1.given in by)) ((let gen-read : read_at u8 (c.args.row.now) ((field-yes ((field-yes ((ask-yes (start).so (eq-eqb _ _ c.if-version-ne-BLOB_VERSION.false))).so ((let created-s-took : Took u64 (c.args.row.now) 0 c.created_s-1.given.0.0 c.created_s-1.given.0.1.0 = took _ _ u64 (number-lawful 8) ((let by : Bytes (c.args.row.now) = typed (c.args.row.now) c.shared_slice_known-1.given in by)) ((let created-s-read : read_at u64 (c.args.row.now) 0 ≡ takes c.created_s-1.given.0.0 c.created_s-1.given.0.1.0 = learn u64_says c.u64_at.ensures c.created_s-1.given.1 in created-s-read)) in created-s-took)))).so ((let envelope-took : Took (optional (group own_envelope)) (c.args.row.now) ((field-yes ((ask-yes (start).so (eq-eqb _ _ c.if-version-ne-BLOB_VERSION.false))).so ((let created-s-took : Took u64 (c.args.row.now) 0 c.created_s-1.given.0.0 c.created_s-1.given.0.1.0 = took _ _ u64 (number-lawful 8) ((let by : Bytes (c.args.row.now) = typed (c.args.row.now) c.shared_slice_known-1.given in by)) ((let created-s-read : read_at u64 (c.args.row.now) 0 ≡ takes c.created_s-1.given.0.0 c.created_s-1.given.0.1.0 = learn u64_says c.u64_at.ensures c.created_s-1.given.1 in created-s-read)) in created-s-took)))).here ((let envelope-read : Located (own_at ((field-yes ((ask-yes (start).so (eq-eqb _ _ c.if-version-ne-BLOB_VERSION.false))).so ((let created-s-took : Took u64 (c.args.row.now) 0 c.created_s-1.given.0.0 c.created_s-1.given.0.1.0 = took _ _ u64 (number-lawful 8) ((let by : Bytes (c.args.row.now) = typed (c.args.row.now) c.shared_slice_known-1.given in by)) ((let created-s-read : read_at u64 (c.args.row.now) 0 ≡ takes c.created_s-1.given.0.0 c.created_s-1.given.0.1.0 = learn u64_says c.u64_at.ensures c.created_s-1.given.1 in created-s-read)) in created-s-took)))).here) (read_at (optional (group own_envelope)) (c.args.row.now) ((field-yes ((ask-yes (start).so (eq-eqb _ _ c.if-version-ne-BLOB_VERSION.false))).so ((let created-s-took : Took u64 (c.args.row.now) 0 c.created_s-1.given.0.0 c.created_s-1.given.0.1.0 = took _ _ u64 (number-lawful 8) ((let by : Bytes (c.args.row.now) = typed (c.args.row.now) c.shared_slice_known-1.given in by)) ((let created-s-read : read_at u64 (c.args.row.now) 0 ≡ takes c.created_s-1.given.0.0 c.created_s-1.given.0.1.0 = learn u64_says c.u64_at.ensures c.created_s-1.given.1 in created-s-read)) in created-s-took)))).here) c.own-1.given.0.0 c.own-1.given.0.1.0 = located-at (own_at _) _ (learn own_says c.own_envelope_at-own.ensures c.own-1.given.1) in envelope-read)).value c.own-1.given.0.1.0 = took _ _ (optional (group own_envelope)) (optional-lawful (group own_envelope) own_envelope-lawful) ((let by : Bytes (c.args.row.now) = typed (c.args.row.now) c.shared_slice_known-1.given in by)) ((let envelope-read : Located (own_at ((field-yes ((ask-yes (start).so (eq-eqb _ _ c.if-version-ne-BLOB_VERSION.false))).so ((let created-s-took : Took u64 (c.args.row.now) 0 c.created_s-1.given.0.0 c.created_s-1.given.0.1.0 = took _ _ u64 (number-lawful 8) ((let by : Bytes (c.args.row.now) = typed (c.args.row.now) c.shared_slice_known-1.given in by)) ((let created-s-read : read_at u64 (c.args.row.now) 0 ≡ takes c.created_s-1.given.0.0 c.created_s-1.given.0.1.0 = learn u64_says c.u64_at.ensures c.created_s-1.given.1 in created-s-read)) in created-s-took)))).here) (read_at (optional (group own_envelope)) (c.args.row.now) ((field-yes ((ask-yes (start).so (eq-eqb _ _ c.if-version-ne-BLOB_VERSION.false))).so ((let created-s-took : Took u64 (c.args.row.now) 0 c.created_s-1.given.0.0 c.created_s-1.given.0.1.0 = took _ _ u64 (number-lawful 8) ((let by : Bytes (c.args.row.now) = typed (c.args.row.now) c.shared_slice_known-1.given in by)) ((let created-s-read : read_at u64 (c.args.row.now) 0 ≡ takes c.created_s-1.given.0.0 c.created_s-1.given.0.1.0 = learn u64_says c.u64_at.ensures c.created_s-1.given.1 in created-s-read)) in created-s-took)))).here) c.own-1.given.0.0 c.own-1.given.0.1.0 = located-at (own_at _) _ (learn own_says c.own_envelope_at-own.ensures c.own-1.given.1) in envelope-read)).read in envelope-took)))).here ≡ takes c.gen_-1.given.0.0 c.gen_-1.given.0.1.0 = learn u8_says c.byte_at.ensures c.gen_-1.given.1 in gen-read)) in gen-took)))).here ≡ takes c.leb128-1.given.0.0 c.leb128-1.given.0.1.0 = learn leb128_says c.leb128_at-leb128.ensures c.leb128-1.given.1 in idx-read)) in idx-took)))).here (c.args.row.now);
+      created_s = c.in-Value.created_s;
+      envelope = envelope-read.value;
+      gen = c.in-Value-byte_at.gen_;
+      idx = c.in-Value-leb128.idx;
+      sealed = drop r5.here (c.args.row.now);
     } in
-    (ap Fields (done-yes (end-yes (field-yes ((field-yes ((field-yes ((field-yes ((field-yes ((ask-yes (start).so (eq-eqb _ _ c.if-version-ne-BLOB_VERSION.false))).so ((let created-s-took : Took u64 (c.args.row.now) 0 c.created_s-1.given.0.0 c.created_s-1.given.0.1.0 = took _ _ u64 (number-lawful 8) ((let by : Bytes (c.args.row.now) = typed (c.args.row.now) c.shared_slice_known-1.given in by)) ((let created-s-read : read_at u64 (c.args.row.now) 0 ≡ takes c.created_s-1.given.0.0 c.created_s-1.given.0.1.0 = learn u64_says c.u64_at.ensures c.created_s-1.given.1 in created-s-read)) in created-s-took)))).so ((let envelope-took : Took (optional (group own_envelope)) (c.args.row.now) ((field-yes ((ask-yes (start).so (eq-eqb _ _ c.if-version-ne-BLOB_VERSION.false))).so ((let created-s-took : Took u64 (c.args.row.now) 0 c.created_s-1.given.0.0 c.created_s-1.given.0.1.0 = took _ _ u64 (number-lawful 8) ((let by : Bytes (c.args.row.now) = typed (c.args.row.now) c.shared_slice_known-1.given in by)) ((let created-s-read : read_at u64 (c.args.row.now) 0 ≡ takes c.created_s-1.given.0.0 c.created_s-1.given.0.1.0 = learn u64_says c.u64_at.ensures c.created_s-1.given.1 in created-s-read)) in created-s-took)))).here ((let envelope-read : Located (own_at ((field-yes ((ask-yes (start).so (eq-eqb _ _ c.if-version-ne-BLOB_VERSION.false))).so ((let created-s-took : Took u64 (c.args.row.now) 0 c.created_s-1.given.0.0 c.created_s-1.given.0.1.0 = took _ _ u64 (number-lawful 8) ((let by : Bytes (c.args.row.now) = typed (c.args.row.now) c.shared_slice_known-1.given in by)) ((let created-s-read : read_at u64 (c.args.row.now) 0 ≡ takes c.created_s-1.given.0.0 c.created_s-1.given.0.1.0 = learn u64_says c.u64_at.ensures c.created_s-1.given.1 in created-s-read)) in created-s-took)))).here) (read_at (optional (group own_envelope)) (c.args.row.now) ((field-yes ((ask-yes (start).so (eq-eqb _ _ c.if-version-ne-BLOB_VERSION.false))).so ((let created-s-took : Took u64 (c.args.row.now) 0 c.created_s-1.given.0.0 c.created_s-1.given.0.1.0 = took _ _ u64 (number-lawful 8) ((let by : Bytes (c.args.row.now) = typed (c.args.row.now) c.shared_slice_known-1.given in by)) ((let created-s-read : read_at u64 (c.args.row.now) 0 ≡ takes c.created_s-1.given.0.0 c.created_s-1.given.0.1.0 = learn u64_says c.u64_at.ensures c.created_s-1.given.1 in created-s-read)) in created-s-took)))).here) c.own-1.given.0.0 c.own-1.given.0.1.0 = located-at (own_at _) _ (learn own_says c.own_envelope_at-own.ensures c.own-1.given.1) in envelope-read)).value c.own-1.given.0.1.0 = took _ _ (optional (group own_envelope)) (optional-lawful (group own_envelope) own_envelope-lawful) ((let by : Bytes (c.args.row.now) = typed (c.args.row.now) c.shared_slice_known-1.given in by)) ((let envelope-read : Located (own_at ((field-yes ((ask-yes (start).so (eq-eqb _ _ c.if-version-ne-BLOB_VERSION.false))).so ((let created-s-took : Took u64 (c.args.row.now) 0 c.created_s-1.given.0.0 c.created_s-1.given.0.1.0 = took _ _ u64 (number-lawful 8) ((let by : Bytes (c.args.row.now) = typed (c.args.row.now) c.shared_slice_known-1.given in by)) ((let created-s-read : read_at u64 (c.args.row.now) 0 ≡ takes c.created_s-1.given.0.0 c.created_s-1.given.0.1.0 = learn u64_says c.u64_at.ensures c.created_s-1.given.1 in created-s-read)) in created-s-took)))).here) (read_at (optional (group own_envelope)) (c.args.row.now) ((field-yes ((ask-yes (start).so (eq-eqb _ _ c.if-version-ne-BLOB_VERSION.false))).so ((let created-s-took : Took u64 (c.args.row.now) 0 c.created_s-1.given.0.0 c.created_s-1.given.0.1.0 = took _ _ u64 (number-lawful 8) ((let by : Bytes (c.args.row.now) = typed (c.args.row.now) c.shared_slice_known-1.given in by)) ((let created-s-read : read_at u64 (c.args.row.now) 0 ≡ takes c.created_s-1.given.0.0 c.created_s-1.given.0.1.0 = learn u64_says c.u64_at.ensures c.created_s-1.given.1 in created-s-read)) in created-s-took)))).here) c.own-1.given.0.0 c.own-1.given.0.1.0 = located-at (own_at _) _ (learn own_says c.own_envelope_at-own.ensures c.own-1.given.1) in envelope-read)).read in envelope-took)))).so ((let gen-took : Took u8 (c.args.row.now) ((field-yes ((field-yes ((ask-yes (start).so (eq-eqb _ _ c.if-version-ne-BLOB_VERSION.false))).so ((let created-s-took : Took u64 (c.args.row.now) 0 c.created_s-1.given.0.0 c.created_s-1.given.0.1.0 = took _ _ u64 (number-lawful 8) ((let by : Bytes (c.args.row.now) = typed (c.args.row.now) c.shared_slice_known-1.given in by)) ((let created-s-read : read_at u64 (c.args.row.now) 0 ≡ takes c.created_s-1.given.0.0 c.created_s-1.given.0.1.0 = learn u64_says c.u64_at.ensures c.created_s-1.given.1 in created-s-read)) in created-s-took)))).so ((let envelope-took : Took (optional (group own_envelope)) (c.args.row.now) ((field-yes ((ask-yes (start).so (eq-eqb _ _ c.if-version-ne-BLOB_VERSION.false))).so ((let created-s-took : Took u64 (c.args.row.now) 0 c.created_s-1.given.0.0 c.created_s-1.given.0.1.0 = took _ _ u64 (number-lawful 8) ((let by : Bytes (c.args.row.now) = typed (c.args.row.now) c.shared_slice_known-1.given in by)) ((let created-s-read : read_at u64 (c.args.row.now) 0 ≡ takes c.created_s-1.given.0.0 c.created_s-1.given.0.1.0 = learn u64_says c.u64_at.ensures c.created_s-1.given.1 in created-s-read)) in created-s-took)))).here ((let envelope-read : Located (own_at ((field-yes ((ask-yes (start).so (eq-eqb _ _ c.if-version-ne-BLOB_VERSION.false))).so ((let created-s-took : Took u64 (c.args.row.now) 0 c.created_s-1.given.0.0 c.created_s-1.given.0.1.0 = took _ _ u64 (number-lawful 8) ((let by : Bytes (c.args.row.now) = typed (c.args.row.now) c.shared_slice_known-1.given in by)) ((let created-s-read : read_at u64 (c.args.row.now) 0 ≡ takes c.created_s-1.given.0.0 c.created_s-1.given.0.1.0 = learn u64_says c.u64_at.ensures c.created_s-1.given.1 in created-s-read)) in created-s-took)))).here) (read_at (optional (group own_envelope)) (c.args.row.now) ((field-yes ((ask-yes (start).so (eq-eqb _ _ c.if-version-ne-BLOB_VERSION.false))).so ((let created-s-took : Took u64 (c.args.row.now) 0 c.created_s-1.given.0.0 c.created_s-1.given.0.1.0 = took _ _ u64 (number-lawful 8) ((let by : Bytes (c.args.row.now) = typed (c.args.row.now) c.shared_slice_known-1.given in by)) ((let created-s-read : read_at u64 (c.args.row.now) 0 ≡ takes c.created_s-1.given.0.0 c.created_s-1.given.0.1.0 = learn u64_says c.u64_at.ensures c.created_s-1.given.1 in created-s-read)) in created-s-took)))).here) c.own-1.given.0.0 c.own-1.given.0.1.0 = located-at (own_at _) _ (learn own_says c.own_envelope_at-own.ensures c.own-1.given.1) in envelope-read)).value c.own-1.given.0.1.0 = took _ _ (optional (group own_envelope)) (optional-lawful (group own_envelope) own_envelope-lawful) ((let by : Bytes (c.args.row.now) = typed (c.args.row.now) c.shared_slice_known-1.given in by)) ((let envelope-read : Located (own_at ((field-yes ((ask-yes (start).so (eq-eqb _ _ c.if-version-ne-BLOB_VERSION.false))).so ((let created-s-took : Took u64 (c.args.row.now) 0 c.created_s-1.given.0.0 c.created_s-1.given.0.1.0 = took _ _ u64 (number-lawful 8) ((let by : Bytes (c.args.row.now) = typed (c.args.row.now) c.shared_slice_known-1.given in by)) ((let created-s-read : read_at u64 (c.args.row.now) 0 ≡ takes c.created_s-1.given.0.0 c.created_s-1.given.0.1.0 = learn u64_says c.u64_at.ensures c.created_s-1.given.1 in created-s-read)) in created-s-took)))).here) (read_at (optional (group own_envelope)) (c.args.row.now) ((field-yes ((ask-yes (start).so (eq-eqb _ _ c.if-version-ne-BLOB_VERSION.false))).so ((let created-s-took : Took u64 (c.args.row.now) 0 c.created_s-1.given.0.0 c.created_s-1.given.0.1.0 = took _ _ u64 (number-lawful 8) ((let by : Bytes (c.args.row.now) = typed (c.args.row.now) c.shared_slice_known-1.given in by)) ((let created-s-read : read_at u64 (c.args.row.now) 0 ≡ takes c.created_s-1.given.0.0 c.created_s-1.given.0.1.0 = learn u64_says c.u64_at.ensures c.created_s-1.given.1 in created-s-read)) in created-s-took)))).here) c.own-1.given.0.0 c.own-1.given.0.1.0 = located-at (own_at _) _ (learn own_says c.own_envelope_at-own.ensures c.own-1.given.1) in envelope-read)).read in envelope-took)))).here c.gen_-1.given.0.0 c.gen_-1.given.0.1.0 = took _ _ u8 (number-lawful 1) ((let by : Bytes (c.args.row.now) = typed (c.args.row.now) c.shared_slice_known-1.given in by)) ((let gen-read : read_at u8 (c.args.row.now) ((field-yes ((field-yes ((ask-yes (start).so (eq-eqb _ _ c.if-version-ne-BLOB_VERSION.false))).so ((let created-s-took : Took u64 (c.args.row.now) 0 c.created_s-1.given.0.0 c.created_s-1.given.0.1.0 = took _ _ u64 (number-lawful 8) ((let by : Bytes (c.args.row.now) = typed (c.args.row.now) c.shared_slice_known-1.given in by)) ((let created-s-read : read_at u64 (c.args.row.now) 0 ≡ takes c.created_s-1.given.0.0 c.created_s-1.given.0.1.0 = learn u64_says c.u64_at.ensures c.created_s-1.given.1 in created-s-read)) in created-s-took)))).so ((let envelope-took : Took (optional (group own_envelope)) (c.args.row.now) ((field-yes ((ask-yes (start).so (eq-eqb _ _ c.if-version-ne-BLOB_VERSION.false))).so ((let created-s-took : Took u64 (c.args.row.now) 0 c.created_s-1.given.0.0 c.created_s-1.given.0.1.0 = took _ _ u64 (number-lawful 8) ((let by : Bytes (c.args.row.now) = typed (c.args.row.now) c.shared_slice_known-1.given in by)) ((let created-s-read : read_at u64 (c.args.row.now) 0 ≡ takes c.created_s-1.given.0.0 c.created_s-1.given.0.1.0 = learn u64_says c.u64_at.ensures c.created_s-1.given.1 in created-s-read)) in created-s-took)))).here ((let envelope-read : Located (own_at ((field-yes ((ask-yes (start).so (eq-eqb _ _ c.if-version-ne-BLOB_VERSION.false))).so ((let created-s-took : Took u64 (c.args.row.now) 0 c.created_s-1.given.0.0 c.created_s-1.given.0.1.0 = took _ _ u64 (number-lawful 8) ((let by : Bytes (c.args.row.now) = typed (c.args.row.now) c.shared_slice_known-1.given in by)) ((let created-s-read : read_at u64 (c.args.row.now) 0 ≡ takes c.created_s-1.given.0.0 c.created_s-1.given.0.1.0 = learn u64_says c.u64_at.ensures c.created_s-1.given.1 in created-s-read)) in created-s-took)))).here) (read_at (optional (group own_envelope)) (c.args.row.now) ((field-yes ((ask-yes (start).so (eq-eqb _ _ c.if-version-ne-BLOB_VERSION.false))).so ((let created-s-took : Took u64 (c.args.row.now) 0 c.created_s-1.given.0.0 c.created_s-1.given.0.1.0 = took _ _ u64 (number-lawful 8) ((let by : Bytes (c.args.row.now) = typed (c.args.row.now) c.shared_slice_known-1.given in by)) ((let created-s-read : read_at u64 (c.args.row.now) 0 ≡ takes c.created_s-1.given.0.0 c.created_s-1.given.0.1.0 = learn u64_says c.u64_at.ensures c.created_s-1.given.1 in created-s-read)) in created-s-took)))).here) c.own-1.given.0.0 c.own-1.given.0.1.0 = located-at (own_at _) _ (learn own_says c.own_envelope_at-own.ensures c.own-1.given.1) in envelope-read)).value c.own-1.given.0.1.0 = took _ _ (optional (group own_envelope)) (optional-lawful (group own_envelope) own_envelope-lawful) ((let by : Bytes (c.args.row.now) = typed (c.args.row.now) c.shared_slice_known-1.given in by)) ((let envelope-read : Located (own_at ((field-yes ((ask-yes (start).so (eq-eqb _ _ c.if-version-ne-BLOB_VERSION.false))).so ((let created-s-took : Took u64 (c.args.row.now) 0 c.created_s-1.given.0.0 c.created_s-1.given.0.1.0 = took _ _ u64 (number-lawful 8) ((let by : Bytes (c.args.row.now) = typed (c.args.row.now) c.shared_slice_known-1.given in by)) ((let created-s-read : read_at u64 (c.args.row.now) 0 ≡ takes c.created_s-1.given.0.0 c.created_s-1.given.0.1.0 = learn u64_says c.u64_at.ensures c.created_s-1.given.1 in created-s-read)) in created-s-took)))).here) (read_at (optional (group own_envelope)) (c.args.row.now) ((field-yes ((ask-yes (start).so (eq-eqb _ _ c.if-version-ne-BLOB_VERSION.false))).so ((let created-s-took : Took u64 (c.args.row.now) 0 c.created_s-1.given.0.0 c.created_s-1.given.0.1.0 = took _ _ u64 (number-lawful 8) ((let by : Bytes (c.args.row.now) = typed (c.args.row.now) c.shared_slice_known-1.given in by)) ((let created-s-read : read_at u64 (c.args.row.now) 0 ≡ takes c.created_s-1.given.0.0 c.created_s-1.given.0.1.0 = learn u64_says c.u64_at.ensures c.created_s-1.given.1 in created-s-read)) in created-s-took)))).here) c.own-1.given.0.0 c.own-1.given.0.1.0 = located-at (own_at _) _ (learn own_says c.own_envelope_at-own.ensures c.own-1.given.1) in envelope-read)).read in envelope-took)))).here ≡ takes c.gen_-1.given.0.0 c.gen_-1.given.0.1.0 = learn u8_says c.byte_at.ensures c.gen_-1.given.1 in gen-read)) in gen-took)))).so ((let idx-took : Took leb128 (c.args.row.now) ((field-yes ((field-yes ((field-yes ((ask-yes (start).so (eq-eqb _ _ c.if-version-ne-BLOB_VERSION.false))).so ((let created-s-took : Took u64 (c.args.row.now) 0 c.created_s-1.given.0.0 c.created_s-1.given.0.1.0 = took _ _ u64 (number-lawful 8) ((let by : Bytes (c.args.row.now) = typed (c.args.row.now) c.shared_slice_known-1.given in by)) ((let created-s-read : read_at u64 (c.args.row.now) 0 ≡ takes c.created_s-1.given.0.0 c.created_s-1.given.0.1.0 = learn u64_says c.u64_at.ensures c.created_s-1.given.1 in created-s-read)) in created-s-took)))).so ((let envelope-took : Took (optional (group own_envelope)) (c.args.row.now) ((field-yes ((ask-yes (start).so (eq-eqb _ _ c.if-version-ne-BLOB_VERSION.false))).so ((let created-s-took : Took u64 (c.args.row.now) 0 c.created_s-1.given.0.0 c.created_s-1.given.0.1.0 = took _ _ u64 (number-lawful 8) ((let by : Bytes (c.args.row.now) = typed (c.args.row.now) c.shared_slice_known-1.given in by)) ((let created-s-read : read_at u64 (c.args.row.now) 0 ≡ takes c.created_s-1.given.0.0 c.created_s-1.given.0.1.0 = learn u64_says c.u64_at.ensures c.created_s-1.given.1 in created-s-read)) in created-s-took)))).here ((let envelope-read : Located (own_at ((field-yes ((ask-yes (start).so (eq-eqb _ _ c.if-version-ne-BLOB_VERSION.false))).so ((let created-s-took : Took u64 (c.args.row.now) 0 c.created_s-1.given.0.0 c.created_s-1.given.0.1.0 = took _ _ u64 (number-lawful 8) ((let by : Bytes (c.args.row.now) = typed (c.args.row.now) c.shared_slice_known-1.given in by)) ((let created-s-read : read_at u64 (c.args.row.now) 0 ≡ takes c.created_s-1.given.0.0 c.created_s-1.given.0.1.0 = learn u64_says c.u64_at.ensures c.created_s-1.given.1 in created-s-read)) in created-s-took)))).here) (read_at (optional (group own_envelope)) (c.args.row.now) ((field-yes ((ask-yes (start).so (eq-eqb _ _ c.if-version-ne-BLOB_VERSION.false))).so ((let created-s-took : Took u64 (c.args.row.now) 0 c.created_s-1.given.0.0 c.created_s-1.given.0.1.0 = took _ _ u64 (number-lawful 8) ((let by : Bytes (c.args.row.now) = typed (c.args.row.now) c.shared_slice_known-1.given in by)) ((let created-s-read : read_at u64 (c.args.row.now) 0 ≡ takes c.created_s-1.given.0.0 c.created_s-1.given.0.1.0 = learn u64_says c.u64_at.ensures c.created_s-1.given.1 in created-s-read)) in created-s-took)))).here) c.own-1.given.0.0 c.own-1.given.0.1.0 = located-at (own_at _) _ (learn own_says c.own_envelope_at-own.ensures c.own-1.given.1) in envelope-read)).value c.own-1.given.0.1.0 = took _ _ (optional (group own_envelope)) (optional-lawful (group own_envelope) own_envelope-lawful) ((let by : Bytes (c.args.row.now) = typed (c.args.row.now) c.shared_slice_known-1.given in by)) ((let envelope-read : Located (own_at ((field-yes ((ask-yes (start).so (eq-eqb _ _ c.if-version-ne-BLOB_VERSION.false))).so ((let created-s-took : Took u64 (c.args.row.now) 0 c.created_s-1.given.0.0 c.created_s-1.given.0.1.0 = took _ _ u64 (number-lawful 8) ((let by : Bytes (c.args.row.now) = typed (c.args.row.now) c.shared_slice_known-1.given in by)) ((let created-s-read : read_at u64 (c.args.row.now) 0 ≡ takes c.created_s-1.given.0.0 c.created_s-1.given.0.1.0 = learn u64_says c.u64_at.ensures c.created_s-1.given.1 in created-s-read)) in created-s-took)))).here) (read_at (optional (group own_envelope)) (c.args.row.now) ((field-yes ((ask-yes (start).so (eq-eqb _ _ c.if-version-ne-BLOB_VERSION.false))).so ((let created-s-took : Took u64 (c.args.row.now) 0 c.created_s-1.given.0.0 c.created_s-1.given.0.1.0 = took _ _ u64 (number-lawful 8) ((let by : Bytes (c.args.row.now) = typed (c.args.row.now) c.shared_slice_known-1.given in by)) ((let created-s-read : read_at u64 (c.args.row.now) 0 ≡ takes c.created_s-1.given.0.0 c.created_s-1.given.0.1.0 = learn u64_says c.u64_at.ensures c.created_s-1.given.1 in created-s-read)) in created-s-took)))).here) c.own-1.given.0.0 c.own-1.given.0.1.0 = located-at (own_at _) _ (learn own_says c.own_envelope_at-own.ensures c.own-1.given.1) in envelope-read)).read in envelope-took)))).so ((let gen-took : Took u8 (c.args.row.now) ((field-yes ((field-yes ((ask-yes (start).so (eq-eqb _ _ c.if-version-ne-BLOB_VERSION.false))).so ((let created-s-took : Took u64 (c.args.row.now) 0 c.created_s-1.given.0.0 c.created_s-1.given.0.1.0 = took _ _ u64 (number-lawful 8) ((let by : Bytes (c.args.row.now) = typed (c.args.row.now) c.shared_slice_known-1.given in by)) ((let created-s-read : read_at u64 (c.args.row.now) 0 ≡ takes c.created_s-1.given.0.0 c.created_s-1.given.0.1.0 = learn u64_says c.u64_at.ensures c.created_s-1.given.1 in created-s-read)) in created-s-took)))).so ((let envelope-took : Took (optional (group own_envelope)) (c.args.row.now) ((field-yes ((ask-yes (start).so (eq-eqb _ _ c.if-version-ne-BLOB_VERSION.false))).so ((let created-s-took : Took u64 (c.args.row.now) 0 c.created_s-1.given.0.0 c.created_s-1.given.0.1.0 = took _ _ u64 (number-lawful 8) ((let by : Bytes (c.args.row.now) = typed (c.args.row.now) c.shared_slice_known-1.given in by)) ((let created-s-read : read_at u64 (c.args.row.now) 0 ≡ takes c.created_s-1.given.0.0 c.created_s-1.given.0.1.0 = learn u64_says c.u64_at.ensures c.created_s-1.given.1 in created-s-read)) in created-s-took)))).here ((let envelope-read : Located (own_at ((field-yes ((ask-yes (start).so (eq-eqb _ _ c.if-version-ne-BLOB_VERSION.false))).so ((let created-s-took : Took u64 (c.args.row.now) 0 c.created_s-1.given.0.0 c.created_s-1.given.0.1.0 = took _ _ u64 (number-lawful 8) ((let by : Bytes (c.args.row.now) = typed (c.args.row.now) c.shared_slice_known-1.given in by)) ((let created-s-read : read_at u64 (c.args.row.now) 0 ≡ takes c.created_s-1.given.0.0 c.created_s-1.given.0.1.0 = learn u64_says c.u64_at.ensures c.created_s-1.given.1 in created-s-read)) in created-s-took)))).here) (read_at (optional (group own_envelope)) (c.args.row.now) ((field-yes ((ask-yes (start).so (eq-eqb _ _ c.if-version-ne-BLOB_VERSION.false))).so ((let created-s-took : Took u64 (c.args.row.now) 0 c.created_s-1.given.0.0 c.created_s-1.given.0.1.0 = took _ _ u64 (number-lawful 8) ((let by : Bytes (c.args.row.now) = typed (c.args.row.now) c.shared_slice_known-1.given in by)) ((let created-s-read : read_at u64 (c.args.row.now) 0 ≡ takes c.created_s-1.given.0.0 c.created_s-1.given.0.1.0 = learn u64_says c.u64_at.ensures c.created_s-1.given.1 in created-s-read)) in created-s-took)))).here) c.own-1.given.0.0 c.own-1.given.0.1.0 = located-at (own_at _) _ (learn own_says c.own_envelope_at-own.ensures c.own-1.given.1) in envelope-read)).value c.own-1.given.0.1.0 = took _ _ (optional (group own_envelope)) (optional-lawful (group own_envelope) own_envelope-lawful) ((let by : Bytes (c.args.row.now) = typed (c.args.row.now) c.shared_slice_known-1.given in by)) ((let envelope-read : Located (own_at ((field-yes ((ask-yes (start).so (eq-eqb _ _ c.if-version-ne-BLOB_VERSION.false))).so ((let created-s-took : Took u64 (c.args.row.now) 0 c.created_s-1.given.0.0 c.created_s-1.given.0.1.0 = took _ _ u64 (number-lawful 8) ((let by : Bytes (c.args.row.now) = typed (c.args.row.now) c.shared_slice_known-1.given in by)) ((let created-s-read : read_at u64 (c.args.row.now) 0 ≡ takes c.created_s-1.given.0.0 c.created_s-1.given.0.1.0 = learn u64_says c.u64_at.ensures c.created_s-1.given.1 in created-s-read)) in created-s-took)))).here) (read_at (optional (group own_envelope)) (c.args.row.now) ((field-yes ((ask-yes (start).so (eq-eqb _ _ c.if-version-ne-BLOB_VERSION.false))).so ((let created-s-took : Took u64 (c.args.row.now) 0 c.created_s-1.given.0.0 c.created_s-1.given.0.1.0 = took _ _ u64 (number-lawful 8) ((let by : Bytes (c.args.row.now) = typed (c.args.row.now) c.shared_slice_known-1.given in by)) ((let created-s-read : read_at u64 (c.args.row.now) 0 ≡ takes c.created_s-1.given.0.0 c.created_s-1.given.0.1.0 = learn u64_says c.u64_at.ensures c.created_s-1.given.1 in created-s-read)) in created-s-took)))).here) c.own-1.given.0.0 c.own-1.given.0.1.0 = located-at (own_at _) _ (learn own_says c.own_envelope_at-own.ensures c.own-1.given.1) in envelope-read)).read in envelope-took)))).here c.gen_-1.given.0.0 c.gen_-1.given.0.1.0 = took _ _ u8 (number-lawful 1) ((let by : Bytes (c.args.row.now) = typed (c.args.row.now) c.shared_slice_known-1.given in by)) ((let gen-read : read_at u8 (c.args.row.now) ((field-yes ((field-yes ((ask-yes (start).so (eq-eqb _ _ c.if-version-ne-BLOB_VERSION.false))).so ((let created-s-took : Took u64 (c.args.row.now) 0 c.created_s-1.given.0.0 c.created_s-1.given.0.1.0 = took _ _ u64 (number-lawful 8) ((let by : Bytes (c.args.row.now) = typed (c.args.row.now) c.shared_slice_known-1.given in by)) ((let created-s-read : read_at u64 (c.args.row.now) 0 ≡ takes c.created_s-1.given.0.0 c.created_s-1.given.0.1.0 = learn u64_says c.u64_at.ensures c.created_s-1.given.1 in created-s-read)) in created-s-took)))).so ((let envelope-took : Took (optional (group own_envelope)) (c.args.row.now) ((field-yes ((ask-yes (start).so (eq-eqb _ _ c.if-version-ne-BLOB_VERSION.false))).so ((let created-s-took : Took u64 (c.args.row.now) 0 c.created_s-1.given.0.0 c.created_s-1.given.0.1.0 = took _ _ u64 (number-lawful 8) ((let by : Bytes (c.args.row.now) = typed (c.args.row.now) c.shared_slice_known-1.given in by)) ((let created-s-read : read_at u64 (c.args.row.now) 0 ≡ takes c.created_s-1.given.0.0 c.created_s-1.given.0.1.0 = learn u64_says c.u64_at.ensures c.created_s-1.given.1 in created-s-read)) in created-s-took)))).here ((let envelope-read : Located (own_at ((field-yes ((ask-yes (start).so (eq-eqb _ _ c.if-version-ne-BLOB_VERSION.false))).so ((let created-s-took : Took u64 (c.args.row.now) 0 c.created_s-1.given.0.0 c.created_s-1.given.0.1.0 = took _ _ u64 (number-lawful 8) ((let by : Bytes (c.args.row.now) = typed (c.args.row.now) c.shared_slice_known-1.given in by)) ((let created-s-read : read_at u64 (c.args.row.now) 0 ≡ takes c.created_s-1.given.0.0 c.created_s-1.given.0.1.0 = learn u64_says c.u64_at.ensures c.created_s-1.given.1 in created-s-read)) in created-s-took)))).here) (read_at (optional (group own_envelope)) (c.args.row.now) ((field-yes ((ask-yes (start).so (eq-eqb _ _ c.if-version-ne-BLOB_VERSION.false))).so ((let created-s-took : Took u64 (c.args.row.now) 0 c.created_s-1.given.0.0 c.created_s-1.given.0.1.0 = took _ _ u64 (number-lawful 8) ((let by : Bytes (c.args.row.now) = typed (c.args.row.now) c.shared_slice_known-1.given in by)) ((let created-s-read : read_at u64 (c.args.row.now) 0 ≡ takes c.created_s-1.given.0.0 c.created_s-1.given.0.1.0 = learn u64_says c.u64_at.ensures c.created_s-1.given.1 in created-s-read)) in created-s-took)))).here) c.own-1.given.0.0 c.own-1.given.0.1.0 = located-at (own_at _) _ (learn own_says c.own_envelope_at-own.ensures c.own-1.given.1) in envelope-read)).value c.own-1.given.0.1.0 = took _ _ (optional (group own_envelope)) (optional-lawful (group own_envelope) own_envelope-lawful) ((let by : Bytes (c.args.row.now) = typed (c.args.row.now) c.shared_slice_known-1.given in by)) ((let envelope-read : Located (own_at ((field-yes ((ask-yes (start).so (eq-eqb _ _ c.if-version-ne-BLOB_VERSION.false))).so ((let created-s-took : Took u64 (c.args.row.now) 0 c.created_s-1.given.0.0 c.created_s-1.given.0.1.0 = took _ _ u64 (number-lawful 8) ((let by : Bytes (c.args.row.now) = typed (c.args.row.now) c.shared_slice_known-1.given in by)) ((let created-s-read : read_at u64 (c.args.row.now) 0 ≡ takes c.created_s-1.given.0.0 c.created_s-1.given.0.1.0 = learn u64_says c.u64_at.ensures c.created_s-1.given.1 in created-s-read)) in created-s-took)))).here) (read_at (optional (group own_envelope)) (c.args.row.now) ((field-yes ((ask-yes (start).so (eq-eqb _ _ c.if-version-ne-BLOB_VERSION.false))).so ((let created-s-took : Took u64 (c.args.row.now) 0 c.created_s-1.given.0.0 c.created_s-1.given.0.1.0 = took _ _ u64 (number-lawful 8) ((let by : Bytes (c.args.row.now) = typed (c.args.row.now) c.shared_slice_known-1.given in by)) ((let created-s-read : read_at u64 (c.args.row.now) 0 ≡ takes c.created_s-1.given.0.0 c.created_s-1.given.0.1.0 = learn u64_says c.u64_at.ensures c.created_s-1.given.1 in created-s-read)) in created-s-took)))).here) c.own-1.given.0.0 c.own-1.given.0.1.0 = located-at (own_at _) _ (learn own_says c.own_envelope_at-own.ensures c.own-1.given.1) in envelope-read)).read in envelope-took)))).here ≡ takes c.gen_-1.given.0.0 c.gen_-1.given.0.1.0 = learn u8_says c.byte_at.ensures c.gen_-1.given.1 in gen-read)) in gen-took)))).here c.leb128-1.given.0.0 c.leb128-1.given.0.1.0 = took _ _ leb128 leb128-lawful ((let by : Bytes (c.args.row.now) = typed (c.args.row.now) c.shared_slice_known-1.given in by)) ((let idx-read : read_at leb128 (c.args.row.now) ((field-yes ((field-yes ((field-yes ((ask-yes (start).so (eq-eqb _ _ c.if-version-ne-BLOB_VERSION.false))).so ((let created-s-took : Took u64 (c.args.row.now) 0 c.created_s-1.given.0.0 c.created_s-1.given.0.1.0 = took _ _ u64 (number-lawful 8) ((let by : Bytes (c.args.row.now) = typed (c.args.row.now) c.shared_slice_known-1.given in by)) ((let created-s-read : read_at u64 (c.args.row.now) 0 ≡ takes c.created_s-1.given.0.0 c.created_s-1.given.0.1.0 = learn u64_says c.u64_at.ensures c.created_s-1.given.1 in created-s-read)) in created-s-took)))).so ((let envelope-took : Took (optional (group own_envelope)) (c.args.row.now) ((field-yes ((ask-yes (start).so (eq-eqb _ _ c.if-version-ne-BLOB_VERSION.false))).so ((let created-s-took : Took u64 (c.args.row.now) 0 c.created_s-1.given.0.0 c.created_s-1.given.0.1.0 = took _ _ u64 (number-lawful 8) ((let by : Bytes (c.args.row.now) = typed (c.args.row.now) c.shared_slice_known-1.given in by)) ((let created-s-read : read_at u64 (c.args.row.now) 0 ≡ takes c.created_s-1.given.0.0 c.created_s-1.given.0.1.0 = learn u64_says c.u64_at.ensures c.created_s-1.given.1 in created-s-read)) in created-s-took)))).here ((let envelope-read : Located (own_at ((field-yes ((ask-yes (start).so (eq-eqb _ _ c.if-version-ne-BLOB_VERSION.false))).so ((let created-s-took : Took u64 (c.args.row.now) 0 c.created_s-1.given.0.0 c.created_s-1.given.0.1.0 = took _ _ u64 (number-lawful 8) ((let by : Bytes (c.args.row.now) = typed (c.args.row.now) c.shared_slice_known-1.given in by)) ((let created-s-read : read_at u64 (c.args.row.now) 0 ≡ takes c.created_s-1.given.0.0 c.created_s-1.given.0.1.0 = learn u64_says c.u64_at.ensures c.created_s-1.given.1 in created-s-read)) in created-s-took)))).here) (read_at (optional (group own_envelope)) (c.args.row.now) ((field-yes ((ask-yes (start).so (eq-eqb _ _ c.if-version-ne-BLOB_VERSION.false))).so ((let created-s-took : Took u64 (c.args.row.now) 0 c.created_s-1.given.0.0 c.created_s-1.given.0.1.0 = took _ _ u64 (number-lawful 8) ((let by : Bytes (c.args.row.now) = typed (c.args.row.now) c.shared_slice_known-1.given in by)) ((let created-s-read : read_at u64 (c.args.row.now) 0 ≡ takes c.created_s-1.given.0.0 c.created_s-1.given.0.1.0 = learn u64_says c.u64_at.ensures c.created_s-1.given.1 in created-s-read)) in created-s-took)))).here) c.own-1.given.0.0 c.own-1.given.0.1.0 = located-at (own_at _) _ (learn own_says c.own_envelope_at-own.ensures c.own-1.given.1) in envelope-read)).value c.own-1.given.0.1.0 = took _ _ (optional (group own_envelope)) (optional-lawful (group own_envelope) own_envelope-lawful) ((let by : Bytes (c.args.row.now) = typed (c.args.row.now) c.shared_slice_known-1.given in by)) ((let envelope-read : Located (own_at ((field-yes ((ask-yes (start).so (eq-eqb _ _ c.if-version-ne-BLOB_VERSION.false))).so ((let created-s-took : Took u64 (c.args.row.now) 0 c.created_s-1.given.0.0 c.created_s-1.given.0.1.0 = took _ _ u64 (number-lawful 8) ((let by : Bytes (c.args.row.now) = typed (c.args.row.now) c.shared_slice_known-1.given in by)) ((let created-s-read : read_at u64 (c.args.row.now) 0 ≡ takes c.created_s-1.given.0.0 c.created_s-1.given.0.1.0 = learn u64_says c.u64_at.ensures c.created_s-1.given.1 in created-s-read)) in created-s-took)))).here) (read_at (optional (group own_envelope)) (c.args.row.now) ((field-yes ((ask-yes (start).so (eq-eqb _ _ c.if-version-ne-BLOB_VERSION.false))).so ((let created-s-took : Took u64 (c.args.row.now) 0 c.created_s-1.given.0.0 c.created_s-1.given.0.1.0 = took _ _ u64 (number-lawful 8) ((let by : Bytes (c.args.row.now) = typed (c.args.row.now) c.shared_slice_known-1.given in by)) ((let created-s-read : read_at u64 (c.args.row.now) 0 ≡ takes c.created_s-1.given.0.0 c.created_s-1.given.0.1.0 = learn u64_says c.u64_at.ensures c.created_s-1.given.1 in created-s-read)) in created-s-took)))).here) c.own-1.given.0.0 c.own-1.given.0.1.0 = located-at (own_at _) _ (learn own_says c.own_envelope_at-own.ensures c.own-1.given.1) in envelope-read)).read in envelope-took)))).so ((let gen-took : Took u8 (c.args.row.now) ((field-yes ((field-yes ((ask-yes (start).so (eq-eqb _ _ c.if-version-ne-BLOB_VERSION.false))).so ((let created-s-took : Took u64 (c.args.row.now) 0 c.created_s-1.given.0.0 c.created_s-1.given.0.1.0 = took _ _ u64 (number-lawful 8) ((let by : Bytes (c.args.row.now) = typed (c.args.row.now) c.shared_slice_known-1.given in by)) ((let created-s-read : read_at u64 (c.args.row.now) 0 ≡ takes c.created_s-1.given.0.0 c.created_s-1.given.0.1.0 = learn u64_says c.u64_at.ensures c.created_s-1.given.1 in created-s-read)) in created-s-took)))).so ((let envelope-took : Took (optional (group own_envelope)) (c.args.row.now) ((field-yes ((ask-yes (start).so (eq-eqb _ _ c.if-version-ne-BLOB_VERSION.false))).so ((let created-s-took : Took u64 (c.args.row.now) 0 c.created_s-1.given.0.0 c.created_s-1.given.0.1.0 = took _ _ u64 (number-lawful 8) ((let by : Bytes (c.args.row.now) = typed (c.args.row.now) c.shared_slice_known-1.given in by)) ((let created-s-read : read_at u64 (c.args.row.now) 0 ≡ takes c.created_s-1.given.0.0 c.created_s-1.given.0.1.0 = learn u64_says c.u64_at.ensures c.created_s-1.given.1 in created-s-read)) in created-s-took)))).here ((let envelope-read : Located (own_at ((field-yes ((ask-yes (start).so (eq-eqb _ _ c.if-version-ne-BLOB_VERSION.false))).so ((let created-s-took : Took u64 (c.args.row.now) 0 c.created_s-1.given.0.0 c.created_s-1.given.0.1.0 = took _ _ u64 (number-lawful 8) ((let by : Bytes (c.args.row.now) = typed (c.args.row.now) c.shared_slice_known-1.given in by)) ((let created-s-read : read_at u64 (c.args.row.now) 0 ≡ takes c.created_s-1.given.0.0 c.created_s-1.given.0.1.0 = learn u64_says c.u64_at.ensures c.created_s-1.given.1 in created-s-read)) in created-s-took)))).here) (read_at (optional (group own_envelope)) (c.args.row.now) ((field-yes ((ask-yes (start).so (eq-eqb _ _ c.if-version-ne-BLOB_VERSION.false))).so ((let created-s-took : Took u64 (c.args.row.now) 0 c.created_s-1.given.0.0 c.created_s-1.given.0.1.0 = took _ _ u64 (number-lawful 8) ((let by : Bytes (c.args.row.now) = typed (c.args.row.now) c.shared_slice_known-1.given in by)) ((let created-s-read : read_at u64 (c.args.row.now) 0 ≡ takes c.created_s-1.given.0.0 c.created_s-1.given.0.1.0 = learn u64_says c.u64_at.ensures c.created_s-1.given.1 in created-s-read)) in created-s-took)))).here) c.own-1.given.0.0 c.own-1.given.0.1.0 = located-at (own_at _) _ (learn own_says c.own_envelope_at-own.ensures c.own-1.given.1) in envelope-read)).value c.own-1.given.0.1.0 = took _ _ (optional (group own_envelope)) (optional-lawful (group own_envelope) own_envelope-lawful) ((let by : Bytes (c.args.row.now) = typed (c.args.row.now) c.shared_slice_known-1.given in by)) ((let envelope-read : Located (own_at ((field-yes ((ask-yes (start).so (eq-eqb _ _ c.if-version-ne-BLOB_VERSION.false))).so ((let created-s-took : Took u64 (c.args.row.now) 0 c.created_s-1.given.0.0 c.created_s-1.given.0.1.0 = took _ _ u64 (number-lawful 8) ((let by : Bytes (c.args.row.now) = typed (c.args.row.now) c.shared_slice_known-1.given in by)) ((let created-s-read : read_at u64 (c.args.row.now) 0 ≡ takes c.created_s-1.given.0.0 c.created_s-1.given.0.1.0 = learn u64_says c.u64_at.ensures c.created_s-1.given.1 in created-s-read)) in created-s-took)))).here) (read_at (optional (group own_envelope)) (c.args.row.now) ((field-yes ((ask-yes (start).so (eq-eqb _ _ c.if-version-ne-BLOB_VERSION.false))).so ((let created-s-took : Took u64 (c.args.row.now) 0 c.created_s-1.given.0.0 c.created_s-1.given.0.1.0 = took _ _ u64 (number-lawful 8) ((let by : Bytes (c.args.row.now) = typed (c.args.row.now) c.shared_slice_known-1.given in by)) ((let created-s-read : read_at u64 (c.args.row.now) 0 ≡ takes c.created_s-1.given.0.0 c.created_s-1.given.0.1.0 = learn u64_says c.u64_at.ensures c.created_s-1.given.1 in created-s-read)) in created-s-took)))).here) c.own-1.given.0.0 c.own-1.given.0.1.0 = located-at (own_at _) _ (learn own_says c.own_envelope_at-own.ensures c.own-1.given.1) in envelope-read)).read in envelope-took)))).here c.gen_-1.given.0.0 c.gen_-1.given.0.1.0 = took _ _ u8 (number-lawful 1) ((let by : Bytes (c.args.row.now) = typed (c.args.row.now) c.shared_slice_known-1.given in by)) ((let gen-read : read_at u8 (c.args.row.now) ((field-yes ((field-yes ((ask-yes (start).so (eq-eqb _ _ c.if-version-ne-BLOB_VERSION.false))).so ((let created-s-took : Took u64 (c.args.row.now) 0 c.created_s-1.given.0.0 c.created_s-1.given.0.1.0 = took _ _ u64 (number-lawful 8) ((let by : Bytes (c.args.row.now) = typed (c.args.row.now) c.shared_slice_known-1.given in by)) ((let created-s-read : read_at u64 (c.args.row.now) 0 ≡ takes c.created_s-1.given.0.0 c.created_s-1.given.0.1.0 = learn u64_says c.u64_at.ensures c.created_s-1.given.1 in created-s-read)) in created-s-took)))).so ((let envelope-took : Took (optional (group own_envelope)) (c.args.row.now) ((field-yes ((ask-yes (start).so (eq-eqb _ _ c.if-version-ne-BLOB_VERSION.false))).so ((let created-s-took : Took u64 (c.args.row.now) 0 c.created_s-1.given.0.0 c.created_s-1.given.0.1.0 = took _ _ u64 (number-lawful 8) ((let by : Bytes (c.args.row.now) = typed (c.args.row.now) c.shared_slice_known-1.given in by)) ((let created-s-read : read_at u64 (c.args.row.now) 0 ≡ takes c.created_s-1.given.0.0 c.created_s-1.given.0.1.0 = learn u64_says c.u64_at.ensures c.created_s-1.given.1 in created-s-read)) in created-s-took)))).here ((let envelope-read : Located (own_at ((field-yes ((ask-yes (start).so (eq-eqb _ _ c.if-version-ne-BLOB_VERSION.false))).so ((let created-s-took : Took u64 (c.args.row.now) 0 c.created_s-1.given.0.0 c.created_s-1.given.0.1.0 = took _ _ u64 (number-lawful 8) ((let by : Bytes (c.args.row.now) = typed (c.args.row.now) c.shared_slice_known-1.given in by)) ((let created-s-read : read_at u64 (c.args.row.now) 0 ≡ takes c.created_s-1.given.0.0 c.created_s-1.given.0.1.0 = learn u64_says c.u64_at.ensures c.created_s-1.given.1 in created-s-read)) in created-s-took)))).here) (read_at (optional (group own_envelope)) (c.args.row.now) ((field-yes ((ask-yes (start).so (eq-eqb _ _ c.if-version-ne-BLOB_VERSION.false))).so ((let created-s-took : Took u64 (c.args.row.now) 0 c.created_s-1.given.0.0 c.created_s-1.given.0.1.0 = took _ _ u64 (number-lawful 8) ((let by : Bytes (c.args.row.now) = typed (c.args.row.now) c.shared_slice_known-1.given in by)) ((let created-s-read : read_at u64 (c.args.row.now) 0 ≡ takes c.created_s-1.given.0.0 c.created_s-1.given.0.1.0 = learn u64_says c.u64_at.ensures c.created_s-1.given.1 in created-s-read)) in created-s-took)))).here) c.own-1.given.0.0 c.own-1.given.0.1.0 = located-at (own_at _) _ (learn own_says c.own_envelope_at-own.ensures c.own-1.given.1) in envelope-read)).value c.own-1.given.0.1.0 = took _ _ (optional (group own_envelope)) (optional-lawful (group own_envelope) own_envelope-lawful) ((let by : Bytes (c.args.row.now) = typed (c.args.row.now) c.shared_slice_known-1.given in by)) ((let envelope-read : Located (own_at ((field-yes ((ask-yes (start).so (eq-eqb _ _ c.if-version-ne-BLOB_VERSION.false))).so ((let created-s-took : Took u64 (c.args.row.now) 0 c.created_s-1.given.0.0 c.created_s-1.given.0.1.0 = took _ _ u64 (number-lawful 8) ((let by : Bytes (c.args.row.now) = typed (c.args.row.now) c.shared_slice_known-1.given in by)) ((let created-s-read : read_at u64 (c.args.row.now) 0 ≡ takes c.created_s-1.given.0.0 c.created_s-1.given.0.1.0 = learn u64_says c.u64_at.ensures c.created_s-1.given.1 in created-s-read)) in created-s-took)))).here) (read_at (optional (group own_envelope)) (c.args.row.now) ((field-yes ((ask-yes (start).so (eq-eqb _ _ c.if-version-ne-BLOB_VERSION.false))).so ((let created-s-took : Took u64 (c.args.row.now) 0 c.created_s-1.given.0.0 c.created_s-1.given.0.1.0 = took _ _ u64 (number-lawful 8) ((let by : Bytes (c.args.row.now) = typed (c.args.row.now) c.shared_slice_known-1.given in by)) ((let created-s-read : read_at u64 (c.args.row.now) 0 ≡ takes c.created_s-1.given.0.0 c.created_s-1.given.0.1.0 = learn u64_says c.u64_at.ensures c.created_s-1.given.1 in created-s-read)) in created-s-took)))).here) c.own-1.given.0.0 c.own-1.given.0.1.0 = located-at (own_at _) _ (learn own_says c.own_envelope_at-own.ensures c.own-1.given.1) in envelope-read)).read in envelope-took)))).here ≡ takes c.gen_-1.given.0.0 c.gen_-1.given.0.1.0 = learn u8_says c.byte_at.ensures c.gen_-1.given.1 in gen-read)) in gen-took)))).here ≡ takes c.leb128-1.given.0.0 c.leb128-1.given.0.1.0 = learn leb128_says c.leb128_at-leb128.ensures c.leb128-1.given.1 in idx-read)) in idx-took)))).so text).so (omega arith)).so) ∙ sym (ap (λ (x : Read Queued). checked c.args.version (answer x)) {v = its}))
-    (its-places c.args.version its
-    (omega (arith, (let created-s-next : c.created_s-1.given.0.1.0 ≡ 0 + length (u64.print c.created_s-1.given.0.0) = took-next _ _ u64 (number-lawful 8) ((let by : Bytes (c.args.row.now) = typed (c.args.row.now) c.shared_slice_known-1.given in by)) ((let created-s-read : read_at u64 (c.args.row.now) 0 ≡ takes c.created_s-1.given.0.0 c.created_s-1.given.0.1.0 = learn u64_says c.u64_at.ensures c.created_s-1.given.1 in created-s-read)) (omega arith) in created-s-next), (let envelope-next : c.own-1.given.0.1.0 ≡ ((field-yes ((ask-yes (start).so (eq-eqb _ _ c.if-version-ne-BLOB_VERSION.false))).so ((let created-s-took : Took u64 (c.args.row.now) 0 c.created_s-1.given.0.0 c.created_s-1.given.0.1.0 = took _ _ u64 (number-lawful 8) ((let by : Bytes (c.args.row.now) = typed (c.args.row.now) c.shared_slice_known-1.given in by)) ((let created-s-read : read_at u64 (c.args.row.now) 0 ≡ takes c.created_s-1.given.0.0 c.created_s-1.given.0.1.0 = learn u64_says c.u64_at.ensures c.created_s-1.given.1 in created-s-read)) in created-s-took)))).here + length ((optional (group own_envelope)).print ((let envelope-read : Located (own_at ((field-yes ((ask-yes (start).so (eq-eqb _ _ c.if-version-ne-BLOB_VERSION.false))).so ((let created-s-took : Took u64 (c.args.row.now) 0 c.created_s-1.given.0.0 c.created_s-1.given.0.1.0 = took _ _ u64 (number-lawful 8) ((let by : Bytes (c.args.row.now) = typed (c.args.row.now) c.shared_slice_known-1.given in by)) ((let created-s-read : read_at u64 (c.args.row.now) 0 ≡ takes c.created_s-1.given.0.0 c.created_s-1.given.0.1.0 = learn u64_says c.u64_at.ensures c.created_s-1.given.1 in created-s-read)) in created-s-took)))).here) (read_at (optional (group own_envelope)) (c.args.row.now) ((field-yes ((ask-yes (start).so (eq-eqb _ _ c.if-version-ne-BLOB_VERSION.false))).so ((let created-s-took : Took u64 (c.args.row.now) 0 c.created_s-1.given.0.0 c.created_s-1.given.0.1.0 = took _ _ u64 (number-lawful 8) ((let by : Bytes (c.args.row.now) = typed (c.args.row.now) c.shared_slice_known-1.given in by)) ((let created-s-read : read_at u64 (c.args.row.now) 0 ≡ takes c.created_s-1.given.0.0 c.created_s-1.given.0.1.0 = learn u64_says c.u64_at.ensures c.created_s-1.given.1 in created-s-read)) in created-s-took)))).here) c.own-1.given.0.0 c.own-1.given.0.1.0 = located-at (own_at _) _ (learn own_says c.own_envelope_at-own.ensures c.own-1.given.1) in envelope-read)).value) = took-next _ _ (optional (group own_envelope)) (optional-lawful (group own_envelope) own_envelope-lawful) ((let by : Bytes (c.args.row.now) = typed (c.args.row.now) c.shared_slice_known-1.given in by)) ((let envelope-read : Located (own_at ((field-yes ((ask-yes (start).so (eq-eqb _ _ c.if-version-ne-BLOB_VERSION.false))).so ((let created-s-took : Took u64 (c.args.row.now) 0 c.created_s-1.given.0.0 c.created_s-1.given.0.1.0 = took _ _ u64 (number-lawful 8) ((let by : Bytes (c.args.row.now) = typed (c.args.row.now) c.shared_slice_known-1.given in by)) ((let created-s-read : read_at u64 (c.args.row.now) 0 ≡ takes c.created_s-1.given.0.0 c.created_s-1.given.0.1.0 = learn u64_says c.u64_at.ensures c.created_s-1.given.1 in created-s-read)) in created-s-took)))).here) (read_at (optional (group own_envelope)) (c.args.row.now) ((field-yes ((ask-yes (start).so (eq-eqb _ _ c.if-version-ne-BLOB_VERSION.false))).so ((let created-s-took : Took u64 (c.args.row.now) 0 c.created_s-1.given.0.0 c.created_s-1.given.0.1.0 = took _ _ u64 (number-lawful 8) ((let by : Bytes (c.args.row.now) = typed (c.args.row.now) c.shared_slice_known-1.given in by)) ((let created-s-read : read_at u64 (c.args.row.now) 0 ≡ takes c.created_s-1.given.0.0 c.created_s-1.given.0.1.0 = learn u64_says c.u64_at.ensures c.created_s-1.given.1 in created-s-read)) in created-s-took)))).here) c.own-1.given.0.0 c.own-1.given.0.1.0 = located-at (own_at _) _ (learn own_says c.own_envelope_at-own.ensures c.own-1.given.1) in envelope-read)).read ((let created-s-took : Took u64 (c.args.row.now) 0 c.created_s-1.given.0.0 c.created_s-1.given.0.1.0 = took _ _ u64 (number-lawful 8) ((let by : Bytes (c.args.row.now) = typed (c.args.row.now) c.shared_slice_known-1.given in by)) ((let created-s-read : read_at u64 (c.args.row.now) 0 ≡ takes c.created_s-1.given.0.0 c.created_s-1.given.0.1.0 = learn u64_says c.u64_at.ensures c.created_s-1.given.1 in created-s-read)) in created-s-took)).inside in envelope-next), (let gen-next : c.gen_-1.given.0.1.0 ≡ ((field-yes ((field-yes ((ask-yes (start).so (eq-eqb _ _ c.if-version-ne-BLOB_VERSION.false))).so ((let created-s-took : Took u64 (c.args.row.now) 0 c.created_s-1.given.0.0 c.created_s-1.given.0.1.0 = took _ _ u64 (number-lawful 8) ((let by : Bytes (c.args.row.now) = typed (c.args.row.now) c.shared_slice_known-1.given in by)) ((let created-s-read : read_at u64 (c.args.row.now) 0 ≡ takes c.created_s-1.given.0.0 c.created_s-1.given.0.1.0 = learn u64_says c.u64_at.ensures c.created_s-1.given.1 in created-s-read)) in created-s-took)))).so ((let envelope-took : Took (optional (group own_envelope)) (c.args.row.now) ((field-yes ((ask-yes (start).so (eq-eqb _ _ c.if-version-ne-BLOB_VERSION.false))).so ((let created-s-took : Took u64 (c.args.row.now) 0 c.created_s-1.given.0.0 c.created_s-1.given.0.1.0 = took _ _ u64 (number-lawful 8) ((let by : Bytes (c.args.row.now) = typed (c.args.row.now) c.shared_slice_known-1.given in by)) ((let created-s-read : read_at u64 (c.args.row.now) 0 ≡ takes c.created_s-1.given.0.0 c.created_s-1.given.0.1.0 = learn u64_says c.u64_at.ensures c.created_s-1.given.1 in created-s-read)) in created-s-took)))).here ((let envelope-read : Located (own_at ((field-yes ((ask-yes (start).so (eq-eqb _ _ c.if-version-ne-BLOB_VERSION.false))).so ((let created-s-took : Took u64 (c.args.row.now) 0 c.created_s-1.given.0.0 c.created_s-1.given.0.1.0 = took _ _ u64 (number-lawful 8) ((let by : Bytes (c.args.row.now) = typed (c.args.row.now) c.shared_slice_known-1.given in by)) ((let created-s-read : read_at u64 (c.args.row.now) 0 ≡ takes c.created_s-1.given.0.0 c.created_s-1.given.0.1.0 = learn u64_says c.u64_at.ensures c.created_s-1.given.1 in created-s-read)) in created-s-took)))).here) (read_at (optional (group own_envelope)) (c.args.row.now) ((field-yes ((ask-yes (start).so (eq-eqb _ _ c.if-version-ne-BLOB_VERSION.false))).so ((let created-s-took : Took u64 (c.args.row.now) 0 c.created_s-1.given.0.0 c.created_s-1.given.0.1.0 = took _ _ u64 (number-lawful 8) ((let by : Bytes (c.args.row.now) = typed (c.args.row.now) c.shared_slice_known-1.given in by)) ((let created-s-read : read_at u64 (c.args.row.now) 0 ≡ takes c.created_s-1.given.0.0 c.created_s-1.given.0.1.0 = learn u64_says c.u64_at.ensures c.created_s-1.given.1 in created-s-read)) in created-s-took)))).here) c.own-1.given.0.0 c.own-1.given.0.1.0 = located-at (own_at _) _ (learn own_says c.own_envelope_at-own.ensures c.own-1.given.1) in envelope-read)).value c.own-1.given.0.1.0 = took _ _ (optional (group own_envelope)) (optional-lawful (group own_envelope) own_envelope-lawful) ((let by : Bytes (c.args.row.now) = typed (c.args.row.now) c.shared_slice_known-1.given in by)) ((let envelope-read : Located (own_at ((field-yes ((ask-yes (start).so (eq-eqb _ _ c.if-version-ne-BLOB_VERSION.false))).so ((let created-s-took : Took u64 (c.args.row.now) 0 c.created_s-1.given.0.0 c.created_s-1.given.0.1.0 = took _ _ u64 (number-lawful 8) ((let by : Bytes (c.args.row.now) = typed (c.args.row.now) c.shared_slice_known-1.given in by)) ((let created-s-read : read_at u64 (c.args.row.now) 0 ≡ takes c.created_s-1.given.0.0 c.created_s-1.given.0.1.0 = learn u64_says c.u64_at.ensures c.created_s-1.given.1 in created-s-read)) in created-s-took)))).here) (read_at (optional (group own_envelope)) (c.args.row.now) ((field-yes ((ask-yes (start).so (eq-eqb _ _ c.if-version-ne-BLOB_VERSION.false))).so ((let created-s-took : Took u64 (c.args.row.now) 0 c.created_s-1.given.0.0 c.created_s-1.given.0.1.0 = took _ _ u64 (number-lawful 8) ((let by : Bytes (c.args.row.now) = typed (c.args.row.now) c.shared_slice_known-1.given in by)) ((let created-s-read : read_at u64 (c.args.row.now) 0 ≡ takes c.created_s-1.given.0.0 c.created_s-1.given.0.1.0 = learn u64_says c.u64_at.ensures c.created_s-1.given.1 in created-s-read)) in created-s-took)))).here) c.own-1.given.0.0 c.own-1.given.0.1.0 = located-at (own_at _) _ (learn own_says c.own_envelope_at-own.ensures c.own-1.given.1) in envelope-read)).read in envelope-took)))).here + length (u8.print c.gen_-1.given.0.0) = took-next _ _ u8 (number-lawful 1) ((let by : Bytes (c.args.row.now) = typed (c.args.row.now) c.shared_slice_known-1.given in by)) ((let gen-read : read_at u8 (c.args.row.now) ((field-yes ((field-yes ((ask-yes (start).so (eq-eqb _ _ c.if-version-ne-BLOB_VERSION.false))).so ((let created-s-took : Took u64 (c.args.row.now) 0 c.created_s-1.given.0.0 c.created_s-1.given.0.1.0 = took _ _ u64 (number-lawful 8) ((let by : Bytes (c.args.row.now) = typed (c.args.row.now) c.shared_slice_known-1.given in by)) ((let created-s-read : read_at u64 (c.args.row.now) 0 ≡ takes c.created_s-1.given.0.0 c.created_s-1.given.0.1.0 = learn u64_says c.u64_at.ensures c.created_s-1.given.1 in created-s-read)) in created-s-took)))).so ((let envelope-took : Took (optional (group own_envelope)) (c.args.row.now) ((field-yes ((ask-yes (start).so (eq-eqb _ _ c.if-version-ne-BLOB_VERSION.false))).so ((let created-s-took : Took u64 (c.args.row.now) 0 c.created_s-1.given.0.0 c.created_s-1.given.0.1.0 = took _ _ u64 (number-lawful 8) ((let by : Bytes (c.args.row.now) = typed (c.args.row.now) c.shared_slice_known-1.given in by)) ((let created-s-read : read_at u64 (c.args.row.now) 0 ≡ takes c.created_s-1.given.0.0 c.created_s-1.given.0.1.0 = learn u64_says c.u64_at.ensures c.created_s-1.given.1 in created-s-read)) in created-s-took)))).here ((let envelope-read : Located (own_at ((field-yes ((ask-yes (start).so (eq-eqb _ _ c.if-version-ne-BLOB_VERSION.false))).so ((let created-s-took : Took u64 (c.args.row.now) 0 c.created_s-1.given.0.0 c.created_s-1.given.0.1.0 = took _ _ u64 (number-lawful 8) ((let by : Bytes (c.args.row.now) = typed (c.args.row.now) c.shared_slice_known-1.given in by)) ((let created-s-read : read_at u64 (c.args.row.now) 0 ≡ takes c.created_s-1.given.0.0 c.created_s-1.given.0.1.0 = learn u64_says c.u64_at.ensures c.created_s-1.given.1 in created-s-read)) in created-s-took)))).here) (read_at (optional (group own_envelope)) (c.args.row.now) ((field-yes ((ask-yes (start).so (eq-eqb _ _ c.if-version-ne-BLOB_VERSION.false))).so ((let created-s-took : Took u64 (c.args.row.now) 0 c.created_s-1.given.0.0 c.created_s-1.given.0.1.0 = took _ _ u64 (number-lawful 8) ((let by : Bytes (c.args.row.now) = typed (c.args.row.now) c.shared_slice_known-1.given in by)) ((let created-s-read : read_at u64 (c.args.row.now) 0 ≡ takes c.created_s-1.given.0.0 c.created_s-1.given.0.1.0 = learn u64_says c.u64_at.ensures c.created_s-1.given.1 in created-s-read)) in created-s-took)))).here) c.own-1.given.0.0 c.own-1.given.0.1.0 = located-at (own_at _) _ (learn own_says c.own_envelope_at-own.ensures c.own-1.given.1) in envelope-read)).value c.own-1.given.0.1.0 = took _ _ (optional (group own_envelope)) (optional-lawful (group own_envelope) own_envelope-lawful) ((let by : Bytes (c.args.row.now) = typed (c.args.row.now) c.shared_slice_known-1.given in by)) ((let envelope-read : Located (own_at ((field-yes ((ask-yes (start).so (eq-eqb _ _ c.if-version-ne-BLOB_VERSION.false))).so ((let created-s-took : Took u64 (c.args.row.now) 0 c.created_s-1.given.0.0 c.created_s-1.given.0.1.0 = took _ _ u64 (number-lawful 8) ((let by : Bytes (c.args.row.now) = typed (c.args.row.now) c.shared_slice_known-1.given in by)) ((let created-s-read : read_at u64 (c.args.row.now) 0 ≡ takes c.created_s-1.given.0.0 c.created_s-1.given.0.1.0 = learn u64_says c.u64_at.ensures c.created_s-1.given.1 in created-s-read)) in created-s-took)))).here) (read_at (optional (group own_envelope)) (c.args.row.now) ((field-yes ((ask-yes (start).so (eq-eqb _ _ c.if-version-ne-BLOB_VERSION.false))).so ((let created-s-took : Took u64 (c.args.row.now) 0 c.created_s-1.given.0.0 c.created_s-1.given.0.1.0 = took _ _ u64 (number-lawful 8) ((let by : Bytes (c.args.row.now) = typed (c.args.row.now) c.shared_slice_known-1.given in by)) ((let created-s-read : read_at u64 (c.args.row.now) 0 ≡ takes c.created_s-1.given.0.0 c.created_s-1.given.0.1.0 = learn u64_says c.u64_at.ensures c.created_s-1.given.1 in created-s-read)) in created-s-took)))).here) c.own-1.given.0.0 c.own-1.given.0.1.0 = located-at (own_at _) _ (learn own_says c.own_envelope_at-own.ensures c.own-1.given.1) in envelope-read)).read in envelope-took)))).here ≡ takes c.gen_-1.given.0.0 c.gen_-1.given.0.1.0 = learn u8_says c.byte_at.ensures c.gen_-1.given.1 in gen-read)) ((let envelope-took : Took (optional (group own_envelope)) (c.args.row.now) ((field-yes ((ask-yes (start).so (eq-eqb _ _ c.if-version-ne-BLOB_VERSION.false))).so ((let created-s-took : Took u64 (c.args.row.now) 0 c.created_s-1.given.0.0 c.created_s-1.given.0.1.0 = took _ _ u64 (number-lawful 8) ((let by : Bytes (c.args.row.now) = typed (c.args.row.now) c.shared_slice_known-1.given in by)) ((let created-s-read : read_at u64 (c.args.row.now) 0 ≡ takes c.created_s-1.given.0.0 c.created_s-1.given.0.1.0 = learn u64_says c.u64_at.ensures c.created_s-1.given.1 in created-s-read)) in created-s-took)))).here ((let envelope-read : Located (own_at ((field-yes ((ask-yes (start).so (eq-eqb _ _ c.if-version-ne-BLOB_VERSION.false))).so ((let created-s-took : Took u64 (c.args.row.now) 0 c.created_s-1.given.0.0 c.created_s-1.given.0.1.0 = took _ _ u64 (number-lawful 8) ((let by : Bytes (c.args.row.now) = typed (c.args.row.now) c.shared_slice_known-1.given in by)) ((let created-s-read : read_at u64 (c.args.row.now) 0 ≡ takes c.created_s-1.given.0.0 c.created_s-1.given.0.1.0 = learn u64_says c.u64_at.ensures c.created_s-1.given.1 in created-s-read)) in created-s-took)))).here) (read_at (optional (group own_envelope)) (c.args.row.now) ((field-yes ((ask-yes (start).so (eq-eqb _ _ c.if-version-ne-BLOB_VERSION.false))).so ((let created-s-took : Took u64 (c.args.row.now) 0 c.created_s-1.given.0.0 c.created_s-1.given.0.1.0 = took _ _ u64 (number-lawful 8) ((let by : Bytes (c.args.row.now) = typed (c.args.row.now) c.shared_slice_known-1.given in by)) ((let created-s-read : read_at u64 (c.args.row.now) 0 ≡ takes c.created_s-1.given.0.0 c.created_s-1.given.0.1.0 = learn u64_says c.u64_at.ensures c.created_s-1.given.1 in created-s-read)) in created-s-took)))).here) c.own-1.given.0.0 c.own-1.given.0.1.0 = located-at (own_at _) _ (learn own_says c.own_envelope_at-own.ensures c.own-1.given.1) in envelope-read)).value c.own-1.given.0.1.0 = took _ _ (optional (group own_envelope)) (optional-lawful (group own_envelope) own_envelope-lawful) ((let by : Bytes (c.args.row.now) = typed (c.args.row.now) c.shared_slice_known-1.given in by)) ((let envelope-read : Located (own_at ((field-yes ((ask-yes (start).so (eq-eqb _ _ c.if-version-ne-BLOB_VERSION.false))).so ((let created-s-took : Took u64 (c.args.row.now) 0 c.created_s-1.given.0.0 c.created_s-1.given.0.1.0 = took _ _ u64 (number-lawful 8) ((let by : Bytes (c.args.row.now) = typed (c.args.row.now) c.shared_slice_known-1.given in by)) ((let created-s-read : read_at u64 (c.args.row.now) 0 ≡ takes c.created_s-1.given.0.0 c.created_s-1.given.0.1.0 = learn u64_says c.u64_at.ensures c.created_s-1.given.1 in created-s-read)) in created-s-took)))).here) (read_at (optional (group own_envelope)) (c.args.row.now) ((field-yes ((ask-yes (start).so (eq-eqb _ _ c.if-version-ne-BLOB_VERSION.false))).so ((let created-s-took : Took u64 (c.args.row.now) 0 c.created_s-1.given.0.0 c.created_s-1.given.0.1.0 = took _ _ u64 (number-lawful 8) ((let by : Bytes (c.args.row.now) = typed (c.args.row.now) c.shared_slice_known-1.given in by)) ((let created-s-read : read_at u64 (c.args.row.now) 0 ≡ takes c.created_s-1.given.0.0 c.created_s-1.given.0.1.0 = learn u64_says c.u64_at.ensures c.created_s-1.given.1 in created-s-read)) in created-s-took)))).here) c.own-1.given.0.0 c.own-1.given.0.1.0 = located-at (own_at _) _ (learn own_says c.own_envelope_at-own.ensures c.own-1.given.1) in envelope-read)).read in envelope-took)).inside in gen-next), (let idx-next : c.leb128-1.given.0.1.0 ≡ ((field-yes ((field-yes ((field-yes ((ask-yes (start).so (eq-eqb _ _ c.if-version-ne-BLOB_VERSION.false))).so ((let created-s-took : Took u64 (c.args.row.now) 0 c.created_s-1.given.0.0 c.created_s-1.given.0.1.0 = took _ _ u64 (number-lawful 8) ((let by : Bytes (c.args.row.now) = typed (c.args.row.now) c.shared_slice_known-1.given in by)) ((let created-s-read : read_at u64 (c.args.row.now) 0 ≡ takes c.created_s-1.given.0.0 c.created_s-1.given.0.1.0 = learn u64_says c.u64_at.ensures c.created_s-1.given.1 in created-s-read)) in created-s-took)))).so ((let envelope-took : Took (optional (group own_envelope)) (c.args.row.now) ((field-yes ((ask-yes (start).so (eq-eqb _ _ c.if-version-ne-BLOB_VERSION.false))).so ((let created-s-took : Took u64 (c.args.row.now) 0 c.created_s-1.given.0.0 c.created_s-1.given.0.1.0 = took _ _ u64 (number-lawful 8) ((let by : Bytes (c.args.row.now) = typed (c.args.row.now) c.shared_slice_known-1.given in by)) ((let created-s-read : read_at u64 (c.args.row.now) 0 ≡ takes c.created_s-1.given.0.0 c.created_s-1.given.0.1.0 = learn u64_says c.u64_at.ensures c.created_s-1.given.1 in created-s-read)) in created-s-took)))).here ((let envelope-read : Located (own_at ((field-yes ((ask-yes (start).so (eq-eqb _ _ c.if-version-ne-BLOB_VERSION.false))).so ((let created-s-took : Took u64 (c.args.row.now) 0 c.created_s-1.given.0.0 c.created_s-1.given.0.1.0 = took _ _ u64 (number-lawful 8) ((let by : Bytes (c.args.row.now) = typed (c.args.row.now) c.shared_slice_known-1.given in by)) ((let created-s-read : read_at u64 (c.args.row.now) 0 ≡ takes c.created_s-1.given.0.0 c.created_s-1.given.0.1.0 = learn u64_says c.u64_at.ensures c.created_s-1.given.1 in created-s-read)) in created-s-took)))).here) (read_at (optional (group own_envelope)) (c.args.row.now) ((field-yes ((ask-yes (start).so (eq-eqb _ _ c.if-version-ne-BLOB_VERSION.false))).so ((let created-s-took : Took u64 (c.args.row.now) 0 c.created_s-1.given.0.0 c.created_s-1.given.0.1.0 = took _ _ u64 (number-lawful 8) ((let by : Bytes (c.args.row.now) = typed (c.args.row.now) c.shared_slice_known-1.given in by)) ((let created-s-read : read_at u64 (c.args.row.now) 0 ≡ takes c.created_s-1.given.0.0 c.created_s-1.given.0.1.0 = learn u64_says c.u64_at.ensures c.created_s-1.given.1 in created-s-read)) in created-s-took)))).here) c.own-1.given.0.0 c.own-1.given.0.1.0 = located-at (own_at _) _ (learn own_says c.own_envelope_at-own.ensures c.own-1.given.1) in envelope-read)).value c.own-1.given.0.1.0 = took _ _ (optional (group own_envelope)) (optional-lawful (group own_envelope) own_envelope-lawful) ((let by : Bytes (c.args.row.now) = typed (c.args.row.now) c.shared_slice_known-1.given in by)) ((let envelope-read : Located (own_at ((field-yes ((ask-yes (start).so (eq-eqb _ _ c.if-version-ne-BLOB_VERSION.false))).so ((let created-s-took : Took u64 (c.args.row.now) 0 c.created_s-1.given.0.0 c.created_s-1.given.0.1.0 = took _ _ u64 (number-lawful 8) ((let by : Bytes (c.args.row.now) = typed (c.args.row.now) c.shared_slice_known-1.given in by)) ((let created-s-read : read_at u64 (c.args.row.now) 0 ≡ takes c.created_s-1.given.0.0 c.created_s-1.given.0.1.0 = learn u64_says c.u64_at.ensures c.created_s-1.given.1 in created-s-read)) in created-s-took)))).here) (read_at (optional (group own_envelope)) (c.args.row.now) ((field-yes ((ask-yes (start).so (eq-eqb _ _ c.if-version-ne-BLOB_VERSION.false))).so ((let created-s-took : Took u64 (c.args.row.now) 0 c.created_s-1.given.0.0 c.created_s-1.given.0.1.0 = took _ _ u64 (number-lawful 8) ((let by : Bytes (c.args.row.now) = typed (c.args.row.now) c.shared_slice_known-1.given in by)) ((let created-s-read : read_at u64 (c.args.row.now) 0 ≡ takes c.created_s-1.given.0.0 c.created_s-1.given.0.1.0 = learn u64_says c.u64_at.ensures c.created_s-1.given.1 in created-s-read)) in created-s-took)))).here) c.own-1.given.0.0 c.own-1.given.0.1.0 = located-at (own_at _) _ (learn own_says c.own_envelope_at-own.ensures c.own-1.given.1) in envelope-read)).read in envelope-took)))).so ((let gen-took : Took u8 (c.args.row.now) ((field-yes ((field-yes ((ask-yes (start).so (eq-eqb _ _ c.if-version-ne-BLOB_VERSION.false))).so ((let created-s-took : Took u64 (c.args.row.now) 0 c.created_s-1.given.0.0 c.created_s-1.given.0.1.0 = took _ _ u64 (number-lawful 8) ((let by : Bytes (c.args.row.now) = typed (c.args.row.now) c.shared_slice_known-1.given in by)) ((let created-s-read : read_at u64 (c.args.row.now) 0 ≡ takes c.created_s-1.given.0.0 c.created_s-1.given.0.1.0 = learn u64_says c.u64_at.ensures c.created_s-1.given.1 in created-s-read)) in created-s-took)))).so ((let envelope-took : Took (optional (group own_envelope)) (c.args.row.now) ((field-yes ((ask-yes (start).so (eq-eqb _ _ c.if-version-ne-BLOB_VERSION.false))).so ((let created-s-took : Took u64 (c.args.row.now) 0 c.created_s-1.given.0.0 c.created_s-1.given.0.1.0 = took _ _ u64 (number-lawful 8) ((let by : Bytes (c.args.row.now) = typed (c.args.row.now) c.shared_slice_known-1.given in by)) ((let created-s-read : read_at u64 (c.args.row.now) 0 ≡ takes c.created_s-1.given.0.0 c.created_s-1.given.0.1.0 = learn u64_says c.u64_at.ensures c.created_s-1.given.1 in created-s-read)) in created-s-took)))).here ((let envelope-read : Located (own_at ((field-yes ((ask-yes (start).so (eq-eqb _ _ c.if-version-ne-BLOB_VERSION.false))).so ((let created-s-took : Took u64 (c.args.row.now) 0 c.created_s-1.given.0.0 c.created_s-1.given.0.1.0 = took _ _ u64 (number-lawful 8) ((let by : Bytes (c.args.row.now) = typed (c.args.row.now) c.shared_slice_known-1.given in by)) ((let created-s-read : read_at u64 (c.args.row.now) 0 ≡ takes c.created_s-1.given.0.0 c.created_s-1.given.0.1.0 = learn u64_says c.u64_at.ensures c.created_s-1.given.1 in created-s-read)) in created-s-took)))).here) (read_at (optional (group own_envelope)) (c.args.row.now) ((field-yes ((ask-yes (start).so (eq-eqb _ _ c.if-version-ne-BLOB_VERSION.false))).so ((let created-s-took : Took u64 (c.args.row.now) 0 c.created_s-1.given.0.0 c.created_s-1.given.0.1.0 = took _ _ u64 (number-lawful 8) ((let by : Bytes (c.args.row.now) = typed (c.args.row.now) c.shared_slice_known-1.given in by)) ((let created-s-read : read_at u64 (c.args.row.now) 0 ≡ takes c.created_s-1.given.0.0 c.created_s-1.given.0.1.0 = learn u64_says c.u64_at.ensures c.created_s-1.given.1 in created-s-read)) in created-s-took)))).here) c.own-1.given.0.0 c.own-1.given.0.1.0 = located-at (own_at _) _ (learn own_says c.own_envelope_at-own.ensures c.own-1.given.1) in envelope-read)).value c.own-1.given.0.1.0 = took _ _ (optional (group own_envelope)) (optional-lawful (group own_envelope) own_envelope-lawful) ((let by : Bytes (c.args.row.now) = typed (c.args.row.now) c.shared_slice_known-1.given in by)) ((let envelope-read : Located (own_at ((field-yes ((ask-yes (start).so (eq-eqb _ _ c.if-version-ne-BLOB_VERSION.false))).so ((let created-s-took : Took u64 (c.args.row.now) 0 c.created_s-1.given.0.0 c.created_s-1.given.0.1.0 = took _ _ u64 (number-lawful 8) ((let by : Bytes (c.args.row.now) = typed (c.args.row.now) c.shared_slice_known-1.given in by)) ((let created-s-read : read_at u64 (c.args.row.now) 0 ≡ takes c.created_s-1.given.0.0 c.created_s-1.given.0.1.0 = learn u64_says c.u64_at.ensures c.created_s-1.given.1 in created-s-read)) in created-s-took)))).here) (read_at (optional (group own_envelope)) (c.args.row.now) ((field-yes ((ask-yes (start).so (eq-eqb _ _ c.if-version-ne-BLOB_VERSION.false))).so ((let created-s-took : Took u64 (c.args.row.now) 0 c.created_s-1.given.0.0 c.created_s-1.given.0.1.0 = took _ _ u64 (number-lawful 8) ((let by : Bytes (c.args.row.now) = typed (c.args.row.now) c.shared_slice_known-1.given in by)) ((let created-s-read : read_at u64 (c.args.row.now) 0 ≡ takes c.created_s-1.given.0.0 c.created_s-1.given.0.1.0 = learn u64_says c.u64_at.ensures c.created_s-1.given.1 in created-s-read)) in created-s-took)))).here) c.own-1.given.0.0 c.own-1.given.0.1.0 = located-at (own_at _) _ (learn own_says c.own_envelope_at-own.ensures c.own-1.given.1) in envelope-read)).read in envelope-took)))).here c.gen_-1.given.0.0 c.gen_-1.given.0.1.0 = took _ _ u8 (number-lawful 1) ((let by : Bytes (c.args.row.now) = typed (c.args.row.now) c.shared_slice_known-1.given in by)) ((let gen-read : read_at u8 (c.args.row.now) ((field-yes ((field-yes ((ask-yes (start).so (eq-eqb _ _ c.if-version-ne-BLOB_VERSION.false))).so ((let created-s-took : Took u64 (c.args.row.now) 0 c.created_s-1.given.0.0 c.created_s-1.given.0.1.0 = took _ _ u64 (number-lawful 8) ((let by : Bytes (c.args.row.now) = typed (c.args.row.now) c.shared_slice_known-1.given in by)) ((let created-s-read : read_at u64 (c.args.row.now) 0 ≡ takes c.created_s-1.given.0.0 c.created_s-1.given.0.1.0 = learn u64_says c.u64_at.ensures c.created_s-1.given.1 in created-s-read)) in created-s-took)))).so ((let envelope-took : Took (optional (group own_envelope)) (c.args.row.now) ((field-yes ((ask-yes (start).so (eq-eqb _ _ c.if-version-ne-BLOB_VERSION.false))).so ((let created-s-took : Took u64 (c.args.row.now) 0 c.created_s-1.given.0.0 c.created_s-1.given.0.1.0 = took _ _ u64 (number-lawful 8) ((let by : Bytes (c.args.row.now) = typed (c.args.row.now) c.shared_slice_known-1.given in by)) ((let created-s-read : read_at u64 (c.args.row.now) 0 ≡ takes c.created_s-1.given.0.0 c.created_s-1.given.0.1.0 = learn u64_says c.u64_at.ensures c.created_s-1.given.1 in created-s-read)) in created-s-took)))).here ((let envelope-read : Located (own_at ((field-yes ((ask-yes (start).so (eq-eqb _ _ c.if-version-ne-BLOB_VERSION.false))).so ((let created-s-took : Took u64 (c.args.row.now) 0 c.created_s-1.given.0.0 c.created_s-1.given.0.1.0 = took _ _ u64 (number-lawful 8) ((let by : Bytes (c.args.row.now) = typed (c.args.row.now) c.shared_slice_known-1.given in by)) ((let created-s-read : read_at u64 (c.args.row.now) 0 ≡ takes c.created_s-1.given.0.0 c.created_s-1.given.0.1.0 = learn u64_says c.u64_at.ensures c.created_s-1.given.1 in created-s-read)) in created-s-took)))).here) (read_at (optional (group own_envelope)) (c.args.row.now) ((field-yes ((ask-yes (start).so (eq-eqb _ _ c.if-version-ne-BLOB_VERSION.false))).so ((let created-s-took : Took u64 (c.args.row.now) 0 c.created_s-1.given.0.0 c.created_s-1.given.0.1.0 = took _ _ u64 (number-lawful 8) ((let by : Bytes (c.args.row.now) = typed (c.args.row.now) c.shared_slice_known-1.given in by)) ((let created-s-read : read_at u64 (c.args.row.now) 0 ≡ takes c.created_s-1.given.0.0 c.created_s-1.given.0.1.0 = learn u64_says c.u64_at.ensures c.created_s-1.given.1 in created-s-read)) in created-s-took)))).here) c.own-1.given.0.0 c.own-1.given.0.1.0 = located-at (own_at _) _ (learn own_says c.own_envelope_at-own.ensures c.own-1.given.1) in envelope-read)).value c.own-1.given.0.1.0 = took _ _ (optional (group own_envelope)) (optional-lawful (group own_envelope) own_envelope-lawful) ((let by : Bytes (c.args.row.now) = typed (c.args.row.now) c.shared_slice_known-1.given in by)) ((let envelope-read : Located (own_at ((field-yes ((ask-yes (start).so (eq-eqb _ _ c.if-version-ne-BLOB_VERSION.false))).so ((let created-s-took : Took u64 (c.args.row.now) 0 c.created_s-1.given.0.0 c.created_s-1.given.0.1.0 = took _ _ u64 (number-lawful 8) ((let by : Bytes (c.args.row.now) = typed (c.args.row.now) c.shared_slice_known-1.given in by)) ((let created-s-read : read_at u64 (c.args.row.now) 0 ≡ takes c.created_s-1.given.0.0 c.created_s-1.given.0.1.0 = learn u64_says c.u64_at.ensures c.created_s-1.given.1 in created-s-read)) in created-s-took)))).here) (read_at (optional (group own_envelope)) (c.args.row.now) ((field-yes ((ask-yes (start).so (eq-eqb _ _ c.if-version-ne-BLOB_VERSION.false))).so ((let created-s-took : Took u64 (c.args.row.now) 0 c.created_s-1.given.0.0 c.created_s-1.given.0.1.0 = took _ _ u64 (number-lawful 8) ((let by : Bytes (c.args.row.now) = typed (c.args.row.now) c.shared_slice_known-1.given in by)) ((let created-s-read : read_at u64 (c.args.row.now) 0 ≡ takes c.created_s-1.given.0.0 c.created_s-1.given.0.1.0 = learn u64_says c.u64_at.ensures c.created_s-1.given.1 in created-s-read)) in created-s-took)))).here) c.own-1.given.0.0 c.own-1.given.0.1.0 = located-at (own_at _) _ (learn own_says c.own_envelope_at-own.ensures c.own-1.given.1) in envelope-read)).read in envelope-took)))).here ≡ takes c.gen_-1.given.0.0 c.gen_-1.given.0.1.0 = learn u8_says c.byte_at.ensures c.gen_-1.given.1 in gen-read)) in gen-took)))).here + length (leb128.print c.leb128-1.given.0.0) = took-next _ _ leb128 leb128-lawful ((let by : Bytes (c.args.row.now) = typed (c.args.row.now) c.shared_slice_known-1.given in by)) ((let idx-read : read_at leb128 (c.args.row.now) ((field-yes ((field-yes ((field-yes ((ask-yes (start).so (eq-eqb _ _ c.if-version-ne-BLOB_VERSION.false))).so ((let created-s-took : Took u64 (c.args.row.now) 0 c.created_s-1.given.0.0 c.created_s-1.given.0.1.0 = took _ _ u64 (number-lawful 8) ((let by : Bytes (c.args.row.now) = typed (c.args.row.now) c.shared_slice_known-1.given in by)) ((let created-s-read : read_at u64 (c.args.row.now) 0 ≡ takes c.created_s-1.given.0.0 c.created_s-1.given.0.1.0 = learn u64_says c.u64_at.ensures c.created_s-1.given.1 in created-s-read)) in created-s-took)))).so ((let envelope-took : Took (optional (group own_envelope)) (c.args.row.now) ((field-yes ((ask-yes (start).so (eq-eqb _ _ c.if-version-ne-BLOB_VERSION.false))).so ((let created-s-took : Took u64 (c.args.row.now) 0 c.created_s-1.given.0.0 c.created_s-1.given.0.1.0 = took _ _ u64 (number-lawful 8) ((let by : Bytes (c.args.row.now) = typed (c.args.row.now) c.shared_slice_known-1.given in by)) ((let created-s-read : read_at u64 (c.args.row.now) 0 ≡ takes c.created_s-1.given.0.0 c.created_s-1.given.0.1.0 = learn u64_says c.u64_at.ensures c.created_s-1.given.1 in created-s-read)) in created-s-took)))).here ((let envelope-read : Located (own_at ((field-yes ((ask-yes (start).so (eq-eqb _ _ c.if-version-ne-BLOB_VERSION.false))).so ((let created-s-took : Took u64 (c.args.row.now) 0 c.created_s-1.given.0.0 c.created_s-1.given.0.1.0 = took _ _ u64 (number-lawful 8) ((let by : Bytes (c.args.row.now) = typed (c.args.row.now) c.shared_slice_known-1.given in by)) ((let created-s-read : read_at u64 (c.args.row.now) 0 ≡ takes c.created_s-1.given.0.0 c.created_s-1.given.0.1.0 = learn u64_says c.u64_at.ensures c.created_s-1.given.1 in created-s-read)) in created-s-took)))).here) (read_at (optional (group own_envelope)) (c.args.row.now) ((field-yes ((ask-yes (start).so (eq-eqb _ _ c.if-version-ne-BLOB_VERSION.false))).so ((let created-s-took : Took u64 (c.args.row.now) 0 c.created_s-1.given.0.0 c.created_s-1.given.0.1.0 = took _ _ u64 (number-lawful 8) ((let by : Bytes (c.args.row.now) = typed (c.args.row.now) c.shared_slice_known-1.given in by)) ((let created-s-read : read_at u64 (c.args.row.now) 0 ≡ takes c.created_s-1.given.0.0 c.created_s-1.given.0.1.0 = learn u64_says c.u64_at.ensures c.created_s-1.given.1 in created-s-read)) in created-s-took)))).here) c.own-1.given.0.0 c.own-1.given.0.1.0 = located-at (own_at _) _ (learn own_says c.own_envelope_at-own.ensures c.own-1.given.1) in envelope-read)).value c.own-1.given.0.1.0 = took _ _ (optional (group own_envelope)) (optional-lawful (group own_envelope) own_envelope-lawful) ((let by : Bytes (c.args.row.now) = typed (c.args.row.now) c.shared_slice_known-1.given in by)) ((let envelope-read : Located (own_at ((field-yes ((ask-yes (start).so (eq-eqb _ _ c.if-version-ne-BLOB_VERSION.false))).so ((let created-s-took : Took u64 (c.args.row.now) 0 c.created_s-1.given.0.0 c.created_s-1.given.0.1.0 = took _ _ u64 (number-lawful 8) ((let by : Bytes (c.args.row.now) = typed (c.args.row.now) c.shared_slice_known-1.given in by)) ((let created-s-read : read_at u64 (c.args.row.now) 0 ≡ takes c.created_s-1.given.0.0 c.created_s-1.given.0.1.0 = learn u64_says c.u64_at.ensures c.created_s-1.given.1 in created-s-read)) in created-s-took)))).here) (read_at (optional (group own_envelope)) (c.args.row.now) ((field-yes ((ask-yes (start).so (eq-eqb _ _ c.if-version-ne-BLOB_VERSION.false))).so ((let created-s-took : Took u64 (c.args.row.now) 0 c.created_s-1.given.0.0 c.created_s-1.given.0.1.0 = took _ _ u64 (number-lawful 8) ((let by : Bytes (c.args.row.now) = typed (c.args.row.now) c.shared_slice_known-1.given in by)) ((let created-s-read : read_at u64 (c.args.row.now) 0 ≡ takes c.created_s-1.given.0.0 c.created_s-1.given.0.1.0 = learn u64_says c.u64_at.ensures c.created_s-1.given.1 in created-s-read)) in created-s-took)))).here) c.own-1.given.0.0 c.own-1.given.0.1.0 = located-at (own_at _) _ (learn own_says c.own_envelope_at-own.ensures c.own-1.given.1) in envelope-read)).read in envelope-took)))).so ((let gen-took : Took u8 (c.args.row.now) ((field-yes ((field-yes ((ask-yes (start).so (eq-eqb _ _ c.if-version-ne-BLOB_VERSION.false))).so ((let created-s-took : Took u64 (c.args.row.now) 0 c.created_s-1.given.0.0 c.created_s-1.given.0.1.0 = took _ _ u64 (number-lawful 8) ((let by : Bytes (c.args.row.now) = typed (c.args.row.now) c.shared_slice_known-1.given in by)) ((let created-s-read : read_at u64 (c.args.row.now) 0 ≡ takes c.created_s-1.given.0.0 c.created_s-1.given.0.1.0 = learn u64_says c.u64_at.ensures c.created_s-1.given.1 in created-s-read)) in created-s-took)))).so ((let envelope-took : Took (optional (group own_envelope)) (c.args.row.now) ((field-yes ((ask-yes (start).so (eq-eqb _ _ c.if-version-ne-BLOB_VERSION.false))).so ((let created-s-took : Took u64 (c.args.row.now) 0 c.created_s-1.given.0.0 c.created_s-1.given.0.1.0 = took _ _ u64 (number-lawful 8) ((let by : Bytes (c.args.row.now) = typed (c.args.row.now) c.shared_slice_known-1.given in by)) ((let created-s-read : read_at u64 (c.args.row.now) 0 ≡ takes c.created_s-1.given.0.0 c.created_s-1.given.0.1.0 = learn u64_says c.u64_at.ensures c.created_s-1.given.1 in created-s-read)) in created-s-took)))).here ((let envelope-read : Located (own_at ((field-yes ((ask-yes (start).so (eq-eqb _ _ c.if-version-ne-BLOB_VERSION.false))).so ((let created-s-took : Took u64 (c.args.row.now) 0 c.created_s-1.given.0.0 c.created_s-1.given.0.1.0 = took _ _ u64 (number-lawful 8) ((let by : Bytes (c.args.row.now) = typed (c.args.row.now) c.shared_slice_known-1.given in by)) ((let created-s-read : read_at u64 (c.args.row.now) 0 ≡ takes c.created_s-1.given.0.0 c.created_s-1.given.0.1.0 = learn u64_says c.u64_at.ensures c.created_s-1.given.1 in created-s-read)) in created-s-took)))).here) (read_at (optional (group own_envelope)) (c.args.row.now) ((field-yes ((ask-yes (start).so (eq-eqb _ _ c.if-version-ne-BLOB_VERSION.false))).so ((let created-s-took : Took u64 (c.args.row.now) 0 c.created_s-1.given.0.0 c.created_s-1.given.0.1.0 = took _ _ u64 (number-lawful 8) ((let by : Bytes (c.args.row.now) = typed (c.args.row.now) c.shared_slice_known-1.given in by)) ((let created-s-read : read_at u64 (c.args.row.now) 0 ≡ takes c.created_s-1.given.0.0 c.created_s-1.given.0.1.0 = learn u64_says c.u64_at.ensures c.created_s-1.given.1 in created-s-read)) in created-s-took)))).here) c.own-1.given.0.0 c.own-1.given.0.1.0 = located-at (own_at _) _ (learn own_says c.own_envelope_at-own.ensures c.own-1.given.1) in envelope-read)).value c.own-1.given.0.1.0 = took _ _ (optional (group own_envelope)) (optional-lawful (group own_envelope) own_envelope-lawful) ((let by : Bytes (c.args.row.now) = typed (c.args.row.now) c.shared_slice_known-1.given in by)) ((let envelope-read : Located (own_at ((field-yes ((ask-yes (start).so (eq-eqb _ _ c.if-version-ne-BLOB_VERSION.false))).so ((let created-s-took : Took u64 (c.args.row.now) 0 c.created_s-1.given.0.0 c.created_s-1.given.0.1.0 = took _ _ u64 (number-lawful 8) ((let by : Bytes (c.args.row.now) = typed (c.args.row.now) c.shared_slice_known-1.given in by)) ((let created-s-read : read_at u64 (c.args.row.now) 0 ≡ takes c.created_s-1.given.0.0 c.created_s-1.given.0.1.0 = learn u64_says c.u64_at.ensures c.created_s-1.given.1 in created-s-read)) in created-s-took)))).here) (read_at (optional (group own_envelope)) (c.args.row.now) ((field-yes ((ask-yes (start).so (eq-eqb _ _ c.if-version-ne-BLOB_VERSION.false))).so ((let created-s-took : Took u64 (c.args.row.now) 0 c.created_s-1.given.0.0 c.created_s-1.given.0.1.0 = took _ _ u64 (number-lawful 8) ((let by : Bytes (c.args.row.now) = typed (c.args.row.now) c.shared_slice_known-1.given in by)) ((let created-s-read : read_at u64 (c.args.row.now) 0 ≡ takes c.created_s-1.given.0.0 c.created_s-1.given.0.1.0 = learn u64_says c.u64_at.ensures c.created_s-1.given.1 in created-s-read)) in created-s-took)))).here) c.own-1.given.0.0 c.own-1.given.0.1.0 = located-at (own_at _) _ (learn own_says c.own_envelope_at-own.ensures c.own-1.given.1) in envelope-read)).read in envelope-took)))).here c.gen_-1.given.0.0 c.gen_-1.given.0.1.0 = took _ _ u8 (number-lawful 1) ((let by : Bytes (c.args.row.now) = typed (c.args.row.now) c.shared_slice_known-1.given in by)) ((let gen-read : read_at u8 (c.args.row.now) ((field-yes ((field-yes ((ask-yes (start).so (eq-eqb _ _ c.if-version-ne-BLOB_VERSION.false))).so ((let created-s-took : Took u64 (c.args.row.now) 0 c.created_s-1.given.0.0 c.created_s-1.given.0.1.0 = took _ _ u64 (number-lawful 8) ((let by : Bytes (c.args.row.now) = typed (c.args.row.now) c.shared_slice_known-1.given in by)) ((let created-s-read : read_at u64 (c.args.row.now) 0 ≡ takes c.created_s-1.given.0.0 c.created_s-1.given.0.1.0 = learn u64_says c.u64_at.ensures c.created_s-1.given.1 in created-s-read)) in created-s-took)))).so ((let envelope-took : Took (optional (group own_envelope)) (c.args.row.now) ((field-yes ((ask-yes (start).so (eq-eqb _ _ c.if-version-ne-BLOB_VERSION.false))).so ((let created-s-took : Took u64 (c.args.row.now) 0 c.created_s-1.given.0.0 c.created_s-1.given.0.1.0 = took _ _ u64 (number-lawful 8) ((let by : Bytes (c.args.row.now) = typed (c.args.row.now) c.shared_slice_known-1.given in by)) ((let created-s-read : read_at u64 (c.args.row.now) 0 ≡ takes c.created_s-1.given.0.0 c.created_s-1.given.0.1.0 = learn u64_says c.u64_at.ensures c.created_s-1.given.1 in created-s-read)) in created-s-took)))).here ((let envelope-read : Located (own_at ((field-yes ((ask-yes (start).so (eq-eqb _ _ c.if-version-ne-BLOB_VERSION.false))).so ((let created-s-took : Took u64 (c.args.row.now) 0 c.created_s-1.given.0.0 c.created_s-1.given.0.1.0 = took _ _ u64 (number-lawful 8) ((let by : Bytes (c.args.row.now) = typed (c.args.row.now) c.shared_slice_known-1.given in by)) ((let created-s-read : read_at u64 (c.args.row.now) 0 ≡ takes c.created_s-1.given.0.0 c.created_s-1.given.0.1.0 = learn u64_says c.u64_at.ensures c.created_s-1.given.1 in created-s-read)) in created-s-took)))).here) (read_at (optional (group own_envelope)) (c.args.row.now) ((field-yes ((ask-yes (start).so (eq-eqb _ _ c.if-version-ne-BLOB_VERSION.false))).so ((let created-s-took : Took u64 (c.args.row.now) 0 c.created_s-1.given.0.0 c.created_s-1.given.0.1.0 = took _ _ u64 (number-lawful 8) ((let by : Bytes (c.args.row.now) = typed (c.args.row.now) c.shared_slice_known-1.given in by)) ((let created-s-read : read_at u64 (c.args.row.now) 0 ≡ takes c.created_s-1.given.0.0 c.created_s-1.given.0.1.0 = learn u64_says c.u64_at.ensures c.created_s-1.given.1 in created-s-read)) in created-s-took)))).here) c.own-1.given.0.0 c.own-1.given.0.1.0 = located-at (own_at _) _ (learn own_says c.own_envelope_at-own.ensures c.own-1.given.1) in envelope-read)).value c.own-1.given.0.1.0 = took _ _ (optional (group own_envelope)) (optional-lawful (group own_envelope) own_envelope-lawful) ((let by : Bytes (c.args.row.now) = typed (c.args.row.now) c.shared_slice_known-1.given in by)) ((let envelope-read : Located (own_at ((field-yes ((ask-yes (start).so (eq-eqb _ _ c.if-version-ne-BLOB_VERSION.false))).so ((let created-s-took : Took u64 (c.args.row.now) 0 c.created_s-1.given.0.0 c.created_s-1.given.0.1.0 = took _ _ u64 (number-lawful 8) ((let by : Bytes (c.args.row.now) = typed (c.args.row.now) c.shared_slice_known-1.given in by)) ((let created-s-read : read_at u64 (c.args.row.now) 0 ≡ takes c.created_s-1.given.0.0 c.created_s-1.given.0.1.0 = learn u64_says c.u64_at.ensures c.created_s-1.given.1 in created-s-read)) in created-s-took)))).here) (read_at (optional (group own_envelope)) (c.args.row.now) ((field-yes ((ask-yes (start).so (eq-eqb _ _ c.if-version-ne-BLOB_VERSION.false))).so ((let created-s-took : Took u64 (c.args.row.now) 0 c.created_s-1.given.0.0 c.created_s-1.given.0.1.0 = took _ _ u64 (number-lawful 8) ((let by : Bytes (c.args.row.now) = typed (c.args.row.now) c.shared_slice_known-1.given in by)) ((let created-s-read : read_at u64 (c.args.row.now) 0 ≡ takes c.created_s-1.given.0.0 c.created_s-1.given.0.1.0 = learn u64_says c.u64_at.ensures c.created_s-1.given.1 in created-s-read)) in created-s-took)))).here) c.own-1.given.0.0 c.own-1.given.0.1.0 = located-at (own_at _) _ (learn own_says c.own_envelope_at-own.ensures c.own-1.given.1) in envelope-read)).read in envelope-took)))).here ≡ takes c.gen_-1.given.0.0 c.gen_-1.given.0.1.0 = learn u8_says c.byte_at.ensures c.gen_-1.given.1 in gen-read)) in gen-took)))).here ≡ takes c.leb128-1.given.0.0 c.leb128-1.given.0.1.0 = learn leb128_says c.leb128_at-leb128.ensures c.leb128-1.given.1 in idx-read)) ((let gen-took : Took u8 (c.args.row.now) ((field-yes ((field-yes ((ask-yes (start).so (eq-eqb _ _ c.if-version-ne-BLOB_VERSION.false))).so ((let created-s-took : Took u64 (c.args.row.now) 0 c.created_s-1.given.0.0 c.created_s-1.given.0.1.0 = took _ _ u64 (number-lawful 8) ((let by : Bytes (c.args.row.now) = typed (c.args.row.now) c.shared_slice_known-1.given in by)) ((let created-s-read : read_at u64 (c.args.row.now) 0 ≡ takes c.created_s-1.given.0.0 c.created_s-1.given.0.1.0 = learn u64_says c.u64_at.ensures c.created_s-1.given.1 in created-s-read)) in created-s-took)))).so ((let envelope-took : Took (optional (group own_envelope)) (c.args.row.now) ((field-yes ((ask-yes (start).so (eq-eqb _ _ c.if-version-ne-BLOB_VERSION.false))).so ((let created-s-took : Took u64 (c.args.row.now) 0 c.created_s-1.given.0.0 c.created_s-1.given.0.1.0 = took _ _ u64 (number-lawful 8) ((let by : Bytes (c.args.row.now) = typed (c.args.row.now) c.shared_slice_known-1.given in by)) ((let created-s-read : read_at u64 (c.args.row.now) 0 ≡ takes c.created_s-1.given.0.0 c.created_s-1.given.0.1.0 = learn u64_says c.u64_at.ensures c.created_s-1.given.1 in created-s-read)) in created-s-took)))).here ((let envelope-read : Located (own_at ((field-yes ((ask-yes (start).so (eq-eqb _ _ c.if-version-ne-BLOB_VERSION.false))).so ((let created-s-took : Took u64 (c.args.row.now) 0 c.created_s-1.given.0.0 c.created_s-1.given.0.1.0 = took _ _ u64 (number-lawful 8) ((let by : Bytes (c.args.row.now) = typed (c.args.row.now) c.shared_slice_known-1.given in by)) ((let created-s-read : read_at u64 (c.args.row.now) 0 ≡ takes c.created_s-1.given.0.0 c.created_s-1.given.0.1.0 = learn u64_says c.u64_at.ensures c.created_s-1.given.1 in created-s-read)) in created-s-took)))).here) (read_at (optional (group own_envelope)) (c.args.row.now) ((field-yes ((ask-yes (start).so (eq-eqb _ _ c.if-version-ne-BLOB_VERSION.false))).so ((let created-s-took : Took u64 (c.args.row.now) 0 c.created_s-1.given.0.0 c.created_s-1.given.0.1.0 = took _ _ u64 (number-lawful 8) ((let by : Bytes (c.args.row.now) = typed (c.args.row.now) c.shared_slice_known-1.given in by)) ((let created-s-read : read_at u64 (c.args.row.now) 0 ≡ takes c.created_s-1.given.0.0 c.created_s-1.given.0.1.0 = learn u64_says c.u64_at.ensures c.created_s-1.given.1 in created-s-read)) in created-s-took)))).here) c.own-1.given.0.0 c.own-1.given.0.1.0 = located-at (own_at _) _ (learn own_says c.own_envelope_at-own.ensures c.own-1.given.1) in envelope-read)).value c.own-1.given.0.1.0 = took _ _ (optional (group own_envelope)) (optional-lawful (group own_envelope) own_envelope-lawful) ((let by : Bytes (c.args.row.now) = typed (c.args.row.now) c.shared_slice_known-1.given in by)) ((let envelope-read : Located (own_at ((field-yes ((ask-yes (start).so (eq-eqb _ _ c.if-version-ne-BLOB_VERSION.false))).so ((let created-s-took : Took u64 (c.args.row.now) 0 c.created_s-1.given.0.0 c.created_s-1.given.0.1.0 = took _ _ u64 (number-lawful 8) ((let by : Bytes (c.args.row.now) = typed (c.args.row.now) c.shared_slice_known-1.given in by)) ((let created-s-read : read_at u64 (c.args.row.now) 0 ≡ takes c.created_s-1.given.0.0 c.created_s-1.given.0.1.0 = learn u64_says c.u64_at.ensures c.created_s-1.given.1 in created-s-read)) in created-s-took)))).here) (read_at (optional (group own_envelope)) (c.args.row.now) ((field-yes ((ask-yes (start).so (eq-eqb _ _ c.if-version-ne-BLOB_VERSION.false))).so ((let created-s-took : Took u64 (c.args.row.now) 0 c.created_s-1.given.0.0 c.created_s-1.given.0.1.0 = took _ _ u64 (number-lawful 8) ((let by : Bytes (c.args.row.now) = typed (c.args.row.now) c.shared_slice_known-1.given in by)) ((let created-s-read : read_at u64 (c.args.row.now) 0 ≡ takes c.created_s-1.given.0.0 c.created_s-1.given.0.1.0 = learn u64_says c.u64_at.ensures c.created_s-1.given.1 in created-s-read)) in created-s-took)))).here) c.own-1.given.0.0 c.own-1.given.0.1.0 = located-at (own_at _) _ (learn own_says c.own_envelope_at-own.ensures c.own-1.given.1) in envelope-read)).read in envelope-took)))).here c.gen_-1.given.0.0 c.gen_-1.given.0.1.0 = took _ _ u8 (number-lawful 1) ((let by : Bytes (c.args.row.now) = typed (c.args.row.now) c.shared_slice_known-1.given in by)) ((let gen-read : read_at u8 (c.args.row.now) ((field-yes ((field-yes ((ask-yes (start).so (eq-eqb _ _ c.if-version-ne-BLOB_VERSION.false))).so ((let created-s-took : Took u64 (c.args.row.now) 0 c.created_s-1.given.0.0 c.created_s-1.given.0.1.0 = took _ _ u64 (number-lawful 8) ((let by : Bytes (c.args.row.now) = typed (c.args.row.now) c.shared_slice_known-1.given in by)) ((let created-s-read : read_at u64 (c.args.row.now) 0 ≡ takes c.created_s-1.given.0.0 c.created_s-1.given.0.1.0 = learn u64_says c.u64_at.ensures c.created_s-1.given.1 in created-s-read)) in created-s-took)))).so ((let envelope-took : Took (optional (group own_envelope)) (c.args.row.now) ((field-yes ((ask-yes (start).so (eq-eqb _ _ c.if-version-ne-BLOB_VERSION.false))).so ((let created-s-took : Took u64 (c.args.row.now) 0 c.created_s-1.given.0.0 c.created_s-1.given.0.1.0 = took _ _ u64 (number-lawful 8) ((let by : Bytes (c.args.row.now) = typed (c.args.row.now) c.shared_slice_known-1.given in by)) ((let created-s-read : read_at u64 (c.args.row.now) 0 ≡ takes c.created_s-1.given.0.0 c.created_s-1.given.0.1.0 = learn u64_says c.u64_at.ensures c.created_s-1.given.1 in created-s-read)) in created-s-took)))).here ((let envelope-read : Located (own_at ((field-yes ((ask-yes (start).so (eq-eqb _ _ c.if-version-ne-BLOB_VERSION.false))).so ((let created-s-took : Took u64 (c.args.row.now) 0 c.created_s-1.given.0.0 c.created_s-1.given.0.1.0 = took _ _ u64 (number-lawful 8) ((let by : Bytes (c.args.row.now) = typed (c.args.row.now) c.shared_slice_known-1.given in by)) ((let created-s-read : read_at u64 (c.args.row.now) 0 ≡ takes c.created_s-1.given.0.0 c.created_s-1.given.0.1.0 = learn u64_says c.u64_at.ensures c.created_s-1.given.1 in created-s-read)) in created-s-took)))).here) (read_at (optional (group own_envelope)) (c.args.row.now) ((field-yes ((ask-yes (start).so (eq-eqb _ _ c.if-version-ne-BLOB_VERSION.false))).so ((let created-s-took : Took u64 (c.args.row.now) 0 c.created_s-1.given.0.0 c.created_s-1.given.0.1.0 = took _ _ u64 (number-lawful 8) ((let by : Bytes (c.args.row.now) = typed (c.args.row.now) c.shared_slice_known-1.given in by)) ((let created-s-read : read_at u64 (c.args.row.now) 0 ≡ takes c.created_s-1.given.0.0 c.created_s-1.given.0.1.0 = learn u64_says c.u64_at.ensures c.created_s-1.given.1 in created-s-read)) in created-s-took)))).here) c.own-1.given.0.0 c.own-1.given.0.1.0 = located-at (own_at _) _ (learn own_says c.own_envelope_at-own.ensures c.own-1.given.1) in envelope-read)).value c.own-1.given.0.1.0 = took _ _ (optional (group own_envelope)) (optional-lawful (group own_envelope) own_envelope-lawful) ((let by : Bytes (c.args.row.now) = typed (c.args.row.now) c.shared_slice_known-1.given in by)) ((let envelope-read : Located (own_at ((field-yes ((ask-yes (start).so (eq-eqb _ _ c.if-version-ne-BLOB_VERSION.false))).so ((let created-s-took : Took u64 (c.args.row.now) 0 c.created_s-1.given.0.0 c.created_s-1.given.0.1.0 = took _ _ u64 (number-lawful 8) ((let by : Bytes (c.args.row.now) = typed (c.args.row.now) c.shared_slice_known-1.given in by)) ((let created-s-read : read_at u64 (c.args.row.now) 0 ≡ takes c.created_s-1.given.0.0 c.created_s-1.given.0.1.0 = learn u64_says c.u64_at.ensures c.created_s-1.given.1 in created-s-read)) in created-s-took)))).here) (read_at (optional (group own_envelope)) (c.args.row.now) ((field-yes ((ask-yes (start).so (eq-eqb _ _ c.if-version-ne-BLOB_VERSION.false))).so ((let created-s-took : Took u64 (c.args.row.now) 0 c.created_s-1.given.0.0 c.created_s-1.given.0.1.0 = took _ _ u64 (number-lawful 8) ((let by : Bytes (c.args.row.now) = typed (c.args.row.now) c.shared_slice_known-1.given in by)) ((let created-s-read : read_at u64 (c.args.row.now) 0 ≡ takes c.created_s-1.given.0.0 c.created_s-1.given.0.1.0 = learn u64_says c.u64_at.ensures c.created_s-1.given.1 in created-s-read)) in created-s-took)))).here) c.own-1.given.0.0 c.own-1.given.0.1.0 = located-at (own_at _) _ (learn own_says c.own_envelope_at-own.ensures c.own-1.given.1) in envelope-read)).read in envelope-took)))).here ≡ takes c.gen_-1.given.0.0 c.gen_-1.given.0.1.0 = learn u8_says c.byte_at.ensures c.gen_-1.given.1 in gen-read)) in gen-took)).inside in idx-next)))
-    ((let envelope-read : Located (own_at ((field-yes ((ask-yes (start).so (eq-eqb _ _ c.if-version-ne-BLOB_VERSION.false))).so ((let created-s-took : Took u64 (c.args.row.now) 0 c.created_s-1.given.0.0 c.created_s-1.given.0.1.0 = took _ _ u64 (number-lawful 8) ((let by : Bytes (c.args.row.now) = typed (c.args.row.now) c.shared_slice_known-1.given in by)) ((let created-s-read : read_at u64 (c.args.row.now) 0 ≡ takes c.created_s-1.given.0.0 c.created_s-1.given.0.1.0 = learn u64_says c.u64_at.ensures c.created_s-1.given.1 in created-s-read)) in created-s-took)))).here) (read_at (optional (group own_envelope)) (c.args.row.now) ((field-yes ((ask-yes (start).so (eq-eqb _ _ c.if-version-ne-BLOB_VERSION.false))).so ((let created-s-took : Took u64 (c.args.row.now) 0 c.created_s-1.given.0.0 c.created_s-1.given.0.1.0 = took _ _ u64 (number-lawful 8) ((let by : Bytes (c.args.row.now) = typed (c.args.row.now) c.shared_slice_known-1.given in by)) ((let created-s-read : read_at u64 (c.args.row.now) 0 ≡ takes c.created_s-1.given.0.0 c.created_s-1.given.0.1.0 = learn u64_says c.u64_at.ensures c.created_s-1.given.1 in created-s-read)) in created-s-took)))).here) c.own-1.given.0.0 c.own-1.given.0.1.0 = located-at (own_at _) _ (learn own_says c.own_envelope_at-own.ensures c.own-1.given.1) in envelope-read)).place
-    (omega (arith, (let created-s-next : c.created_s-1.given.0.1.0 ≡ 0 + length (u64.print c.created_s-1.given.0.0) = took-next _ _ u64 (number-lawful 8) ((let by : Bytes (c.args.row.now) = typed (c.args.row.now) c.shared_slice_known-1.given in by)) ((let created-s-read : read_at u64 (c.args.row.now) 0 ≡ takes c.created_s-1.given.0.0 c.created_s-1.given.0.1.0 = learn u64_says c.u64_at.ensures c.created_s-1.given.1 in created-s-read)) (omega arith) in created-s-next))))
+    ap Fields (its-places c.args.version its
+    (omega (arith, created-s-next, envelope-next, gen-next, idx-next))
+    envelope-read.place
+    (omega (arith, created-s-next)))
+    ∙ sym (ap (λ (x : Read Queued). checked c.args.version (answer x)) (done-yes r7.so))
 
 pub returns : goal.returns
 returns c =
-    let stop = field-no ((field-yes ((field-yes ((field-yes ((field-yes ((ask-yes (start).so (eq-eqb _ _ c.if-version-ne-BLOB_VERSION.false))).so ((let created-s-took : Took u64 (c.args.row.now) 0 c.created_s-1.given.0.0 c.created_s-1.given.0.1.0 = took _ _ u64 (number-lawful 8) ((let by : Bytes (c.args.row.now) = typed (c.args.row.now) c.shared_slice_known-1.given in by)) ((let created-s-read : read_at u64 (c.args.row.now) 0 ≡ takes c.created_s-1.given.0.0 c.created_s-1.given.0.1.0 = learn u64_says c.u64_at.ensures c.created_s-1.given.1 in created-s-read)) in created-s-took)))).so ((let envelope-took : Took (optional (group own_envelope)) (c.args.row.now) ((field-yes ((ask-yes (start).so (eq-eqb _ _ c.if-version-ne-BLOB_VERSION.false))).so ((let created-s-took : Took u64 (c.args.row.now) 0 c.created_s-1.given.0.0 c.created_s-1.given.0.1.0 = took _ _ u64 (number-lawful 8) ((let by : Bytes (c.args.row.now) = typed (c.args.row.now) c.shared_slice_known-1.given in by)) ((let created-s-read : read_at u64 (c.args.row.now) 0 ≡ takes c.created_s-1.given.0.0 c.created_s-1.given.0.1.0 = learn u64_says c.u64_at.ensures c.created_s-1.given.1 in created-s-read)) in created-s-took)))).here ((let envelope-read : Located (own_at ((field-yes ((ask-yes (start).so (eq-eqb _ _ c.if-version-ne-BLOB_VERSION.false))).so ((let created-s-took : Took u64 (c.args.row.now) 0 c.created_s-1.given.0.0 c.created_s-1.given.0.1.0 = took _ _ u64 (number-lawful 8) ((let by : Bytes (c.args.row.now) = typed (c.args.row.now) c.shared_slice_known-1.given in by)) ((let created-s-read : read_at u64 (c.args.row.now) 0 ≡ takes c.created_s-1.given.0.0 c.created_s-1.given.0.1.0 = learn u64_says c.u64_at.ensures c.created_s-1.given.1 in created-s-read)) in created-s-took)))).here) (read_at (optional (group own_envelope)) (c.args.row.now) ((field-yes ((ask-yes (start).so (eq-eqb _ _ c.if-version-ne-BLOB_VERSION.false))).so ((let created-s-took : Took u64 (c.args.row.now) 0 c.created_s-1.given.0.0 c.created_s-1.given.0.1.0 = took _ _ u64 (number-lawful 8) ((let by : Bytes (c.args.row.now) = typed (c.args.row.now) c.shared_slice_known-1.given in by)) ((let created-s-read : read_at u64 (c.args.row.now) 0 ≡ takes c.created_s-1.given.0.0 c.created_s-1.given.0.1.0 = learn u64_says c.u64_at.ensures c.created_s-1.given.1 in created-s-read)) in created-s-took)))).here) c.own-1.given.0.0 c.own-1.given.0.1.0 = located-at (own_at _) _ (learn own_says c.own_envelope_at-own.ensures c.own-1.given.1) in envelope-read)).value c.own-1.given.0.1.0 = took _ _ (optional (group own_envelope)) (optional-lawful (group own_envelope) own_envelope-lawful) ((let by : Bytes (c.args.row.now) = typed (c.args.row.now) c.shared_slice_known-1.given in by)) ((let envelope-read : Located (own_at ((field-yes ((ask-yes (start).so (eq-eqb _ _ c.if-version-ne-BLOB_VERSION.false))).so ((let created-s-took : Took u64 (c.args.row.now) 0 c.created_s-1.given.0.0 c.created_s-1.given.0.1.0 = took _ _ u64 (number-lawful 8) ((let by : Bytes (c.args.row.now) = typed (c.args.row.now) c.shared_slice_known-1.given in by)) ((let created-s-read : read_at u64 (c.args.row.now) 0 ≡ takes c.created_s-1.given.0.0 c.created_s-1.given.0.1.0 = learn u64_says c.u64_at.ensures c.created_s-1.given.1 in created-s-read)) in created-s-took)))).here) (read_at (optional (group own_envelope)) (c.args.row.now) ((field-yes ((ask-yes (start).so (eq-eqb _ _ c.if-version-ne-BLOB_VERSION.false))).so ((let created-s-took : Took u64 (c.args.row.now) 0 c.created_s-1.given.0.0 c.created_s-1.given.0.1.0 = took _ _ u64 (number-lawful 8) ((let by : Bytes (c.args.row.now) = typed (c.args.row.now) c.shared_slice_known-1.given in by)) ((let created-s-read : read_at u64 (c.args.row.now) 0 ≡ takes c.created_s-1.given.0.0 c.created_s-1.given.0.1.0 = learn u64_says c.u64_at.ensures c.created_s-1.given.1 in created-s-read)) in created-s-took)))).here) c.own-1.given.0.0 c.own-1.given.0.1.0 = located-at (own_at _) _ (learn own_says c.own_envelope_at-own.ensures c.own-1.given.1) in envelope-read)).read in envelope-took)))).so ((let gen-took : Took u8 (c.args.row.now) ((field-yes ((field-yes ((ask-yes (start).so (eq-eqb _ _ c.if-version-ne-BLOB_VERSION.false))).so ((let created-s-took : Took u64 (c.args.row.now) 0 c.created_s-1.given.0.0 c.created_s-1.given.0.1.0 = took _ _ u64 (number-lawful 8) ((let by : Bytes (c.args.row.now) = typed (c.args.row.now) c.shared_slice_known-1.given in by)) ((let created-s-read : read_at u64 (c.args.row.now) 0 ≡ takes c.created_s-1.given.0.0 c.created_s-1.given.0.1.0 = learn u64_says c.u64_at.ensures c.created_s-1.given.1 in created-s-read)) in created-s-took)))).so ((let envelope-took : Took (optional (group own_envelope)) (c.args.row.now) ((field-yes ((ask-yes (start).so (eq-eqb _ _ c.if-version-ne-BLOB_VERSION.false))).so ((let created-s-took : Took u64 (c.args.row.now) 0 c.created_s-1.given.0.0 c.created_s-1.given.0.1.0 = took _ _ u64 (number-lawful 8) ((let by : Bytes (c.args.row.now) = typed (c.args.row.now) c.shared_slice_known-1.given in by)) ((let created-s-read : read_at u64 (c.args.row.now) 0 ≡ takes c.created_s-1.given.0.0 c.created_s-1.given.0.1.0 = learn u64_says c.u64_at.ensures c.created_s-1.given.1 in created-s-read)) in created-s-took)))).here ((let envelope-read : Located (own_at ((field-yes ((ask-yes (start).so (eq-eqb _ _ c.if-version-ne-BLOB_VERSION.false))).so ((let created-s-took : Took u64 (c.args.row.now) 0 c.created_s-1.given.0.0 c.created_s-1.given.0.1.0 = took _ _ u64 (number-lawful 8) ((let by : Bytes (c.args.row.now) = typed (c.args.row.now) c.shared_slice_known-1.given in by)) ((let created-s-read : read_at u64 (c.args.row.now) 0 ≡ takes c.created_s-1.given.0.0 c.created_s-1.given.0.1.0 = learn u64_says c.u64_at.ensures c.created_s-1.given.1 in created-s-read)) in created-s-took)))).here) (read_at (optional (group own_envelope)) (c.args.row.now) ((field-yes ((ask-yes (start).so (eq-eqb _ _ c.if-version-ne-BLOB_VERSION.false))).so ((let created-s-took : Took u64 (c.args.row.now) 0 c.created_s-1.given.0.0 c.created_s-1.given.0.1.0 = took _ _ u64 (number-lawful 8) ((let by : Bytes (c.args.row.now) = typed (c.args.row.now) c.shared_slice_known-1.given in by)) ((let created-s-read : read_at u64 (c.args.row.now) 0 ≡ takes c.created_s-1.given.0.0 c.created_s-1.given.0.1.0 = learn u64_says c.u64_at.ensures c.created_s-1.given.1 in created-s-read)) in created-s-took)))).here) c.own-1.given.0.0 c.own-1.given.0.1.0 = located-at (own_at _) _ (learn own_says c.own_envelope_at-own.ensures c.own-1.given.1) in envelope-read)).value c.own-1.given.0.1.0 = took _ _ (optional (group own_envelope)) (optional-lawful (group own_envelope) own_envelope-lawful) ((let by : Bytes (c.args.row.now) = typed (c.args.row.now) c.shared_slice_known-1.given in by)) ((let envelope-read : Located (own_at ((field-yes ((ask-yes (start).so (eq-eqb _ _ c.if-version-ne-BLOB_VERSION.false))).so ((let created-s-took : Took u64 (c.args.row.now) 0 c.created_s-1.given.0.0 c.created_s-1.given.0.1.0 = took _ _ u64 (number-lawful 8) ((let by : Bytes (c.args.row.now) = typed (c.args.row.now) c.shared_slice_known-1.given in by)) ((let created-s-read : read_at u64 (c.args.row.now) 0 ≡ takes c.created_s-1.given.0.0 c.created_s-1.given.0.1.0 = learn u64_says c.u64_at.ensures c.created_s-1.given.1 in created-s-read)) in created-s-took)))).here) (read_at (optional (group own_envelope)) (c.args.row.now) ((field-yes ((ask-yes (start).so (eq-eqb _ _ c.if-version-ne-BLOB_VERSION.false))).so ((let created-s-took : Took u64 (c.args.row.now) 0 c.created_s-1.given.0.0 c.created_s-1.given.0.1.0 = took _ _ u64 (number-lawful 8) ((let by : Bytes (c.args.row.now) = typed (c.args.row.now) c.shared_slice_known-1.given in by)) ((let created-s-read : read_at u64 (c.args.row.now) 0 ≡ takes c.created_s-1.given.0.0 c.created_s-1.given.0.1.0 = learn u64_says c.u64_at.ensures c.created_s-1.given.1 in created-s-read)) in created-s-took)))).here) c.own-1.given.0.0 c.own-1.given.0.1.0 = located-at (own_at _) _ (learn own_says c.own_envelope_at-own.ensures c.own-1.given.1) in envelope-read)).read in envelope-took)))).here c.gen_-1.given.0.0 c.gen_-1.given.0.1.0 = took _ _ u8 (number-lawful 1) ((let by : Bytes (c.args.row.now) = typed (c.args.row.now) c.shared_slice_known-1.given in by)) ((let gen-read : read_at u8 (c.args.row.now) ((field-yes ((field-yes ((ask-yes (start).so (eq-eqb _ _ c.if-version-ne-BLOB_VERSION.false))).so ((let created-s-took : Took u64 (c.args.row.now) 0 c.created_s-1.given.0.0 c.created_s-1.given.0.1.0 = took _ _ u64 (number-lawful 8) ((let by : Bytes (c.args.row.now) = typed (c.args.row.now) c.shared_slice_known-1.given in by)) ((let created-s-read : read_at u64 (c.args.row.now) 0 ≡ takes c.created_s-1.given.0.0 c.created_s-1.given.0.1.0 = learn u64_says c.u64_at.ensures c.created_s-1.given.1 in created-s-read)) in created-s-took)))).so ((let envelope-took : Took (optional (group own_envelope)) (c.args.row.now) ((field-yes ((ask-yes (start).so (eq-eqb _ _ c.if-version-ne-BLOB_VERSION.false))).so ((let created-s-took : Took u64 (c.args.row.now) 0 c.created_s-1.given.0.0 c.created_s-1.given.0.1.0 = took _ _ u64 (number-lawful 8) ((let by : Bytes (c.args.row.now) = typed (c.args.row.now) c.shared_slice_known-1.given in by)) ((let created-s-read : read_at u64 (c.args.row.now) 0 ≡ takes c.created_s-1.given.0.0 c.created_s-1.given.0.1.0 = learn u64_says c.u64_at.ensures c.created_s-1.given.1 in created-s-read)) in created-s-took)))).here ((let envelope-read : Located (own_at ((field-yes ((ask-yes (start).so (eq-eqb _ _ c.if-version-ne-BLOB_VERSION.false))).so ((let created-s-took : Took u64 (c.args.row.now) 0 c.created_s-1.given.0.0 c.created_s-1.given.0.1.0 = took _ _ u64 (number-lawful 8) ((let by : Bytes (c.args.row.now) = typed (c.args.row.now) c.shared_slice_known-1.given in by)) ((let created-s-read : read_at u64 (c.args.row.now) 0 ≡ takes c.created_s-1.given.0.0 c.created_s-1.given.0.1.0 = learn u64_says c.u64_at.ensures c.created_s-1.given.1 in created-s-read)) in created-s-took)))).here) (read_at (optional (group own_envelope)) (c.args.row.now) ((field-yes ((ask-yes (start).so (eq-eqb _ _ c.if-version-ne-BLOB_VERSION.false))).so ((let created-s-took : Took u64 (c.args.row.now) 0 c.created_s-1.given.0.0 c.created_s-1.given.0.1.0 = took _ _ u64 (number-lawful 8) ((let by : Bytes (c.args.row.now) = typed (c.args.row.now) c.shared_slice_known-1.given in by)) ((let created-s-read : read_at u64 (c.args.row.now) 0 ≡ takes c.created_s-1.given.0.0 c.created_s-1.given.0.1.0 = learn u64_says c.u64_at.ensures c.created_s-1.given.1 in created-s-read)) in created-s-took)))).here) c.own-1.given.0.0 c.own-1.given.0.1.0 = located-at (own_at _) _ (learn own_says c.own_envelope_at-own.ensures c.own-1.given.1) in envelope-read)).value c.own-1.given.0.1.0 = took _ _ (optional (group own_envelope)) (optional-lawful (group own_envelope) own_envelope-lawful) ((let by : Bytes (c.args.row.now) = typed (c.args.row.now) c.shared_slice_known-1.given in by)) ((let envelope-read : Located (own_at ((field-yes ((ask-yes (start).so (eq-eqb _ _ c.if-version-ne-BLOB_VERSION.false))).so ((let created-s-took : Took u64 (c.args.row.now) 0 c.created_s-1.given.0.0 c.created_s-1.given.0.1.0 = took _ _ u64 (number-lawful 8) ((let by : Bytes (c.args.row.now) = typed (c.args.row.now) c.shared_slice_known-1.given in by)) ((let created-s-read : read_at u64 (c.args.row.now) 0 ≡ takes c.created_s-1.given.0.0 c.created_s-1.given.0.1.0 = learn u64_says c.u64_at.ensures c.created_s-1.given.1 in created-s-read)) in created-s-took)))).here) (read_at (optional (group own_envelope)) (c.args.row.now) ((field-yes ((ask-yes (start).so (eq-eqb _ _ c.if-version-ne-BLOB_VERSION.false))).so ((let created-s-took : Took u64 (c.args.row.now) 0 c.created_s-1.given.0.0 c.created_s-1.given.0.1.0 = took _ _ u64 (number-lawful 8) ((let by : Bytes (c.args.row.now) = typed (c.args.row.now) c.shared_slice_known-1.given in by)) ((let created-s-read : read_at u64 (c.args.row.now) 0 ≡ takes c.created_s-1.given.0.0 c.created_s-1.given.0.1.0 = learn u64_says c.u64_at.ensures c.created_s-1.given.1 in created-s-read)) in created-s-took)))).here) c.own-1.given.0.0 c.own-1.given.0.1.0 = located-at (own_at _) _ (learn own_says c.own_envelope_at-own.ensures c.own-1.given.1) in envelope-read)).read in envelope-took)))).here ≡ takes c.gen_-1.given.0.0 c.gen_-1.given.0.1.0 = learn u8_says c.byte_at.ensures c.gen_-1.given.1 in gen-read)) in gen-took)))).so ((let idx-took : Took leb128 (c.args.row.now) ((field-yes ((field-yes ((field-yes ((ask-yes (start).so (eq-eqb _ _ c.if-version-ne-BLOB_VERSION.false))).so ((let created-s-took : Took u64 (c.args.row.now) 0 c.created_s-1.given.0.0 c.created_s-1.given.0.1.0 = took _ _ u64 (number-lawful 8) ((let by : Bytes (c.args.row.now) = typed (c.args.row.now) c.shared_slice_known-1.given in by)) ((let created-s-read : read_at u64 (c.args.row.now) 0 ≡ takes c.created_s-1.given.0.0 c.created_s-1.given.0.1.0 = learn u64_says c.u64_at.ensures c.created_s-1.given.1 in created-s-read)) in created-s-took)))).so ((let envelope-took : Took (optional (group own_envelope)) (c.args.row.now) ((field-yes ((ask-yes (start).so (eq-eqb _ _ c.if-version-ne-BLOB_VERSION.false))).so ((let created-s-took : Took u64 (c.args.row.now) 0 c.created_s-1.given.0.0 c.created_s-1.given.0.1.0 = took _ _ u64 (number-lawful 8) ((let by : Bytes (c.args.row.now) = typed (c.args.row.now) c.shared_slice_known-1.given in by)) ((let created-s-read : read_at u64 (c.args.row.now) 0 ≡ takes c.created_s-1.given.0.0 c.created_s-1.given.0.1.0 = learn u64_says c.u64_at.ensures c.created_s-1.given.1 in created-s-read)) in created-s-took)))).here ((let envelope-read : Located (own_at ((field-yes ((ask-yes (start).so (eq-eqb _ _ c.if-version-ne-BLOB_VERSION.false))).so ((let created-s-took : Took u64 (c.args.row.now) 0 c.created_s-1.given.0.0 c.created_s-1.given.0.1.0 = took _ _ u64 (number-lawful 8) ((let by : Bytes (c.args.row.now) = typed (c.args.row.now) c.shared_slice_known-1.given in by)) ((let created-s-read : read_at u64 (c.args.row.now) 0 ≡ takes c.created_s-1.given.0.0 c.created_s-1.given.0.1.0 = learn u64_says c.u64_at.ensures c.created_s-1.given.1 in created-s-read)) in created-s-took)))).here) (read_at (optional (group own_envelope)) (c.args.row.now) ((field-yes ((ask-yes (start).so (eq-eqb _ _ c.if-version-ne-BLOB_VERSION.false))).so ((let created-s-took : Took u64 (c.args.row.now) 0 c.created_s-1.given.0.0 c.created_s-1.given.0.1.0 = took _ _ u64 (number-lawful 8) ((let by : Bytes (c.args.row.now) = typed (c.args.row.now) c.shared_slice_known-1.given in by)) ((let created-s-read : read_at u64 (c.args.row.now) 0 ≡ takes c.created_s-1.given.0.0 c.created_s-1.given.0.1.0 = learn u64_says c.u64_at.ensures c.created_s-1.given.1 in created-s-read)) in created-s-took)))).here) c.own-1.given.0.0 c.own-1.given.0.1.0 = located-at (own_at _) _ (learn own_says c.own_envelope_at-own.ensures c.own-1.given.1) in envelope-read)).value c.own-1.given.0.1.0 = took _ _ (optional (group own_envelope)) (optional-lawful (group own_envelope) own_envelope-lawful) ((let by : Bytes (c.args.row.now) = typed (c.args.row.now) c.shared_slice_known-1.given in by)) ((let envelope-read : Located (own_at ((field-yes ((ask-yes (start).so (eq-eqb _ _ c.if-version-ne-BLOB_VERSION.false))).so ((let created-s-took : Took u64 (c.args.row.now) 0 c.created_s-1.given.0.0 c.created_s-1.given.0.1.0 = took _ _ u64 (number-lawful 8) ((let by : Bytes (c.args.row.now) = typed (c.args.row.now) c.shared_slice_known-1.given in by)) ((let created-s-read : read_at u64 (c.args.row.now) 0 ≡ takes c.created_s-1.given.0.0 c.created_s-1.given.0.1.0 = learn u64_says c.u64_at.ensures c.created_s-1.given.1 in created-s-read)) in created-s-took)))).here) (read_at (optional (group own_envelope)) (c.args.row.now) ((field-yes ((ask-yes (start).so (eq-eqb _ _ c.if-version-ne-BLOB_VERSION.false))).so ((let created-s-took : Took u64 (c.args.row.now) 0 c.created_s-1.given.0.0 c.created_s-1.given.0.1.0 = took _ _ u64 (number-lawful 8) ((let by : Bytes (c.args.row.now) = typed (c.args.row.now) c.shared_slice_known-1.given in by)) ((let created-s-read : read_at u64 (c.args.row.now) 0 ≡ takes c.created_s-1.given.0.0 c.created_s-1.given.0.1.0 = learn u64_says c.u64_at.ensures c.created_s-1.given.1 in created-s-read)) in created-s-took)))).here) c.own-1.given.0.0 c.own-1.given.0.1.0 = located-at (own_at _) _ (learn own_says c.own_envelope_at-own.ensures c.own-1.given.1) in envelope-read)).read in envelope-took)))).so ((let gen-took : Took u8 (c.args.row.now) ((field-yes ((field-yes ((ask-yes (start).so (eq-eqb _ _ c.if-version-ne-BLOB_VERSION.false))).so ((let created-s-took : Took u64 (c.args.row.now) 0 c.created_s-1.given.0.0 c.created_s-1.given.0.1.0 = took _ _ u64 (number-lawful 8) ((let by : Bytes (c.args.row.now) = typed (c.args.row.now) c.shared_slice_known-1.given in by)) ((let created-s-read : read_at u64 (c.args.row.now) 0 ≡ takes c.created_s-1.given.0.0 c.created_s-1.given.0.1.0 = learn u64_says c.u64_at.ensures c.created_s-1.given.1 in created-s-read)) in created-s-took)))).so ((let envelope-took : Took (optional (group own_envelope)) (c.args.row.now) ((field-yes ((ask-yes (start).so (eq-eqb _ _ c.if-version-ne-BLOB_VERSION.false))).so ((let created-s-took : Took u64 (c.args.row.now) 0 c.created_s-1.given.0.0 c.created_s-1.given.0.1.0 = took _ _ u64 (number-lawful 8) ((let by : Bytes (c.args.row.now) = typed (c.args.row.now) c.shared_slice_known-1.given in by)) ((let created-s-read : read_at u64 (c.args.row.now) 0 ≡ takes c.created_s-1.given.0.0 c.created_s-1.given.0.1.0 = learn u64_says c.u64_at.ensures c.created_s-1.given.1 in created-s-read)) in created-s-took)))).here ((let envelope-read : Located (own_at ((field-yes ((ask-yes (start).so (eq-eqb _ _ c.if-version-ne-BLOB_VERSION.false))).so ((let created-s-took : Took u64 (c.args.row.now) 0 c.created_s-1.given.0.0 c.created_s-1.given.0.1.0 = took _ _ u64 (number-lawful 8) ((let by : Bytes (c.args.row.now) = typed (c.args.row.now) c.shared_slice_known-1.given in by)) ((let created-s-read : read_at u64 (c.args.row.now) 0 ≡ takes c.created_s-1.given.0.0 c.created_s-1.given.0.1.0 = learn u64_says c.u64_at.ensures c.created_s-1.given.1 in created-s-read)) in created-s-took)))).here) (read_at (optional (group own_envelope)) (c.args.row.now) ((field-yes ((ask-yes (start).so (eq-eqb _ _ c.if-version-ne-BLOB_VERSION.false))).so ((let created-s-took : Took u64 (c.args.row.now) 0 c.created_s-1.given.0.0 c.created_s-1.given.0.1.0 = took _ _ u64 (number-lawful 8) ((let by : Bytes (c.args.row.now) = typed (c.args.row.now) c.shared_slice_known-1.given in by)) ((let created-s-read : read_at u64 (c.args.row.now) 0 ≡ takes c.created_s-1.given.0.0 c.created_s-1.given.0.1.0 = learn u64_says c.u64_at.ensures c.created_s-1.given.1 in created-s-read)) in created-s-took)))).here) c.own-1.given.0.0 c.own-1.given.0.1.0 = located-at (own_at _) _ (learn own_says c.own_envelope_at-own.ensures c.own-1.given.1) in envelope-read)).value c.own-1.given.0.1.0 = took _ _ (optional (group own_envelope)) (optional-lawful (group own_envelope) own_envelope-lawful) ((let by : Bytes (c.args.row.now) = typed (c.args.row.now) c.shared_slice_known-1.given in by)) ((let envelope-read : Located (own_at ((field-yes ((ask-yes (start).so (eq-eqb _ _ c.if-version-ne-BLOB_VERSION.false))).so ((let created-s-took : Took u64 (c.args.row.now) 0 c.created_s-1.given.0.0 c.created_s-1.given.0.1.0 = took _ _ u64 (number-lawful 8) ((let by : Bytes (c.args.row.now) = typed (c.args.row.now) c.shared_slice_known-1.given in by)) ((let created-s-read : read_at u64 (c.args.row.now) 0 ≡ takes c.created_s-1.given.0.0 c.created_s-1.given.0.1.0 = learn u64_says c.u64_at.ensures c.created_s-1.given.1 in created-s-read)) in created-s-took)))).here) (read_at (optional (group own_envelope)) (c.args.row.now) ((field-yes ((ask-yes (start).so (eq-eqb _ _ c.if-version-ne-BLOB_VERSION.false))).so ((let created-s-took : Took u64 (c.args.row.now) 0 c.created_s-1.given.0.0 c.created_s-1.given.0.1.0 = took _ _ u64 (number-lawful 8) ((let by : Bytes (c.args.row.now) = typed (c.args.row.now) c.shared_slice_known-1.given in by)) ((let created-s-read : read_at u64 (c.args.row.now) 0 ≡ takes c.created_s-1.given.0.0 c.created_s-1.given.0.1.0 = learn u64_says c.u64_at.ensures c.created_s-1.given.1 in created-s-read)) in created-s-took)))).here) c.own-1.given.0.0 c.own-1.given.0.1.0 = located-at (own_at _) _ (learn own_says c.own_envelope_at-own.ensures c.own-1.given.1) in envelope-read)).read in envelope-took)))).here c.gen_-1.given.0.0 c.gen_-1.given.0.1.0 = took _ _ u8 (number-lawful 1) ((let by : Bytes (c.args.row.now) = typed (c.args.row.now) c.shared_slice_known-1.given in by)) ((let gen-read : read_at u8 (c.args.row.now) ((field-yes ((field-yes ((ask-yes (start).so (eq-eqb _ _ c.if-version-ne-BLOB_VERSION.false))).so ((let created-s-took : Took u64 (c.args.row.now) 0 c.created_s-1.given.0.0 c.created_s-1.given.0.1.0 = took _ _ u64 (number-lawful 8) ((let by : Bytes (c.args.row.now) = typed (c.args.row.now) c.shared_slice_known-1.given in by)) ((let created-s-read : read_at u64 (c.args.row.now) 0 ≡ takes c.created_s-1.given.0.0 c.created_s-1.given.0.1.0 = learn u64_says c.u64_at.ensures c.created_s-1.given.1 in created-s-read)) in created-s-took)))).so ((let envelope-took : Took (optional (group own_envelope)) (c.args.row.now) ((field-yes ((ask-yes (start).so (eq-eqb _ _ c.if-version-ne-BLOB_VERSION.false))).so ((let created-s-took : Took u64 (c.args.row.now) 0 c.created_s-1.given.0.0 c.created_s-1.given.0.1.0 = took _ _ u64 (number-lawful 8) ((let by : Bytes (c.args.row.now) = typed (c.args.row.now) c.shared_slice_known-1.given in by)) ((let created-s-read : read_at u64 (c.args.row.now) 0 ≡ takes c.created_s-1.given.0.0 c.created_s-1.given.0.1.0 = learn u64_says c.u64_at.ensures c.created_s-1.given.1 in created-s-read)) in created-s-took)))).here ((let envelope-read : Located (own_at ((field-yes ((ask-yes (start).so (eq-eqb _ _ c.if-version-ne-BLOB_VERSION.false))).so ((let created-s-took : Took u64 (c.args.row.now) 0 c.created_s-1.given.0.0 c.created_s-1.given.0.1.0 = took _ _ u64 (number-lawful 8) ((let by : Bytes (c.args.row.now) = typed (c.args.row.now) c.shared_slice_known-1.given in by)) ((let created-s-read : read_at u64 (c.args.row.now) 0 ≡ takes c.created_s-1.given.0.0 c.created_s-1.given.0.1.0 = learn u64_says c.u64_at.ensures c.created_s-1.given.1 in created-s-read)) in created-s-took)))).here) (read_at (optional (group own_envelope)) (c.args.row.now) ((field-yes ((ask-yes (start).so (eq-eqb _ _ c.if-version-ne-BLOB_VERSION.false))).so ((let created-s-took : Took u64 (c.args.row.now) 0 c.created_s-1.given.0.0 c.created_s-1.given.0.1.0 = took _ _ u64 (number-lawful 8) ((let by : Bytes (c.args.row.now) = typed (c.args.row.now) c.shared_slice_known-1.given in by)) ((let created-s-read : read_at u64 (c.args.row.now) 0 ≡ takes c.created_s-1.given.0.0 c.created_s-1.given.0.1.0 = learn u64_says c.u64_at.ensures c.created_s-1.given.1 in created-s-read)) in created-s-took)))).here) c.own-1.given.0.0 c.own-1.given.0.1.0 = located-at (own_at _) _ (learn own_says c.own_envelope_at-own.ensures c.own-1.given.1) in envelope-read)).value c.own-1.given.0.1.0 = took _ _ (optional (group own_envelope)) (optional-lawful (group own_envelope) own_envelope-lawful) ((let by : Bytes (c.args.row.now) = typed (c.args.row.now) c.shared_slice_known-1.given in by)) ((let envelope-read : Located (own_at ((field-yes ((ask-yes (start).so (eq-eqb _ _ c.if-version-ne-BLOB_VERSION.false))).so ((let created-s-took : Took u64 (c.args.row.now) 0 c.created_s-1.given.0.0 c.created_s-1.given.0.1.0 = took _ _ u64 (number-lawful 8) ((let by : Bytes (c.args.row.now) = typed (c.args.row.now) c.shared_slice_known-1.given in by)) ((let created-s-read : read_at u64 (c.args.row.now) 0 ≡ takes c.created_s-1.given.0.0 c.created_s-1.given.0.1.0 = learn u64_says c.u64_at.ensures c.created_s-1.given.1 in created-s-read)) in created-s-took)))).here) (read_at (optional (group own_envelope)) (c.args.row.now) ((field-yes ((ask-yes (start).so (eq-eqb _ _ c.if-version-ne-BLOB_VERSION.false))).so ((let created-s-took : Took u64 (c.args.row.now) 0 c.created_s-1.given.0.0 c.created_s-1.given.0.1.0 = took _ _ u64 (number-lawful 8) ((let by : Bytes (c.args.row.now) = typed (c.args.row.now) c.shared_slice_known-1.given in by)) ((let created-s-read : read_at u64 (c.args.row.now) 0 ≡ takes c.created_s-1.given.0.0 c.created_s-1.given.0.1.0 = learn u64_says c.u64_at.ensures c.created_s-1.given.1 in created-s-read)) in created-s-took)))).here) c.own-1.given.0.0 c.own-1.given.0.1.0 = located-at (own_at _) _ (learn own_says c.own_envelope_at-own.ensures c.own-1.given.1) in envelope-read)).read in envelope-took)))).here ≡ takes c.gen_-1.given.0.0 c.gen_-1.given.0.1.0 = learn u8_says c.byte_at.ensures c.gen_-1.given.1 in gen-read)) in gen-took)))).here c.leb128-1.given.0.0 c.leb128-1.given.0.1.0 = took _ _ leb128 leb128-lawful ((let by : Bytes (c.args.row.now) = typed (c.args.row.now) c.shared_slice_known-1.given in by)) ((let idx-read : read_at leb128 (c.args.row.now) ((field-yes ((field-yes ((field-yes ((ask-yes (start).so (eq-eqb _ _ c.if-version-ne-BLOB_VERSION.false))).so ((let created-s-took : Took u64 (c.args.row.now) 0 c.created_s-1.given.0.0 c.created_s-1.given.0.1.0 = took _ _ u64 (number-lawful 8) ((let by : Bytes (c.args.row.now) = typed (c.args.row.now) c.shared_slice_known-1.given in by)) ((let created-s-read : read_at u64 (c.args.row.now) 0 ≡ takes c.created_s-1.given.0.0 c.created_s-1.given.0.1.0 = learn u64_says c.u64_at.ensures c.created_s-1.given.1 in created-s-read)) in created-s-took)))).so ((let envelope-took : Took (optional (group own_envelope)) (c.args.row.now) ((field-yes ((ask-yes (start).so (eq-eqb _ _ c.if-version-ne-BLOB_VERSION.false))).so ((let created-s-took : Took u64 (c.args.row.now) 0 c.created_s-1.given.0.0 c.created_s-1.given.0.1.0 = took _ _ u64 (number-lawful 8) ((let by : Bytes (c.args.row.now) = typed (c.args.row.now) c.shared_slice_known-1.given in by)) ((let created-s-read : read_at u64 (c.args.row.now) 0 ≡ takes c.created_s-1.given.0.0 c.created_s-1.given.0.1.0 = learn u64_says c.u64_at.ensures c.created_s-1.given.1 in created-s-read)) in created-s-took)))).here ((let envelope-read : Located (own_at ((field-yes ((ask-yes (start).so (eq-eqb _ _ c.if-version-ne-BLOB_VERSION.false))).so ((let created-s-took : Took u64 (c.args.row.now) 0 c.created_s-1.given.0.0 c.created_s-1.given.0.1.0 = took _ _ u64 (number-lawful 8) ((let by : Bytes (c.args.row.now) = typed (c.args.row.now) c.shared_slice_known-1.given in by)) ((let created-s-read : read_at u64 (c.args.row.now) 0 ≡ takes c.created_s-1.given.0.0 c.created_s-1.given.0.1.0 = learn u64_says c.u64_at.ensures c.created_s-1.given.1 in created-s-read)) in created-s-took)))).here) (read_at (optional (group own_envelope)) (c.args.row.now) ((field-yes ((ask-yes (start).so (eq-eqb _ _ c.if-version-ne-BLOB_VERSION.false))).so ((let created-s-took : Took u64 (c.args.row.now) 0 c.created_s-1.given.0.0 c.created_s-1.given.0.1.0 = took _ _ u64 (number-lawful 8) ((let by : Bytes (c.args.row.now) = typed (c.args.row.now) c.shared_slice_known-1.given in by)) ((let created-s-read : read_at u64 (c.args.row.now) 0 ≡ takes c.created_s-1.given.0.0 c.created_s-1.given.0.1.0 = learn u64_says c.u64_at.ensures c.created_s-1.given.1 in created-s-read)) in created-s-took)))).here) c.own-1.given.0.0 c.own-1.given.0.1.0 = located-at (own_at _) _ (learn own_says c.own_envelope_at-own.ensures c.own-1.given.1) in envelope-read)).value c.own-1.given.0.1.0 = took _ _ (optional (group own_envelope)) (optional-lawful (group own_envelope) own_envelope-lawful) ((let by : Bytes (c.args.row.now) = typed (c.args.row.now) c.shared_slice_known-1.given in by)) ((let envelope-read : Located (own_at ((field-yes ((ask-yes (start).so (eq-eqb _ _ c.if-version-ne-BLOB_VERSION.false))).so ((let created-s-took : Took u64 (c.args.row.now) 0 c.created_s-1.given.0.0 c.created_s-1.given.0.1.0 = took _ _ u64 (number-lawful 8) ((let by : Bytes (c.args.row.now) = typed (c.args.row.now) c.shared_slice_known-1.given in by)) ((let created-s-read : read_at u64 (c.args.row.now) 0 ≡ takes c.created_s-1.given.0.0 c.created_s-1.given.0.1.0 = learn u64_says c.u64_at.ensures c.created_s-1.given.1 in created-s-read)) in created-s-took)))).here) (read_at (optional (group own_envelope)) (c.args.row.now) ((field-yes ((ask-yes (start).so (eq-eqb _ _ c.if-version-ne-BLOB_VERSION.false))).so ((let created-s-took : Took u64 (c.args.row.now) 0 c.created_s-1.given.0.0 c.created_s-1.given.0.1.0 = took _ _ u64 (number-lawful 8) ((let by : Bytes (c.args.row.now) = typed (c.args.row.now) c.shared_slice_known-1.given in by)) ((let created-s-read : read_at u64 (c.args.row.now) 0 ≡ takes c.created_s-1.given.0.0 c.created_s-1.given.0.1.0 = learn u64_says c.u64_at.ensures c.created_s-1.given.1 in created-s-read)) in created-s-took)))).here) c.own-1.given.0.0 c.own-1.given.0.1.0 = located-at (own_at _) _ (learn own_says c.own_envelope_at-own.ensures c.own-1.given.1) in envelope-read)).read in envelope-took)))).so ((let gen-took : Took u8 (c.args.row.now) ((field-yes ((field-yes ((ask-yes (start).so (eq-eqb _ _ c.if-version-ne-BLOB_VERSION.false))).so ((let created-s-took : Took u64 (c.args.row.now) 0 c.created_s-1.given.0.0 c.created_s-1.given.0.1.0 = took _ _ u64 (number-lawful 8) ((let by : Bytes (c.args.row.now) = typed (c.args.row.now) c.shared_slice_known-1.given in by)) ((let created-s-read : read_at u64 (c.args.row.now) 0 ≡ takes c.created_s-1.given.0.0 c.created_s-1.given.0.1.0 = learn u64_says c.u64_at.ensures c.created_s-1.given.1 in created-s-read)) in created-s-took)))).so ((let envelope-took : Took (optional (group own_envelope)) (c.args.row.now) ((field-yes ((ask-yes (start).so (eq-eqb _ _ c.if-version-ne-BLOB_VERSION.false))).so ((let created-s-took : Took u64 (c.args.row.now) 0 c.created_s-1.given.0.0 c.created_s-1.given.0.1.0 = took _ _ u64 (number-lawful 8) ((let by : Bytes (c.args.row.now) = typed (c.args.row.now) c.shared_slice_known-1.given in by)) ((let created-s-read : read_at u64 (c.args.row.now) 0 ≡ takes c.created_s-1.given.0.0 c.created_s-1.given.0.1.0 = learn u64_says c.u64_at.ensures c.created_s-1.given.1 in created-s-read)) in created-s-took)))).here ((let envelope-read : Located (own_at ((field-yes ((ask-yes (start).so (eq-eqb _ _ c.if-version-ne-BLOB_VERSION.false))).so ((let created-s-took : Took u64 (c.args.row.now) 0 c.created_s-1.given.0.0 c.created_s-1.given.0.1.0 = took _ _ u64 (number-lawful 8) ((let by : Bytes (c.args.row.now) = typed (c.args.row.now) c.shared_slice_known-1.given in by)) ((let created-s-read : read_at u64 (c.args.row.now) 0 ≡ takes c.created_s-1.given.0.0 c.created_s-1.given.0.1.0 = learn u64_says c.u64_at.ensures c.created_s-1.given.1 in created-s-read)) in created-s-took)))).here) (read_at (optional (group own_envelope)) (c.args.row.now) ((field-yes ((ask-yes (start).so (eq-eqb _ _ c.if-version-ne-BLOB_VERSION.false))).so ((let created-s-took : Took u64 (c.args.row.now) 0 c.created_s-1.given.0.0 c.created_s-1.given.0.1.0 = took _ _ u64 (number-lawful 8) ((let by : Bytes (c.args.row.now) = typed (c.args.row.now) c.shared_slice_known-1.given in by)) ((let created-s-read : read_at u64 (c.args.row.now) 0 ≡ takes c.created_s-1.given.0.0 c.created_s-1.given.0.1.0 = learn u64_says c.u64_at.ensures c.created_s-1.given.1 in created-s-read)) in created-s-took)))).here) c.own-1.given.0.0 c.own-1.given.0.1.0 = located-at (own_at _) _ (learn own_says c.own_envelope_at-own.ensures c.own-1.given.1) in envelope-read)).value c.own-1.given.0.1.0 = took _ _ (optional (group own_envelope)) (optional-lawful (group own_envelope) own_envelope-lawful) ((let by : Bytes (c.args.row.now) = typed (c.args.row.now) c.shared_slice_known-1.given in by)) ((let envelope-read : Located (own_at ((field-yes ((ask-yes (start).so (eq-eqb _ _ c.if-version-ne-BLOB_VERSION.false))).so ((let created-s-took : Took u64 (c.args.row.now) 0 c.created_s-1.given.0.0 c.created_s-1.given.0.1.0 = took _ _ u64 (number-lawful 8) ((let by : Bytes (c.args.row.now) = typed (c.args.row.now) c.shared_slice_known-1.given in by)) ((let created-s-read : read_at u64 (c.args.row.now) 0 ≡ takes c.created_s-1.given.0.0 c.created_s-1.given.0.1.0 = learn u64_says c.u64_at.ensures c.created_s-1.given.1 in created-s-read)) in created-s-took)))).here) (read_at (optional (group own_envelope)) (c.args.row.now) ((field-yes ((ask-yes (start).so (eq-eqb _ _ c.if-version-ne-BLOB_VERSION.false))).so ((let created-s-took : Took u64 (c.args.row.now) 0 c.created_s-1.given.0.0 c.created_s-1.given.0.1.0 = took _ _ u64 (number-lawful 8) ((let by : Bytes (c.args.row.now) = typed (c.args.row.now) c.shared_slice_known-1.given in by)) ((let created-s-read : read_at u64 (c.args.row.now) 0 ≡ takes c.created_s-1.given.0.0 c.created_s-1.given.0.1.0 = learn u64_says c.u64_at.ensures c.created_s-1.given.1 in created-s-read)) in created-s-took)))).here) c.own-1.given.0.0 c.own-1.given.0.1.0 = located-at (own_at _) _ (learn own_says c.own_envelope_at-own.ensures c.own-1.given.1) in envelope-read)).read in envelope-took)))).here c.gen_-1.given.0.0 c.gen_-1.given.0.1.0 = took _ _ u8 (number-lawful 1) ((let by : Bytes (c.args.row.now) = typed (c.args.row.now) c.shared_slice_known-1.given in by)) ((let gen-read : read_at u8 (c.args.row.now) ((field-yes ((field-yes ((ask-yes (start).so (eq-eqb _ _ c.if-version-ne-BLOB_VERSION.false))).so ((let created-s-took : Took u64 (c.args.row.now) 0 c.created_s-1.given.0.0 c.created_s-1.given.0.1.0 = took _ _ u64 (number-lawful 8) ((let by : Bytes (c.args.row.now) = typed (c.args.row.now) c.shared_slice_known-1.given in by)) ((let created-s-read : read_at u64 (c.args.row.now) 0 ≡ takes c.created_s-1.given.0.0 c.created_s-1.given.0.1.0 = learn u64_says c.u64_at.ensures c.created_s-1.given.1 in created-s-read)) in created-s-took)))).so ((let envelope-took : Took (optional (group own_envelope)) (c.args.row.now) ((field-yes ((ask-yes (start).so (eq-eqb _ _ c.if-version-ne-BLOB_VERSION.false))).so ((let created-s-took : Took u64 (c.args.row.now) 0 c.created_s-1.given.0.0 c.created_s-1.given.0.1.0 = took _ _ u64 (number-lawful 8) ((let by : Bytes (c.args.row.now) = typed (c.args.row.now) c.shared_slice_known-1.given in by)) ((let created-s-read : read_at u64 (c.args.row.now) 0 ≡ takes c.created_s-1.given.0.0 c.created_s-1.given.0.1.0 = learn u64_says c.u64_at.ensures c.created_s-1.given.1 in created-s-read)) in created-s-took)))).here ((let envelope-read : Located (own_at ((field-yes ((ask-yes (start).so (eq-eqb _ _ c.if-version-ne-BLOB_VERSION.false))).so ((let created-s-took : Took u64 (c.args.row.now) 0 c.created_s-1.given.0.0 c.created_s-1.given.0.1.0 = took _ _ u64 (number-lawful 8) ((let by : Bytes (c.args.row.now) = typed (c.args.row.now) c.shared_slice_known-1.given in by)) ((let created-s-read : read_at u64 (c.args.row.now) 0 ≡ takes c.created_s-1.given.0.0 c.created_s-1.given.0.1.0 = learn u64_says c.u64_at.ensures c.created_s-1.given.1 in created-s-read)) in created-s-took)))).here) (read_at (optional (group own_envelope)) (c.args.row.now) ((field-yes ((ask-yes (start).so (eq-eqb _ _ c.if-version-ne-BLOB_VERSION.false))).so ((let created-s-took : Took u64 (c.args.row.now) 0 c.created_s-1.given.0.0 c.created_s-1.given.0.1.0 = took _ _ u64 (number-lawful 8) ((let by : Bytes (c.args.row.now) = typed (c.args.row.now) c.shared_slice_known-1.given in by)) ((let created-s-read : read_at u64 (c.args.row.now) 0 ≡ takes c.created_s-1.given.0.0 c.created_s-1.given.0.1.0 = learn u64_says c.u64_at.ensures c.created_s-1.given.1 in created-s-read)) in created-s-took)))).here) c.own-1.given.0.0 c.own-1.given.0.1.0 = located-at (own_at _) _ (learn own_says c.own_envelope_at-own.ensures c.own-1.given.1) in envelope-read)).value c.own-1.given.0.1.0 = took _ _ (optional (group own_envelope)) (optional-lawful (group own_envelope) own_envelope-lawful) ((let by : Bytes (c.args.row.now) = typed (c.args.row.now) c.shared_slice_known-1.given in by)) ((let envelope-read : Located (own_at ((field-yes ((ask-yes (start).so (eq-eqb _ _ c.if-version-ne-BLOB_VERSION.false))).so ((let created-s-took : Took u64 (c.args.row.now) 0 c.created_s-1.given.0.0 c.created_s-1.given.0.1.0 = took _ _ u64 (number-lawful 8) ((let by : Bytes (c.args.row.now) = typed (c.args.row.now) c.shared_slice_known-1.given in by)) ((let created-s-read : read_at u64 (c.args.row.now) 0 ≡ takes c.created_s-1.given.0.0 c.created_s-1.given.0.1.0 = learn u64_says c.u64_at.ensures c.created_s-1.given.1 in created-s-read)) in created-s-took)))).here) (read_at (optional (group own_envelope)) (c.args.row.now) ((field-yes ((ask-yes (start).so (eq-eqb _ _ c.if-version-ne-BLOB_VERSION.false))).so ((let created-s-took : Took u64 (c.args.row.now) 0 c.created_s-1.given.0.0 c.created_s-1.given.0.1.0 = took _ _ u64 (number-lawful 8) ((let by : Bytes (c.args.row.now) = typed (c.args.row.now) c.shared_slice_known-1.given in by)) ((let created-s-read : read_at u64 (c.args.row.now) 0 ≡ takes c.created_s-1.given.0.0 c.created_s-1.given.0.1.0 = learn u64_says c.u64_at.ensures c.created_s-1.given.1 in created-s-read)) in created-s-took)))).here) c.own-1.given.0.0 c.own-1.given.0.1.0 = located-at (own_at _) _ (learn own_says c.own_envelope_at-own.ensures c.own-1.given.1) in envelope-read)).read in envelope-took)))).here ≡ takes c.gen_-1.given.0.0 c.gen_-1.given.0.1.0 = learn u8_says c.byte_at.ensures c.gen_-1.given.1 in gen-read)) in gen-took)))).here ≡ takes c.leb128-1.given.0.0 c.leb128-1.given.0.1.0 = learn leb128_says c.leb128_at-leb128.ensures c.leb128-1.given.1 in idx-read)) in idx-took)))).so (text-refused veiled SEALED_LENGTH sealed_queued (c.args.row.now) ((field-yes ((field-yes ((field-yes ((field-yes ((ask-yes (start).so (eq-eqb _ _ c.if-version-ne-BLOB_VERSION.false))).so ((let created-s-took : Took u64 (c.args.row.now) 0 c.created_s-1.given.0.0 c.created_s-1.given.0.1.0 = took _ _ u64 (number-lawful 8) ((let by : Bytes (c.args.row.now) = typed (c.args.row.now) c.shared_slice_known-1.given in by)) ((let created-s-read : read_at u64 (c.args.row.now) 0 ≡ takes c.created_s-1.given.0.0 c.created_s-1.given.0.1.0 = learn u64_says c.u64_at.ensures c.created_s-1.given.1 in created-s-read)) in created-s-took)))).so ((let envelope-took : Took (optional (group own_envelope)) (c.args.row.now) ((field-yes ((ask-yes (start).so (eq-eqb _ _ c.if-version-ne-BLOB_VERSION.false))).so ((let created-s-took : Took u64 (c.args.row.now) 0 c.created_s-1.given.0.0 c.created_s-1.given.0.1.0 = took _ _ u64 (number-lawful 8) ((let by : Bytes (c.args.row.now) = typed (c.args.row.now) c.shared_slice_known-1.given in by)) ((let created-s-read : read_at u64 (c.args.row.now) 0 ≡ takes c.created_s-1.given.0.0 c.created_s-1.given.0.1.0 = learn u64_says c.u64_at.ensures c.created_s-1.given.1 in created-s-read)) in created-s-took)))).here ((let envelope-read : Located (own_at ((field-yes ((ask-yes (start).so (eq-eqb _ _ c.if-version-ne-BLOB_VERSION.false))).so ((let created-s-took : Took u64 (c.args.row.now) 0 c.created_s-1.given.0.0 c.created_s-1.given.0.1.0 = took _ _ u64 (number-lawful 8) ((let by : Bytes (c.args.row.now) = typed (c.args.row.now) c.shared_slice_known-1.given in by)) ((let created-s-read : read_at u64 (c.args.row.now) 0 ≡ takes c.created_s-1.given.0.0 c.created_s-1.given.0.1.0 = learn u64_says c.u64_at.ensures c.created_s-1.given.1 in created-s-read)) in created-s-took)))).here) (read_at (optional (group own_envelope)) (c.args.row.now) ((field-yes ((ask-yes (start).so (eq-eqb _ _ c.if-version-ne-BLOB_VERSION.false))).so ((let created-s-took : Took u64 (c.args.row.now) 0 c.created_s-1.given.0.0 c.created_s-1.given.0.1.0 = took _ _ u64 (number-lawful 8) ((let by : Bytes (c.args.row.now) = typed (c.args.row.now) c.shared_slice_known-1.given in by)) ((let created-s-read : read_at u64 (c.args.row.now) 0 ≡ takes c.created_s-1.given.0.0 c.created_s-1.given.0.1.0 = learn u64_says c.u64_at.ensures c.created_s-1.given.1 in created-s-read)) in created-s-took)))).here) c.own-1.given.0.0 c.own-1.given.0.1.0 = located-at (own_at _) _ (learn own_says c.own_envelope_at-own.ensures c.own-1.given.1) in envelope-read)).value c.own-1.given.0.1.0 = took _ _ (optional (group own_envelope)) (optional-lawful (group own_envelope) own_envelope-lawful) ((let by : Bytes (c.args.row.now) = typed (c.args.row.now) c.shared_slice_known-1.given in by)) ((let envelope-read : Located (own_at ((field-yes ((ask-yes (start).so (eq-eqb _ _ c.if-version-ne-BLOB_VERSION.false))).so ((let created-s-took : Took u64 (c.args.row.now) 0 c.created_s-1.given.0.0 c.created_s-1.given.0.1.0 = took _ _ u64 (number-lawful 8) ((let by : Bytes (c.args.row.now) = typed (c.args.row.now) c.shared_slice_known-1.given in by)) ((let created-s-read : read_at u64 (c.args.row.now) 0 ≡ takes c.created_s-1.given.0.0 c.created_s-1.given.0.1.0 = learn u64_says c.u64_at.ensures c.created_s-1.given.1 in created-s-read)) in created-s-took)))).here) (read_at (optional (group own_envelope)) (c.args.row.now) ((field-yes ((ask-yes (start).so (eq-eqb _ _ c.if-version-ne-BLOB_VERSION.false))).so ((let created-s-took : Took u64 (c.args.row.now) 0 c.created_s-1.given.0.0 c.created_s-1.given.0.1.0 = took _ _ u64 (number-lawful 8) ((let by : Bytes (c.args.row.now) = typed (c.args.row.now) c.shared_slice_known-1.given in by)) ((let created-s-read : read_at u64 (c.args.row.now) 0 ≡ takes c.created_s-1.given.0.0 c.created_s-1.given.0.1.0 = learn u64_says c.u64_at.ensures c.created_s-1.given.1 in created-s-read)) in created-s-took)))).here) c.own-1.given.0.0 c.own-1.given.0.1.0 = located-at (own_at _) _ (learn own_says c.own_envelope_at-own.ensures c.own-1.given.1) in envelope-read)).read in envelope-took)))).so ((let gen-took : Took u8 (c.args.row.now) ((field-yes ((field-yes ((ask-yes (start).so (eq-eqb _ _ c.if-version-ne-BLOB_VERSION.false))).so ((let created-s-took : Took u64 (c.args.row.now) 0 c.created_s-1.given.0.0 c.created_s-1.given.0.1.0 = took _ _ u64 (number-lawful 8) ((let by : Bytes (c.args.row.now) = typed (c.args.row.now) c.shared_slice_known-1.given in by)) ((let created-s-read : read_at u64 (c.args.row.now) 0 ≡ takes c.created_s-1.given.0.0 c.created_s-1.given.0.1.0 = learn u64_says c.u64_at.ensures c.created_s-1.given.1 in created-s-read)) in created-s-took)))).so ((let envelope-took : Took (optional (group own_envelope)) (c.args.row.now) ((field-yes ((ask-yes (start).so (eq-eqb _ _ c.if-version-ne-BLOB_VERSION.false))).so ((let created-s-took : Took u64 (c.args.row.now) 0 c.created_s-1.given.0.0 c.created_s-1.given.0.1.0 = took _ _ u64 (number-lawful 8) ((let by : Bytes (c.args.row.now) = typed (c.args.row.now) c.shared_slice_known-1.given in by)) ((let created-s-read : read_at u64 (c.args.row.now) 0 ≡ takes c.created_s-1.given.0.0 c.created_s-1.given.0.1.0 = learn u64_says c.u64_at.ensures c.created_s-1.given.1 in created-s-read)) in created-s-took)))).here ((let envelope-read : Located (own_at ((field-yes ((ask-yes (start).so (eq-eqb _ _ c.if-version-ne-BLOB_VERSION.false))).so ((let created-s-took : Took u64 (c.args.row.now) 0 c.created_s-1.given.0.0 c.created_s-1.given.0.1.0 = took _ _ u64 (number-lawful 8) ((let by : Bytes (c.args.row.now) = typed (c.args.row.now) c.shared_slice_known-1.given in by)) ((let created-s-read : read_at u64 (c.args.row.now) 0 ≡ takes c.created_s-1.given.0.0 c.created_s-1.given.0.1.0 = learn u64_says c.u64_at.ensures c.created_s-1.given.1 in created-s-read)) in created-s-took)))).here) (read_at (optional (group own_envelope)) (c.args.row.now) ((field-yes ((ask-yes (start).so (eq-eqb _ _ c.if-version-ne-BLOB_VERSION.false))).so ((let created-s-took : Took u64 (c.args.row.now) 0 c.created_s-1.given.0.0 c.created_s-1.given.0.1.0 = took _ _ u64 (number-lawful 8) ((let by : Bytes (c.args.row.now) = typed (c.args.row.now) c.shared_slice_known-1.given in by)) ((let created-s-read : read_at u64 (c.args.row.now) 0 ≡ takes c.created_s-1.given.0.0 c.created_s-1.given.0.1.0 = learn u64_says c.u64_at.ensures c.created_s-1.given.1 in created-s-read)) in created-s-took)))).here) c.own-1.given.0.0 c.own-1.given.0.1.0 = located-at (own_at _) _ (learn own_says c.own_envelope_at-own.ensures c.own-1.given.1) in envelope-read)).value c.own-1.given.0.1.0 = took _ _ (optional (group own_envelope)) (optional-lawful (group own_envelope) own_envelope-lawful) ((let by : Bytes (c.args.row.now) = typed (c.args.row.now) c.shared_slice_known-1.given in by)) ((let envelope-read : Located (own_at ((field-yes ((ask-yes (start).so (eq-eqb _ _ c.if-version-ne-BLOB_VERSION.false))).so ((let created-s-took : Took u64 (c.args.row.now) 0 c.created_s-1.given.0.0 c.created_s-1.given.0.1.0 = took _ _ u64 (number-lawful 8) ((let by : Bytes (c.args.row.now) = typed (c.args.row.now) c.shared_slice_known-1.given in by)) ((let created-s-read : read_at u64 (c.args.row.now) 0 ≡ takes c.created_s-1.given.0.0 c.created_s-1.given.0.1.0 = learn u64_says c.u64_at.ensures c.created_s-1.given.1 in created-s-read)) in created-s-took)))).here) (read_at (optional (group own_envelope)) (c.args.row.now) ((field-yes ((ask-yes (start).so (eq-eqb _ _ c.if-version-ne-BLOB_VERSION.false))).so ((let created-s-took : Took u64 (c.args.row.now) 0 c.created_s-1.given.0.0 c.created_s-1.given.0.1.0 = took _ _ u64 (number-lawful 8) ((let by : Bytes (c.args.row.now) = typed (c.args.row.now) c.shared_slice_known-1.given in by)) ((let created-s-read : read_at u64 (c.args.row.now) 0 ≡ takes c.created_s-1.given.0.0 c.created_s-1.given.0.1.0 = learn u64_says c.u64_at.ensures c.created_s-1.given.1 in created-s-read)) in created-s-took)))).here) c.own-1.given.0.0 c.own-1.given.0.1.0 = located-at (own_at _) _ (learn own_says c.own_envelope_at-own.ensures c.own-1.given.1) in envelope-read)).read in envelope-took)))).here c.gen_-1.given.0.0 c.gen_-1.given.0.1.0 = took _ _ u8 (number-lawful 1) ((let by : Bytes (c.args.row.now) = typed (c.args.row.now) c.shared_slice_known-1.given in by)) ((let gen-read : read_at u8 (c.args.row.now) ((field-yes ((field-yes ((ask-yes (start).so (eq-eqb _ _ c.if-version-ne-BLOB_VERSION.false))).so ((let created-s-took : Took u64 (c.args.row.now) 0 c.created_s-1.given.0.0 c.created_s-1.given.0.1.0 = took _ _ u64 (number-lawful 8) ((let by : Bytes (c.args.row.now) = typed (c.args.row.now) c.shared_slice_known-1.given in by)) ((let created-s-read : read_at u64 (c.args.row.now) 0 ≡ takes c.created_s-1.given.0.0 c.created_s-1.given.0.1.0 = learn u64_says c.u64_at.ensures c.created_s-1.given.1 in created-s-read)) in created-s-took)))).so ((let envelope-took : Took (optional (group own_envelope)) (c.args.row.now) ((field-yes ((ask-yes (start).so (eq-eqb _ _ c.if-version-ne-BLOB_VERSION.false))).so ((let created-s-took : Took u64 (c.args.row.now) 0 c.created_s-1.given.0.0 c.created_s-1.given.0.1.0 = took _ _ u64 (number-lawful 8) ((let by : Bytes (c.args.row.now) = typed (c.args.row.now) c.shared_slice_known-1.given in by)) ((let created-s-read : read_at u64 (c.args.row.now) 0 ≡ takes c.created_s-1.given.0.0 c.created_s-1.given.0.1.0 = learn u64_says c.u64_at.ensures c.created_s-1.given.1 in created-s-read)) in created-s-took)))).here ((let envelope-read : Located (own_at ((field-yes ((ask-yes (start).so (eq-eqb _ _ c.if-version-ne-BLOB_VERSION.false))).so ((let created-s-took : Took u64 (c.args.row.now) 0 c.created_s-1.given.0.0 c.created_s-1.given.0.1.0 = took _ _ u64 (number-lawful 8) ((let by : Bytes (c.args.row.now) = typed (c.args.row.now) c.shared_slice_known-1.given in by)) ((let created-s-read : read_at u64 (c.args.row.now) 0 ≡ takes c.created_s-1.given.0.0 c.created_s-1.given.0.1.0 = learn u64_says c.u64_at.ensures c.created_s-1.given.1 in created-s-read)) in created-s-took)))).here) (read_at (optional (group own_envelope)) (c.args.row.now) ((field-yes ((ask-yes (start).so (eq-eqb _ _ c.if-version-ne-BLOB_VERSION.false))).so ((let created-s-took : Took u64 (c.args.row.now) 0 c.created_s-1.given.0.0 c.created_s-1.given.0.1.0 = took _ _ u64 (number-lawful 8) ((let by : Bytes (c.args.row.now) = typed (c.args.row.now) c.shared_slice_known-1.given in by)) ((let created-s-read : read_at u64 (c.args.row.now) 0 ≡ takes c.created_s-1.given.0.0 c.created_s-1.given.0.1.0 = learn u64_says c.u64_at.ensures c.created_s-1.given.1 in created-s-read)) in created-s-took)))).here) c.own-1.given.0.0 c.own-1.given.0.1.0 = located-at (own_at _) _ (learn own_says c.own_envelope_at-own.ensures c.own-1.given.1) in envelope-read)).value c.own-1.given.0.1.0 = took _ _ (optional (group own_envelope)) (optional-lawful (group own_envelope) own_envelope-lawful) ((let by : Bytes (c.args.row.now) = typed (c.args.row.now) c.shared_slice_known-1.given in by)) ((let envelope-read : Located (own_at ((field-yes ((ask-yes (start).so (eq-eqb _ _ c.if-version-ne-BLOB_VERSION.false))).so ((let created-s-took : Took u64 (c.args.row.now) 0 c.created_s-1.given.0.0 c.created_s-1.given.0.1.0 = took _ _ u64 (number-lawful 8) ((let by : Bytes (c.args.row.now) = typed (c.args.row.now) c.shared_slice_known-1.given in by)) ((let created-s-read : read_at u64 (c.args.row.now) 0 ≡ takes c.created_s-1.given.0.0 c.created_s-1.given.0.1.0 = learn u64_says c.u64_at.ensures c.created_s-1.given.1 in created-s-read)) in created-s-took)))).here) (read_at (optional (group own_envelope)) (c.args.row.now) ((field-yes ((ask-yes (start).so (eq-eqb _ _ c.if-version-ne-BLOB_VERSION.false))).so ((let created-s-took : Took u64 (c.args.row.now) 0 c.created_s-1.given.0.0 c.created_s-1.given.0.1.0 = took _ _ u64 (number-lawful 8) ((let by : Bytes (c.args.row.now) = typed (c.args.row.now) c.shared_slice_known-1.given in by)) ((let created-s-read : read_at u64 (c.args.row.now) 0 ≡ takes c.created_s-1.given.0.0 c.created_s-1.given.0.1.0 = learn u64_says c.u64_at.ensures c.created_s-1.given.1 in created-s-read)) in created-s-took)))).here) c.own-1.given.0.0 c.own-1.given.0.1.0 = located-at (own_at _) _ (learn own_says c.own_envelope_at-own.ensures c.own-1.given.1) in envelope-read)).read in envelope-took)))).here ≡ takes c.gen_-1.given.0.0 c.gen_-1.given.0.1.0 = learn u8_says c.byte_at.ensures c.gen_-1.given.1 in gen-read)) in gen-took)))).so ((let idx-took : Took leb128 (c.args.row.now) ((field-yes ((field-yes ((field-yes ((ask-yes (start).so (eq-eqb _ _ c.if-version-ne-BLOB_VERSION.false))).so ((let created-s-took : Took u64 (c.args.row.now) 0 c.created_s-1.given.0.0 c.created_s-1.given.0.1.0 = took _ _ u64 (number-lawful 8) ((let by : Bytes (c.args.row.now) = typed (c.args.row.now) c.shared_slice_known-1.given in by)) ((let created-s-read : read_at u64 (c.args.row.now) 0 ≡ takes c.created_s-1.given.0.0 c.created_s-1.given.0.1.0 = learn u64_says c.u64_at.ensures c.created_s-1.given.1 in created-s-read)) in created-s-took)))).so ((let envelope-took : Took (optional (group own_envelope)) (c.args.row.now) ((field-yes ((ask-yes (start).so (eq-eqb _ _ c.if-version-ne-BLOB_VERSION.false))).so ((let created-s-took : Took u64 (c.args.row.now) 0 c.created_s-1.given.0.0 c.created_s-1.given.0.1.0 = took _ _ u64 (number-lawful 8) ((let by : Bytes (c.args.row.now) = typed (c.args.row.now) c.shared_slice_known-1.given in by)) ((let created-s-read : read_at u64 (c.args.row.now) 0 ≡ takes c.created_s-1.given.0.0 c.created_s-1.given.0.1.0 = learn u64_says c.u64_at.ensures c.created_s-1.given.1 in created-s-read)) in created-s-took)))).here ((let envelope-read : Located (own_at ((field-yes ((ask-yes (start).so (eq-eqb _ _ c.if-version-ne-BLOB_VERSION.false))).so ((let created-s-took : Took u64 (c.args.row.now) 0 c.created_s-1.given.0.0 c.created_s-1.given.0.1.0 = took _ _ u64 (number-lawful 8) ((let by : Bytes (c.args.row.now) = typed (c.args.row.now) c.shared_slice_known-1.given in by)) ((let created-s-read : read_at u64 (c.args.row.now) 0 ≡ takes c.created_s-1.given.0.0 c.created_s-1.given.0.1.0 = learn u64_says c.u64_at.ensures c.created_s-1.given.1 in created-s-read)) in created-s-took)))).here) (read_at (optional (group own_envelope)) (c.args.row.now) ((field-yes ((ask-yes (start).so (eq-eqb _ _ c.if-version-ne-BLOB_VERSION.false))).so ((let created-s-took : Took u64 (c.args.row.now) 0 c.created_s-1.given.0.0 c.created_s-1.given.0.1.0 = took _ _ u64 (number-lawful 8) ((let by : Bytes (c.args.row.now) = typed (c.args.row.now) c.shared_slice_known-1.given in by)) ((let created-s-read : read_at u64 (c.args.row.now) 0 ≡ takes c.created_s-1.given.0.0 c.created_s-1.given.0.1.0 = learn u64_says c.u64_at.ensures c.created_s-1.given.1 in created-s-read)) in created-s-took)))).here) c.own-1.given.0.0 c.own-1.given.0.1.0 = located-at (own_at _) _ (learn own_says c.own_envelope_at-own.ensures c.own-1.given.1) in envelope-read)).value c.own-1.given.0.1.0 = took _ _ (optional (group own_envelope)) (optional-lawful (group own_envelope) own_envelope-lawful) ((let by : Bytes (c.args.row.now) = typed (c.args.row.now) c.shared_slice_known-1.given in by)) ((let envelope-read : Located (own_at ((field-yes ((ask-yes (start).so (eq-eqb _ _ c.if-version-ne-BLOB_VERSION.false))).so ((let created-s-took : Took u64 (c.args.row.now) 0 c.created_s-1.given.0.0 c.created_s-1.given.0.1.0 = took _ _ u64 (number-lawful 8) ((let by : Bytes (c.args.row.now) = typed (c.args.row.now) c.shared_slice_known-1.given in by)) ((let created-s-read : read_at u64 (c.args.row.now) 0 ≡ takes c.created_s-1.given.0.0 c.created_s-1.given.0.1.0 = learn u64_says c.u64_at.ensures c.created_s-1.given.1 in created-s-read)) in created-s-took)))).here) (read_at (optional (group own_envelope)) (c.args.row.now) ((field-yes ((ask-yes (start).so (eq-eqb _ _ c.if-version-ne-BLOB_VERSION.false))).so ((let created-s-took : Took u64 (c.args.row.now) 0 c.created_s-1.given.0.0 c.created_s-1.given.0.1.0 = took _ _ u64 (number-lawful 8) ((let by : Bytes (c.args.row.now) = typed (c.args.row.now) c.shared_slice_known-1.given in by)) ((let created-s-read : read_at u64 (c.args.row.now) 0 ≡ takes c.created_s-1.given.0.0 c.created_s-1.given.0.1.0 = learn u64_says c.u64_at.ensures c.created_s-1.given.1 in created-s-read)) in created-s-took)))).here) c.own-1.given.0.0 c.own-1.given.0.1.0 = located-at (own_at _) _ (learn own_says c.own_envelope_at-own.ensures c.own-1.given.1) in envelope-read)).read in envelope-took)))).so ((let gen-took : Took u8 (c.args.row.now) ((field-yes ((field-yes ((ask-yes (start).so (eq-eqb _ _ c.if-version-ne-BLOB_VERSION.false))).so ((let created-s-took : Took u64 (c.args.row.now) 0 c.created_s-1.given.0.0 c.created_s-1.given.0.1.0 = took _ _ u64 (number-lawful 8) ((let by : Bytes (c.args.row.now) = typed (c.args.row.now) c.shared_slice_known-1.given in by)) ((let created-s-read : read_at u64 (c.args.row.now) 0 ≡ takes c.created_s-1.given.0.0 c.created_s-1.given.0.1.0 = learn u64_says c.u64_at.ensures c.created_s-1.given.1 in created-s-read)) in created-s-took)))).so ((let envelope-took : Took (optional (group own_envelope)) (c.args.row.now) ((field-yes ((ask-yes (start).so (eq-eqb _ _ c.if-version-ne-BLOB_VERSION.false))).so ((let created-s-took : Took u64 (c.args.row.now) 0 c.created_s-1.given.0.0 c.created_s-1.given.0.1.0 = took _ _ u64 (number-lawful 8) ((let by : Bytes (c.args.row.now) = typed (c.args.row.now) c.shared_slice_known-1.given in by)) ((let created-s-read : read_at u64 (c.args.row.now) 0 ≡ takes c.created_s-1.given.0.0 c.created_s-1.given.0.1.0 = learn u64_says c.u64_at.ensures c.created_s-1.given.1 in created-s-read)) in created-s-took)))).here ((let envelope-read : Located (own_at ((field-yes ((ask-yes (start).so (eq-eqb _ _ c.if-version-ne-BLOB_VERSION.false))).so ((let created-s-took : Took u64 (c.args.row.now) 0 c.created_s-1.given.0.0 c.created_s-1.given.0.1.0 = took _ _ u64 (number-lawful 8) ((let by : Bytes (c.args.row.now) = typed (c.args.row.now) c.shared_slice_known-1.given in by)) ((let created-s-read : read_at u64 (c.args.row.now) 0 ≡ takes c.created_s-1.given.0.0 c.created_s-1.given.0.1.0 = learn u64_says c.u64_at.ensures c.created_s-1.given.1 in created-s-read)) in created-s-took)))).here) (read_at (optional (group own_envelope)) (c.args.row.now) ((field-yes ((ask-yes (start).so (eq-eqb _ _ c.if-version-ne-BLOB_VERSION.false))).so ((let created-s-took : Took u64 (c.args.row.now) 0 c.created_s-1.given.0.0 c.created_s-1.given.0.1.0 = took _ _ u64 (number-lawful 8) ((let by : Bytes (c.args.row.now) = typed (c.args.row.now) c.shared_slice_known-1.given in by)) ((let created-s-read : read_at u64 (c.args.row.now) 0 ≡ takes c.created_s-1.given.0.0 c.created_s-1.given.0.1.0 = learn u64_says c.u64_at.ensures c.created_s-1.given.1 in created-s-read)) in created-s-took)))).here) c.own-1.given.0.0 c.own-1.given.0.1.0 = located-at (own_at _) _ (learn own_says c.own_envelope_at-own.ensures c.own-1.given.1) in envelope-read)).value c.own-1.given.0.1.0 = took _ _ (optional (group own_envelope)) (optional-lawful (group own_envelope) own_envelope-lawful) ((let by : Bytes (c.args.row.now) = typed (c.args.row.now) c.shared_slice_known-1.given in by)) ((let envelope-read : Located (own_at ((field-yes ((ask-yes (start).so (eq-eqb _ _ c.if-version-ne-BLOB_VERSION.false))).so ((let created-s-took : Took u64 (c.args.row.now) 0 c.created_s-1.given.0.0 c.created_s-1.given.0.1.0 = took _ _ u64 (number-lawful 8) ((let by : Bytes (c.args.row.now) = typed (c.args.row.now) c.shared_slice_known-1.given in by)) ((let created-s-read : read_at u64 (c.args.row.now) 0 ≡ takes c.created_s-1.given.0.0 c.created_s-1.given.0.1.0 = learn u64_says c.u64_at.ensures c.created_s-1.given.1 in created-s-read)) in created-s-took)))).here) (read_at (optional (group own_envelope)) (c.args.row.now) ((field-yes ((ask-yes (start).so (eq-eqb _ _ c.if-version-ne-BLOB_VERSION.false))).so ((let created-s-took : Took u64 (c.args.row.now) 0 c.created_s-1.given.0.0 c.created_s-1.given.0.1.0 = took _ _ u64 (number-lawful 8) ((let by : Bytes (c.args.row.now) = typed (c.args.row.now) c.shared_slice_known-1.given in by)) ((let created-s-read : read_at u64 (c.args.row.now) 0 ≡ takes c.created_s-1.given.0.0 c.created_s-1.given.0.1.0 = learn u64_says c.u64_at.ensures c.created_s-1.given.1 in created-s-read)) in created-s-took)))).here) c.own-1.given.0.0 c.own-1.given.0.1.0 = located-at (own_at _) _ (learn own_says c.own_envelope_at-own.ensures c.own-1.given.1) in envelope-read)).read in envelope-took)))).here c.gen_-1.given.0.0 c.gen_-1.given.0.1.0 = took _ _ u8 (number-lawful 1) ((let by : Bytes (c.args.row.now) = typed (c.args.row.now) c.shared_slice_known-1.given in by)) ((let gen-read : read_at u8 (c.args.row.now) ((field-yes ((field-yes ((ask-yes (start).so (eq-eqb _ _ c.if-version-ne-BLOB_VERSION.false))).so ((let created-s-took : Took u64 (c.args.row.now) 0 c.created_s-1.given.0.0 c.created_s-1.given.0.1.0 = took _ _ u64 (number-lawful 8) ((let by : Bytes (c.args.row.now) = typed (c.args.row.now) c.shared_slice_known-1.given in by)) ((let created-s-read : read_at u64 (c.args.row.now) 0 ≡ takes c.created_s-1.given.0.0 c.created_s-1.given.0.1.0 = learn u64_says c.u64_at.ensures c.created_s-1.given.1 in created-s-read)) in created-s-took)))).so ((let envelope-took : Took (optional (group own_envelope)) (c.args.row.now) ((field-yes ((ask-yes (start).so (eq-eqb _ _ c.if-version-ne-BLOB_VERSION.false))).so ((let created-s-took : Took u64 (c.args.row.now) 0 c.created_s-1.given.0.0 c.created_s-1.given.0.1.0 = took _ _ u64 (number-lawful 8) ((let by : Bytes (c.args.row.now) = typed (c.args.row.now) c.shared_slice_known-1.given in by)) ((let created-s-read : read_at u64 (c.args.row.now) 0 ≡ takes c.created_s-1.given.0.0 c.created_s-1.given.0.1.0 = learn u64_says c.u64_at.ensures c.created_s-1.given.1 in created-s-read)) in created-s-took)))).here ((let envelope-read : Located (own_at ((field-yes ((ask-yes (start).so (eq-eqb _ _ c.if-version-ne-BLOB_VERSION.false))).so ((let created-s-took : Took u64 (c.args.row.now) 0 c.created_s-1.given.0.0 c.created_s-1.given.0.1.0 = took _ _ u64 (number-lawful 8) ((let by : Bytes (c.args.row.now) = typed (c.args.row.now) c.shared_slice_known-1.given in by)) ((let created-s-read : read_at u64 (c.args.row.now) 0 ≡ takes c.created_s-1.given.0.0 c.created_s-1.given.0.1.0 = learn u64_says c.u64_at.ensures c.created_s-1.given.1 in created-s-read)) in created-s-took)))).here) (read_at (optional (group own_envelope)) (c.args.row.now) ((field-yes ((ask-yes (start).so (eq-eqb _ _ c.if-version-ne-BLOB_VERSION.false))).so ((let created-s-took : Took u64 (c.args.row.now) 0 c.created_s-1.given.0.0 c.created_s-1.given.0.1.0 = took _ _ u64 (number-lawful 8) ((let by : Bytes (c.args.row.now) = typed (c.args.row.now) c.shared_slice_known-1.given in by)) ((let created-s-read : read_at u64 (c.args.row.now) 0 ≡ takes c.created_s-1.given.0.0 c.created_s-1.given.0.1.0 = learn u64_says c.u64_at.ensures c.created_s-1.given.1 in created-s-read)) in created-s-took)))).here) c.own-1.given.0.0 c.own-1.given.0.1.0 = located-at (own_at _) _ (learn own_says c.own_envelope_at-own.ensures c.own-1.given.1) in envelope-read)).value c.own-1.given.0.1.0 = took _ _ (optional (group own_envelope)) (optional-lawful (group own_envelope) own_envelope-lawful) ((let by : Bytes (c.args.row.now) = typed (c.args.row.now) c.shared_slice_known-1.given in by)) ((let envelope-read : Located (own_at ((field-yes ((ask-yes (start).so (eq-eqb _ _ c.if-version-ne-BLOB_VERSION.false))).so ((let created-s-took : Took u64 (c.args.row.now) 0 c.created_s-1.given.0.0 c.created_s-1.given.0.1.0 = took _ _ u64 (number-lawful 8) ((let by : Bytes (c.args.row.now) = typed (c.args.row.now) c.shared_slice_known-1.given in by)) ((let created-s-read : read_at u64 (c.args.row.now) 0 ≡ takes c.created_s-1.given.0.0 c.created_s-1.given.0.1.0 = learn u64_says c.u64_at.ensures c.created_s-1.given.1 in created-s-read)) in created-s-took)))).here) (read_at (optional (group own_envelope)) (c.args.row.now) ((field-yes ((ask-yes (start).so (eq-eqb _ _ c.if-version-ne-BLOB_VERSION.false))).so ((let created-s-took : Took u64 (c.args.row.now) 0 c.created_s-1.given.0.0 c.created_s-1.given.0.1.0 = took _ _ u64 (number-lawful 8) ((let by : Bytes (c.args.row.now) = typed (c.args.row.now) c.shared_slice_known-1.given in by)) ((let created-s-read : read_at u64 (c.args.row.now) 0 ≡ takes c.created_s-1.given.0.0 c.created_s-1.given.0.1.0 = learn u64_says c.u64_at.ensures c.created_s-1.given.1 in created-s-read)) in created-s-took)))).here) c.own-1.given.0.0 c.own-1.given.0.1.0 = located-at (own_at _) _ (learn own_says c.own_envelope_at-own.ensures c.own-1.given.1) in envelope-read)).read in envelope-took)))).here ≡ takes c.gen_-1.given.0.0 c.gen_-1.given.0.1.0 = learn u8_says c.byte_at.ensures c.gen_-1.given.1 in gen-read)) in gen-took)))).here c.leb128-1.given.0.0 c.leb128-1.given.0.1.0 = took _ _ leb128 leb128-lawful ((let by : Bytes (c.args.row.now) = typed (c.args.row.now) c.shared_slice_known-1.given in by)) ((let idx-read : read_at leb128 (c.args.row.now) ((field-yes ((field-yes ((field-yes ((ask-yes (start).so (eq-eqb _ _ c.if-version-ne-BLOB_VERSION.false))).so ((let created-s-took : Took u64 (c.args.row.now) 0 c.created_s-1.given.0.0 c.created_s-1.given.0.1.0 = took _ _ u64 (number-lawful 8) ((let by : Bytes (c.args.row.now) = typed (c.args.row.now) c.shared_slice_known-1.given in by)) ((let created-s-read : read_at u64 (c.args.row.now) 0 ≡ takes c.created_s-1.given.0.0 c.created_s-1.given.0.1.0 = learn u64_says c.u64_at.ensures c.created_s-1.given.1 in created-s-read)) in created-s-took)))).so ((let envelope-took : Took (optional (group own_envelope)) (c.args.row.now) ((field-yes ((ask-yes (start).so (eq-eqb _ _ c.if-version-ne-BLOB_VERSION.false))).so ((let created-s-took : Took u64 (c.args.row.now) 0 c.created_s-1.given.0.0 c.created_s-1.given.0.1.0 = took _ _ u64 (number-lawful 8) ((let by : Bytes (c.args.row.now) = typed (c.args.row.now) c.shared_slice_known-1.given in by)) ((let created-s-read : read_at u64 (c.args.row.now) 0 ≡ takes c.created_s-1.given.0.0 c.created_s-1.given.0.1.0 = learn u64_says c.u64_at.ensures c.created_s-1.given.1 in created-s-read)) in created-s-took)))).here ((let envelope-read : Located (own_at ((field-yes ((ask-yes (start).so (eq-eqb _ _ c.if-version-ne-BLOB_VERSION.false))).so ((let created-s-took : Took u64 (c.args.row.now) 0 c.created_s-1.given.0.0 c.created_s-1.given.0.1.0 = took _ _ u64 (number-lawful 8) ((let by : Bytes (c.args.row.now) = typed (c.args.row.now) c.shared_slice_known-1.given in by)) ((let created-s-read : read_at u64 (c.args.row.now) 0 ≡ takes c.created_s-1.given.0.0 c.created_s-1.given.0.1.0 = learn u64_says c.u64_at.ensures c.created_s-1.given.1 in created-s-read)) in created-s-took)))).here) (read_at (optional (group own_envelope)) (c.args.row.now) ((field-yes ((ask-yes (start).so (eq-eqb _ _ c.if-version-ne-BLOB_VERSION.false))).so ((let created-s-took : Took u64 (c.args.row.now) 0 c.created_s-1.given.0.0 c.created_s-1.given.0.1.0 = took _ _ u64 (number-lawful 8) ((let by : Bytes (c.args.row.now) = typed (c.args.row.now) c.shared_slice_known-1.given in by)) ((let created-s-read : read_at u64 (c.args.row.now) 0 ≡ takes c.created_s-1.given.0.0 c.created_s-1.given.0.1.0 = learn u64_says c.u64_at.ensures c.created_s-1.given.1 in created-s-read)) in created-s-took)))).here) c.own-1.given.0.0 c.own-1.given.0.1.0 = located-at (own_at _) _ (learn own_says c.own_envelope_at-own.ensures c.own-1.given.1) in envelope-read)).value c.own-1.given.0.1.0 = took _ _ (optional (group own_envelope)) (optional-lawful (group own_envelope) own_envelope-lawful) ((let by : Bytes (c.args.row.now) = typed (c.args.row.now) c.shared_slice_known-1.given in by)) ((let envelope-read : Located (own_at ((field-yes ((ask-yes (start).so (eq-eqb _ _ c.if-version-ne-BLOB_VERSION.false))).so ((let created-s-took : Took u64 (c.args.row.now) 0 c.created_s-1.given.0.0 c.created_s-1.given.0.1.0 = took _ _ u64 (number-lawful 8) ((let by : Bytes (c.args.row.now) = typed (c.args.row.now) c.shared_slice_known-1.given in by)) ((let created-s-read : read_at u64 (c.args.row.now) 0 ≡ takes c.created_s-1.given.0.0 c.created_s-1.given.0.1.0 = learn u64_says c.u64_at.ensures c.created_s-1.given.1 in created-s-read)) in created-s-took)))).here) (read_at (optional (group own_envelope)) (c.args.row.now) ((field-yes ((ask-yes (start).so (eq-eqb _ _ c.if-version-ne-BLOB_VERSION.false))).so ((let created-s-took : Took u64 (c.args.row.now) 0 c.created_s-1.given.0.0 c.created_s-1.given.0.1.0 = took _ _ u64 (number-lawful 8) ((let by : Bytes (c.args.row.now) = typed (c.args.row.now) c.shared_slice_known-1.given in by)) ((let created-s-read : read_at u64 (c.args.row.now) 0 ≡ takes c.created_s-1.given.0.0 c.created_s-1.given.0.1.0 = learn u64_says c.u64_at.ensures c.created_s-1.given.1 in created-s-read)) in created-s-took)))).here) c.own-1.given.0.0 c.own-1.given.0.1.0 = located-at (own_at _) _ (learn own_says c.own_envelope_at-own.ensures c.own-1.given.1) in envelope-read)).read in envelope-took)))).so ((let gen-took : Took u8 (c.args.row.now) ((field-yes ((field-yes ((ask-yes (start).so (eq-eqb _ _ c.if-version-ne-BLOB_VERSION.false))).so ((let created-s-took : Took u64 (c.args.row.now) 0 c.created_s-1.given.0.0 c.created_s-1.given.0.1.0 = took _ _ u64 (number-lawful 8) ((let by : Bytes (c.args.row.now) = typed (c.args.row.now) c.shared_slice_known-1.given in by)) ((let created-s-read : read_at u64 (c.args.row.now) 0 ≡ takes c.created_s-1.given.0.0 c.created_s-1.given.0.1.0 = learn u64_says c.u64_at.ensures c.created_s-1.given.1 in created-s-read)) in created-s-took)))).so ((let envelope-took : Took (optional (group own_envelope)) (c.args.row.now) ((field-yes ((ask-yes (start).so (eq-eqb _ _ c.if-version-ne-BLOB_VERSION.false))).so ((let created-s-took : Took u64 (c.args.row.now) 0 c.created_s-1.given.0.0 c.created_s-1.given.0.1.0 = took _ _ u64 (number-lawful 8) ((let by : Bytes (c.args.row.now) = typed (c.args.row.now) c.shared_slice_known-1.given in by)) ((let created-s-read : read_at u64 (c.args.row.now) 0 ≡ takes c.created_s-1.given.0.0 c.created_s-1.given.0.1.0 = learn u64_says c.u64_at.ensures c.created_s-1.given.1 in created-s-read)) in created-s-took)))).here ((let envelope-read : Located (own_at ((field-yes ((ask-yes (start).so (eq-eqb _ _ c.if-version-ne-BLOB_VERSION.false))).so ((let created-s-took : Took u64 (c.args.row.now) 0 c.created_s-1.given.0.0 c.created_s-1.given.0.1.0 = took _ _ u64 (number-lawful 8) ((let by : Bytes (c.args.row.now) = typed (c.args.row.now) c.shared_slice_known-1.given in by)) ((let created-s-read : read_at u64 (c.args.row.now) 0 ≡ takes c.created_s-1.given.0.0 c.created_s-1.given.0.1.0 = learn u64_says c.u64_at.ensures c.created_s-1.given.1 in created-s-read)) in created-s-took)))).here) (read_at (optional (group own_envelope)) (c.args.row.now) ((field-yes ((ask-yes (start).so (eq-eqb _ _ c.if-version-ne-BLOB_VERSION.false))).so ((let created-s-took : Took u64 (c.args.row.now) 0 c.created_s-1.given.0.0 c.created_s-1.given.0.1.0 = took _ _ u64 (number-lawful 8) ((let by : Bytes (c.args.row.now) = typed (c.args.row.now) c.shared_slice_known-1.given in by)) ((let created-s-read : read_at u64 (c.args.row.now) 0 ≡ takes c.created_s-1.given.0.0 c.created_s-1.given.0.1.0 = learn u64_says c.u64_at.ensures c.created_s-1.given.1 in created-s-read)) in created-s-took)))).here) c.own-1.given.0.0 c.own-1.given.0.1.0 = located-at (own_at _) _ (learn own_says c.own_envelope_at-own.ensures c.own-1.given.1) in envelope-read)).value c.own-1.given.0.1.0 = took _ _ (optional (group own_envelope)) (optional-lawful (group own_envelope) own_envelope-lawful) ((let by : Bytes (c.args.row.now) = typed (c.args.row.now) c.shared_slice_known-1.given in by)) ((let envelope-read : Located (own_at ((field-yes ((ask-yes (start).so (eq-eqb _ _ c.if-version-ne-BLOB_VERSION.false))).so ((let created-s-took : Took u64 (c.args.row.now) 0 c.created_s-1.given.0.0 c.created_s-1.given.0.1.0 = took _ _ u64 (number-lawful 8) ((let by : Bytes (c.args.row.now) = typed (c.args.row.now) c.shared_slice_known-1.given in by)) ((let created-s-read : read_at u64 (c.args.row.now) 0 ≡ takes c.created_s-1.given.0.0 c.created_s-1.given.0.1.0 = learn u64_says c.u64_at.ensures c.created_s-1.given.1 in created-s-read)) in created-s-took)))).here) (read_at (optional (group own_envelope)) (c.args.row.now) ((field-yes ((ask-yes (start).so (eq-eqb _ _ c.if-version-ne-BLOB_VERSION.false))).so ((let created-s-took : Took u64 (c.args.row.now) 0 c.created_s-1.given.0.0 c.created_s-1.given.0.1.0 = took _ _ u64 (number-lawful 8) ((let by : Bytes (c.args.row.now) = typed (c.args.row.now) c.shared_slice_known-1.given in by)) ((let created-s-read : read_at u64 (c.args.row.now) 0 ≡ takes c.created_s-1.given.0.0 c.created_s-1.given.0.1.0 = learn u64_says c.u64_at.ensures c.created_s-1.given.1 in created-s-read)) in created-s-took)))).here) c.own-1.given.0.0 c.own-1.given.0.1.0 = located-at (own_at _) _ (learn own_says c.own_envelope_at-own.ensures c.own-1.given.1) in envelope-read)).read in envelope-took)))).here c.gen_-1.given.0.0 c.gen_-1.given.0.1.0 = took _ _ u8 (number-lawful 1) ((let by : Bytes (c.args.row.now) = typed (c.args.row.now) c.shared_slice_known-1.given in by)) ((let gen-read : read_at u8 (c.args.row.now) ((field-yes ((field-yes ((ask-yes (start).so (eq-eqb _ _ c.if-version-ne-BLOB_VERSION.false))).so ((let created-s-took : Took u64 (c.args.row.now) 0 c.created_s-1.given.0.0 c.created_s-1.given.0.1.0 = took _ _ u64 (number-lawful 8) ((let by : Bytes (c.args.row.now) = typed (c.args.row.now) c.shared_slice_known-1.given in by)) ((let created-s-read : read_at u64 (c.args.row.now) 0 ≡ takes c.created_s-1.given.0.0 c.created_s-1.given.0.1.0 = learn u64_says c.u64_at.ensures c.created_s-1.given.1 in created-s-read)) in created-s-took)))).so ((let envelope-took : Took (optional (group own_envelope)) (c.args.row.now) ((field-yes ((ask-yes (start).so (eq-eqb _ _ c.if-version-ne-BLOB_VERSION.false))).so ((let created-s-took : Took u64 (c.args.row.now) 0 c.created_s-1.given.0.0 c.created_s-1.given.0.1.0 = took _ _ u64 (number-lawful 8) ((let by : Bytes (c.args.row.now) = typed (c.args.row.now) c.shared_slice_known-1.given in by)) ((let created-s-read : read_at u64 (c.args.row.now) 0 ≡ takes c.created_s-1.given.0.0 c.created_s-1.given.0.1.0 = learn u64_says c.u64_at.ensures c.created_s-1.given.1 in created-s-read)) in created-s-took)))).here ((let envelope-read : Located (own_at ((field-yes ((ask-yes (start).so (eq-eqb _ _ c.if-version-ne-BLOB_VERSION.false))).so ((let created-s-took : Took u64 (c.args.row.now) 0 c.created_s-1.given.0.0 c.created_s-1.given.0.1.0 = took _ _ u64 (number-lawful 8) ((let by : Bytes (c.args.row.now) = typed (c.args.row.now) c.shared_slice_known-1.given in by)) ((let created-s-read : read_at u64 (c.args.row.now) 0 ≡ takes c.created_s-1.given.0.0 c.created_s-1.given.0.1.0 = learn u64_says c.u64_at.ensures c.created_s-1.given.1 in created-s-read)) in created-s-took)))).here) (read_at (optional (group own_envelope)) (c.args.row.now) ((field-yes ((ask-yes (start).so (eq-eqb _ _ c.if-version-ne-BLOB_VERSION.false))).so ((let created-s-took : Took u64 (c.args.row.now) 0 c.created_s-1.given.0.0 c.created_s-1.given.0.1.0 = took _ _ u64 (number-lawful 8) ((let by : Bytes (c.args.row.now) = typed (c.args.row.now) c.shared_slice_known-1.given in by)) ((let created-s-read : read_at u64 (c.args.row.now) 0 ≡ takes c.created_s-1.given.0.0 c.created_s-1.given.0.1.0 = learn u64_says c.u64_at.ensures c.created_s-1.given.1 in created-s-read)) in created-s-took)))).here) c.own-1.given.0.0 c.own-1.given.0.1.0 = located-at (own_at _) _ (learn own_says c.own_envelope_at-own.ensures c.own-1.given.1) in envelope-read)).value c.own-1.given.0.1.0 = took _ _ (optional (group own_envelope)) (optional-lawful (group own_envelope) own_envelope-lawful) ((let by : Bytes (c.args.row.now) = typed (c.args.row.now) c.shared_slice_known-1.given in by)) ((let envelope-read : Located (own_at ((field-yes ((ask-yes (start).so (eq-eqb _ _ c.if-version-ne-BLOB_VERSION.false))).so ((let created-s-took : Took u64 (c.args.row.now) 0 c.created_s-1.given.0.0 c.created_s-1.given.0.1.0 = took _ _ u64 (number-lawful 8) ((let by : Bytes (c.args.row.now) = typed (c.args.row.now) c.shared_slice_known-1.given in by)) ((let created-s-read : read_at u64 (c.args.row.now) 0 ≡ takes c.created_s-1.given.0.0 c.created_s-1.given.0.1.0 = learn u64_says c.u64_at.ensures c.created_s-1.given.1 in created-s-read)) in created-s-took)))).here) (read_at (optional (group own_envelope)) (c.args.row.now) ((field-yes ((ask-yes (start).so (eq-eqb _ _ c.if-version-ne-BLOB_VERSION.false))).so ((let created-s-took : Took u64 (c.args.row.now) 0 c.created_s-1.given.0.0 c.created_s-1.given.0.1.0 = took _ _ u64 (number-lawful 8) ((let by : Bytes (c.args.row.now) = typed (c.args.row.now) c.shared_slice_known-1.given in by)) ((let created-s-read : read_at u64 (c.args.row.now) 0 ≡ takes c.created_s-1.given.0.0 c.created_s-1.given.0.1.0 = learn u64_says c.u64_at.ensures c.created_s-1.given.1 in created-s-read)) in created-s-took)))).here) c.own-1.given.0.0 c.own-1.given.0.1.0 = located-at (own_at _) _ (learn own_says c.own_envelope_at-own.ensures c.own-1.given.1) in envelope-read)).read in envelope-took)))).here ≡ takes c.gen_-1.given.0.0 c.gen_-1.given.0.1.0 = learn u8_says c.byte_at.ensures c.gen_-1.given.1 in gen-read)) in gen-took)))).here ≡ takes c.leb128-1.given.0.0 c.leb128-1.given.0.1.0 = learn leb128_says c.leb128_at-leb128.ensures c.leb128-1.given.1 in idx-read)) in idx-took)))).here (sym c.sealed_queued.ensures ∙ c.if-sealed_queued.false)) in
+    let r0 : Reached (queued c.args.version) c.args.row.now 0 = start in
+    let r1 : Reached (queued c.args.version) c.args.row.now 0 = ask-yes r0.so (eq-eqb _ _ c.if-version-ne-BLOB_VERSION.false) in
+    let created-s-read : read_at u64 (c.args.row.now) 0 ≡ takes c.in-Value.created_s c.in-Value.at1 = learn u64_says c.u64_at.ensures c.in-Value.is in
+    let created-s-took : Took u64 (c.args.row.now) 0 c.in-Value.created_s c.in-Value.at1 = took _ _ u64 (number-lawful 8) (typed c.args.row.now c.type_inv.row) created-s-read in
+    let r2 : Reached (queued c.args.version) c.args.row.now 0 = field-yes r1.so created-s-took in
+    let envelope-read : Located (own_at r2.here) (read_at (optional (group own_envelope)) (c.args.row.now) r2.here) c.in-Value-own.envelope c.in-Value-own.at2 = located-at (own_at _) _ (learn own_says c.own_envelope_at-own.ensures c.in-Value-own.is) in
+    let envelope-took : Took (optional (group own_envelope)) (c.args.row.now) r2.here envelope-read.value c.in-Value-own.at2 = took _ _ (optional (group own_envelope)) (optional-lawful (group own_envelope) own_envelope-lawful) (typed c.args.row.now c.type_inv.row) envelope-read.read in
+    let r3 : Reached (queued c.args.version) c.args.row.now 0 = field-yes r2.so envelope-took in
+    let gen-read : read_at u8 (c.args.row.now) r3.here ≡ takes c.in-Value-byte_at.gen_ c.in-Value-byte_at.at3 = learn u8_says c.byte_at.ensures c.in-Value-byte_at.is in
+    let gen-took : Took u8 (c.args.row.now) r3.here c.in-Value-byte_at.gen_ c.in-Value-byte_at.at3 = took _ _ u8 (number-lawful 1) (typed c.args.row.now c.type_inv.row) gen-read in
+    let r4 : Reached (queued c.args.version) c.args.row.now 0 = field-yes r3.so gen-took in
+    let idx-read : read_at leb128 (c.args.row.now) r4.here ≡ takes c.in-Value-leb128.idx c.in-Value-leb128.at4 = learn leb128_says c.leb128_at-leb128.ensures c.in-Value-leb128.is in
+    let idx-took : Took leb128 (c.args.row.now) r4.here c.in-Value-leb128.idx c.in-Value-leb128.at4 = took _ _ leb128 leb128-lawful (typed c.args.row.now c.type_inv.row) idx-read in
+    let r5 : Reached (queued c.args.version) c.args.row.now 0 = field-yes r4.so idx-took in
+    let stop = field-no r5.so (text-refused veiled SEALED_LENGTH sealed_queued (c.args.row.now) r5.here (sym c.sealed_queued.ensures ∙ c.if-sealed_queued.false)) in
     (sym (ap (λ (x : Read Queued). checked c.args.version (answer x)) stop))

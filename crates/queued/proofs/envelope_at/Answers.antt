@@ -10,7 +10,7 @@ use Rattle.layout.specs.Layout.{group}
 use Rattle.layout.specs.RowLaws.{Bytes}
 use Rattle.layout.proofs.Front.{number-lawful, flag-lawful}
 use Rattle.layout.proofs.At.{learn, Took, typed, took, refused-at}
-use Rattle.layout.proofs.Steps.{start, field-yes, field-no, done-yes}
+use Rattle.layout.proofs.Steps.{Reached, start, field-yes, field-no, done-yes}
 use Rattle.rows.specs.Values.{OwnEnvelope}
 use Rattle.rows.specs.Rows.{own_envelope}
 use Rattle.fields.specs.Says.{u8_says, u32_says, flag_says, flag_refusal}
@@ -29,39 +29,63 @@ its-places from v tag_at s-at = λ i. record { tag = tag_at i; s = s-at i; expir
 
 pub returns-in_default : goal.returns-in_default
 returns-in_default c =
-    let stop = field-no (start).so (run_short _ _ plain 16 c.run_at.ensures.0 c.enum_told-1.given.1) in
+    let r0 : Reached own_envelope c.args.row.now c.args.at = start in
+    let stop = field-no r0.so (run_short _ _ plain 16 c.run_at.ensures.0 c.in_default.is) in
     locates-not _ _ (group own_envelope) (envelope_at _) stop
 
 pub returns-in_default-run_at : goal.returns-in_default-run_at
 returns-in_default-run_at c =
-    let stop = field-no ((field-yes (start).so (run-took _ _ plain 16 c.run_at.ensures.0 ((let by : Bytes (c.args.row.now) = typed (c.args.row.now) c.shared_slice_known-1.given in by)) c.tag-1.given.1))).so (run_short _ _ veiled 16 c.run_at-2.ensures.0 c.enum_told-in_default-run_at-1.given.1) in
+    let r0 : Reached own_envelope c.args.row.now c.args.at = start in
+    let r1 : Reached own_envelope c.args.row.now c.args.at = field-yes r0.so (run-took _ _ plain 16 c.run_at.ensures.0 (typed c.args.row.now c.type_inv.row) c.in-Value.is) in
+    let stop = field-no r1.so (run_short _ _ veiled 16 c.run_at-2.ensures.0 c.in_default-run_at.is) in
     locates-not _ _ (group own_envelope) (envelope_at _) stop
 
 pub returns-in_default-u32_at : goal.returns-in_default-u32_at
 returns-in_default-u32_at c =
-    let stop = field-no ((field-yes ((field-yes (start).so (run-took _ _ plain 16 c.run_at.ensures.0 ((let by : Bytes (c.args.row.now) = typed (c.args.row.now) c.shared_slice_known-1.given in by)) c.tag-1.given.1))).so (run-took _ _ veiled 16 c.run_at-2.ensures.0 ((let by : Bytes (c.args.row.now) = typed (c.args.row.now) c.shared_slice_known-1.given in by)) c.s-1.given.1))).so (refused-at _ _ u32 (learn u32_says c.u32_at.ensures c.enum_told-in_default-u32_at-1.given.1)) in
+    let r0 : Reached own_envelope c.args.row.now c.args.at = start in
+    let r1 : Reached own_envelope c.args.row.now c.args.at = field-yes r0.so (run-took _ _ plain 16 c.run_at.ensures.0 (typed c.args.row.now c.type_inv.row) c.in-Value.is) in
+    let r2 : Reached own_envelope c.args.row.now c.args.at = field-yes r1.so (run-took _ _ veiled 16 c.run_at-2.ensures.0 (typed c.args.row.now c.type_inv.row) c.in-Value-run_at.is) in
+    let stop = field-no r2.so (refused-at _ _ u32 (learn u32_says c.u32_at.ensures c.in_default-u32_at.is)) in
     locates-not _ _ (group own_envelope) (envelope_at _) stop
 
 pub returns-in_default-byte_at : goal.returns-in_default-byte_at
 returns-in_default-byte_at c =
-    let stop = field-no ((field-yes ((field-yes ((field-yes (start).so (run-took _ _ plain 16 c.run_at.ensures.0 ((let by : Bytes (c.args.row.now) = typed (c.args.row.now) c.shared_slice_known-1.given in by)) c.tag-1.given.1))).so (run-took _ _ veiled 16 c.run_at-2.ensures.0 ((let by : Bytes (c.args.row.now) = typed (c.args.row.now) c.shared_slice_known-1.given in by)) c.s-1.given.1))).so (took _ _ u32 (number-lawful 4) ((let by : Bytes (c.args.row.now) = typed (c.args.row.now) c.shared_slice_known-1.given in by)) (learn u32_says c.u32_at.ensures c.expiry_min-1.given.1)))).so (refused-at _ _ u8 (learn u8_says c.byte_at.ensures c.enum_told-in_default-byte_at-1.given.1)) in
+    let r0 : Reached own_envelope c.args.row.now c.args.at = start in
+    let r1 : Reached own_envelope c.args.row.now c.args.at = field-yes r0.so (run-took _ _ plain 16 c.run_at.ensures.0 (typed c.args.row.now c.type_inv.row) c.in-Value.is) in
+    let r2 : Reached own_envelope c.args.row.now c.args.at = field-yes r1.so (run-took _ _ veiled 16 c.run_at-2.ensures.0 (typed c.args.row.now c.type_inv.row) c.in-Value-run_at.is) in
+    let r3 : Reached own_envelope c.args.row.now c.args.at = field-yes r2.so (took _ _ u32 (number-lawful 4) (typed c.args.row.now c.type_inv.row) (learn u32_says c.u32_at.ensures c.in-Value-u32_at.is)) in
+    let stop = field-no r3.so (refused-at _ _ u8 (learn u8_says c.byte_at.ensures c.in_default-byte_at.is)) in
     locates-not _ _ (group own_envelope) (envelope_at _) stop
 
 pub returns-in_default-flag : goal.returns-in_default-flag
 returns-in_default-flag c =
-    let stop = field-no ((field-yes ((field-yes ((field-yes ((field-yes (start).so (run-took _ _ plain 16 c.run_at.ensures.0 ((let by : Bytes (c.args.row.now) = typed (c.args.row.now) c.shared_slice_known-1.given in by)) c.tag-1.given.1))).so (run-took _ _ veiled 16 c.run_at-2.ensures.0 ((let by : Bytes (c.args.row.now) = typed (c.args.row.now) c.shared_slice_known-1.given in by)) c.s-1.given.1))).so (took _ _ u32 (number-lawful 4) ((let by : Bytes (c.args.row.now) = typed (c.args.row.now) c.shared_slice_known-1.given in by)) (learn u32_says c.u32_at.ensures c.expiry_min-1.given.1)))).so (took _ _ u8 (number-lawful 1) ((let by : Bytes (c.args.row.now) = typed (c.args.row.now) c.shared_slice_known-1.given in by)) (learn u8_says c.byte_at.ensures c.copies-1.given.1)))).so (refused-at _ _ flag (learn flag_says c.flag_at-flag.ensures c.enum_told-in_default-flag-1.given.1)) in
-    rw (c.refusal.ensures ∙ ap flag_refusal c.enum_told-in_default-flag-1.given.1) (locates-not _ _ (group own_envelope) (envelope_at _) stop)
+    let r0 : Reached own_envelope c.args.row.now c.args.at = start in
+    let r1 : Reached own_envelope c.args.row.now c.args.at = field-yes r0.so (run-took _ _ plain 16 c.run_at.ensures.0 (typed c.args.row.now c.type_inv.row) c.in-Value.is) in
+    let r2 : Reached own_envelope c.args.row.now c.args.at = field-yes r1.so (run-took _ _ veiled 16 c.run_at-2.ensures.0 (typed c.args.row.now c.type_inv.row) c.in-Value-run_at.is) in
+    let r3 : Reached own_envelope c.args.row.now c.args.at = field-yes r2.so (took _ _ u32 (number-lawful 4) (typed c.args.row.now c.type_inv.row) (learn u32_says c.u32_at.ensures c.in-Value-u32_at.is)) in
+    let r4 : Reached own_envelope c.args.row.now c.args.at = field-yes r3.so (took _ _ u8 (number-lawful 1) (typed c.args.row.now c.type_inv.row) (learn u8_says c.byte_at.ensures c.in-Value-byte_at.is)) in
+    let stop = field-no r4.so (refused-at _ _ flag (learn flag_says c.flag_at-flag.ensures c.in_default-flag.is)) in
+    rw (c.refusal.ensures ∙ ap flag_refusal c.in_default-flag.is) (locates-not _ _ (group own_envelope) (envelope_at _) stop)
 
 pub returns : goal.returns
 returns c =
+    let r0 : Reached own_envelope c.args.row.now c.args.at = start in
+    let r1 : Reached own_envelope c.args.row.now c.args.at = field-yes r0.so (run-took _ _ plain 16 c.run_at.ensures.0 (typed c.args.row.now c.type_inv.row) c.in-Value.is) in
+    let r2 : Reached own_envelope c.args.row.now c.args.at = field-yes r1.so (run-took _ _ veiled 16 c.run_at-2.ensures.0 (typed c.args.row.now c.type_inv.row) c.in-Value-run_at.is) in
+    let r3 : Reached own_envelope c.args.row.now c.args.at = field-yes r2.so (took _ _ u32 (number-lawful 4) (typed c.args.row.now c.type_inv.row) (learn u32_says c.u32_at.ensures c.in-Value-u32_at.is)) in
+    let r4 : Reached own_envelope c.args.row.now c.args.at = field-yes r3.so (took _ _ u8 (number-lawful 1) (typed c.args.row.now c.type_inv.row) (learn u8_says c.byte_at.ensures c.in-Value-byte_at.is)) in
+    let renewed-took : Took flag (c.args.row.now) r4.here c.in-Value-flag.renewed c.in-Value-flag.at5 = took _ _ flag flag-lawful (typed c.args.row.now c.type_inv.row) (learn flag_says c.flag_at-flag.ensures c.in-Value-flag.is) in
+    let r5 : Reached own_envelope c.args.row.now c.args.at = field-yes r4.so renewed-took in
+    let tag-run : Run (c.args.at) (take 16 (drop c.in-Value.tag (c.args.row.now))) c.in-Value.tag c.in-Value.at1 = run-starts _ _ 16 (typed c.args.row.now c.type_inv.row) (omega arith) c.run_at.ensures c.in-Value.is in
+    let s-run : Run r1.here (take 16 (drop c.in-Value-run_at.s (c.args.row.now))) c.in-Value-run_at.s c.in-Value-run_at.at2 = run-starts _ _ 16 (typed c.args.row.now c.type_inv.row) (omega arith) c.run_at-2.ensures c.in-Value-run_at.is in
     let its : OwnEnvelope = record {
-      tag = take 16 (drop c.tag-1.given.0.0 (c.args.row.now));
-      s = take 16 (drop c.s-1.given.0.0 (c.args.row.now));
-      expiry_min = c.expiry_min-1.given.0.0;
-      copies = c.copies-1.given.0.0;
-      renewed = c.flag-1.given.0.0;
+      tag = take 16 (drop c.in-Value.tag (c.args.row.now));
+      s = take 16 (drop c.in-Value-run_at.s (c.args.row.now));
+      expiry_min = c.in-Value-u32_at.expiry_min;
+      copies = c.in-Value-byte_at.copies;
+      renewed = c.in-Value-flag.renewed;
     } in
-    locates _ _ (group own_envelope) (envelope_at _) {b = its} (done-yes ((field-yes ((field-yes ((field-yes ((field-yes ((field-yes (start).so (run-took _ _ plain 16 c.run_at.ensures.0 ((let by : Bytes (c.args.row.now) = typed (c.args.row.now) c.shared_slice_known-1.given in by)) c.tag-1.given.1))).so (run-took _ _ veiled 16 c.run_at-2.ensures.0 ((let by : Bytes (c.args.row.now) = typed (c.args.row.now) c.shared_slice_known-1.given in by)) c.s-1.given.1))).so (took _ _ u32 (number-lawful 4) ((let by : Bytes (c.args.row.now) = typed (c.args.row.now) c.shared_slice_known-1.given in by)) (learn u32_says c.u32_at.ensures c.expiry_min-1.given.1)))).so (took _ _ u8 (number-lawful 1) ((let by : Bytes (c.args.row.now) = typed (c.args.row.now) c.shared_slice_known-1.given in by)) (learn u8_says c.byte_at.ensures c.copies-1.given.1)))).so ((let renewed-took : Took flag (c.args.row.now) ((field-yes ((field-yes ((field-yes ((field-yes (start).so (run-took _ _ plain 16 c.run_at.ensures.0 ((let by : Bytes (c.args.row.now) = typed (c.args.row.now) c.shared_slice_known-1.given in by)) c.tag-1.given.1))).so (run-took _ _ veiled 16 c.run_at-2.ensures.0 ((let by : Bytes (c.args.row.now) = typed (c.args.row.now) c.shared_slice_known-1.given in by)) c.s-1.given.1))).so (took _ _ u32 (number-lawful 4) ((let by : Bytes (c.args.row.now) = typed (c.args.row.now) c.shared_slice_known-1.given in by)) (learn u32_says c.u32_at.ensures c.expiry_min-1.given.1)))).so (took _ _ u8 (number-lawful 1) ((let by : Bytes (c.args.row.now) = typed (c.args.row.now) c.shared_slice_known-1.given in by)) (learn u8_says c.byte_at.ensures c.copies-1.given.1)))).here c.flag-1.given.0.0 c.flag-1.given.0.1.0 = took _ _ flag flag-lawful ((let by : Bytes (c.args.row.now) = typed (c.args.row.now) c.shared_slice_known-1.given in by)) (learn flag_says c.flag_at-flag.ensures c.flag-1.given.1) in renewed-took)))).so) ((let renewed-took : Took flag (c.args.row.now) ((field-yes ((field-yes ((field-yes ((field-yes (start).so (run-took _ _ plain 16 c.run_at.ensures.0 ((let by : Bytes (c.args.row.now) = typed (c.args.row.now) c.shared_slice_known-1.given in by)) c.tag-1.given.1))).so (run-took _ _ veiled 16 c.run_at-2.ensures.0 ((let by : Bytes (c.args.row.now) = typed (c.args.row.now) c.shared_slice_known-1.given in by)) c.s-1.given.1))).so (took _ _ u32 (number-lawful 4) ((let by : Bytes (c.args.row.now) = typed (c.args.row.now) c.shared_slice_known-1.given in by)) (learn u32_says c.u32_at.ensures c.expiry_min-1.given.1)))).so (took _ _ u8 (number-lawful 1) ((let by : Bytes (c.args.row.now) = typed (c.args.row.now) c.shared_slice_known-1.given in by)) (learn u8_says c.byte_at.ensures c.copies-1.given.1)))).here c.flag-1.given.0.0 c.flag-1.given.0.1.0 = took _ _ flag flag-lawful ((let by : Bytes (c.args.row.now) = typed (c.args.row.now) c.shared_slice_known-1.given in by)) (learn flag_says c.flag_at-flag.ensures c.flag-1.given.1) in renewed-took)).inside
+    locates _ _ (group own_envelope) (envelope_at _) {b = its} (done-yes r5.so) renewed-took.inside
     (its-places (c.args.at) its
-    (omega (arith, ((let tag-run : Run (c.args.at) (take 16 (drop c.tag-1.given.0.0 (c.args.row.now))) c.tag-1.given.0.0 c.tag-1.given.0.1.0 = run-starts _ _ 16 ((let by : Bytes (c.args.row.now) = typed (c.args.row.now) c.shared_slice_known-1.given in by)) (omega arith) c.run_at.ensures c.tag-1.given.1 in tag-run)).starts))
-    (omega (arith, ((let tag-run : Run (c.args.at) (take 16 (drop c.tag-1.given.0.0 (c.args.row.now))) c.tag-1.given.0.0 c.tag-1.given.0.1.0 = run-starts _ _ 16 ((let by : Bytes (c.args.row.now) = typed (c.args.row.now) c.shared_slice_known-1.given in by)) (omega arith) c.run_at.ensures c.tag-1.given.1 in tag-run)).ends, ((let s-run : Run ((field-yes (start).so (run-took _ _ plain 16 c.run_at.ensures.0 ((let by : Bytes (c.args.row.now) = typed (c.args.row.now) c.shared_slice_known-1.given in by)) c.tag-1.given.1))).here (take 16 (drop c.s-1.given.0.0 (c.args.row.now))) c.s-1.given.0.0 c.s-1.given.0.1.0 = run-starts _ _ 16 ((let by : Bytes (c.args.row.now) = typed (c.args.row.now) c.shared_slice_known-1.given in by)) (omega arith) c.run_at-2.ensures c.s-1.given.1 in s-run)).starts)))
+    (omega (arith, tag-run.starts))
+    (omega (arith, tag-run.ends, s-run.starts)))
