@@ -21,6 +21,7 @@ pub data Some : List (List ℕ) → Type 0 where
 
 some-front : (b : ℕ) (ps : List (List ℕ)) → Some ps → Some (in_front b ps)
 some-front b (p ∷ ps) some-part = some-part
+some-front b [] x' = elim x' [ ]
 
 pub some-parts : (m : ℕ) (bs : List ℕ) → Some (parted m bs)
 unfolding words.parted
@@ -34,11 +35,13 @@ some-parts m (b ∷ bs) = go (eqb b m) (some-parts m bs)
 joined-mark : (m : ℕ) (ps : List (List ℕ)) → Some ps → joined m ([] ∷ ps) ≡ m ∷ joined m ps
 unfolding joined
 joined-mark m (p ∷ ps) some-part = refl
+joined-mark m [] x' = elim x' [ ]
 
 joined-front : (m b : ℕ) (ps : List (List ℕ)) → Some ps → joined m (in_front b ps) ≡ b ∷ joined m ps
 unfolding joined
 joined-front m b (p ∷ []) some-part = refl
 joined-front m b (p ∷ q ∷ ps) some-part = refl
+joined-front m b [] x' = elim x' [ ]
 
 pub joined-parts : (m : ℕ) (bs : List ℕ) → joined m (parted m bs) ≡ bs
 unfolding words.parted joined

@@ -81,6 +81,7 @@ last_word m t i h = rw (drop_of_length-le t {i = i} h)
 -- ---- the i-th word
 front-first : (b : ℕ) (ps : List (List ℕ)) → Some ps → get_or (in_front b ps) 0 [] ≡ b ∷ get_or ps 0 []
 front-first b (p ∷ ps) some-part = refl
+front-first b [] x' = elim x' [ ]
 
 pub first_word : (m : ℕ) (t : List ℕ) → get_or (parted m t) 0 [] ≡ before m t
 unfolding words.parted words.before

@@ -28,21 +28,27 @@ glued (p ∷ r ∷ ps) qs = p ∷ glued (r ∷ ps) qs
 glued-mark : (ps qs : List (List ℕ)) → Some ps → glued ([] ∷ ps) qs ≡ [] ∷ glued ps qs
 unfolding glued
 glued-mark (p ∷ ps) qs some-part = refl
+glued-mark [] qs x' = elim x' [ ]
 
 glued-front : (b : ℕ) (ps qs : List (List ℕ)) → Some ps → Some qs → glued (in_front b ps) qs ≡ in_front b (glued ps qs)
 unfolding glued
 glued-front b (p ∷ []) (q ∷ qs) some-part some-part = refl
 glued-front b (p ∷ r ∷ ps) (q ∷ qs) some-part some-part = refl
+glued-front b [] qs x'' _ = elim x'' [ ]
+glued-front b (p ∷ []) [] _ x9 = elim x9 [ ]
+glued-front b (p ∷ (r ∷ ps)) [] _ x10 = elim x10 [ ]
 
 glued-some : (ps qs : List (List ℕ)) → Some ps → Some (glued ps qs)
 unfolding glued
 glued-some (p ∷ []) [] some-part = some-part
 glued-some (p ∷ []) (q ∷ qs) some-part = some-part
 glued-some (p ∷ r ∷ ps) qs some-part = some-part
+glued-some [] qs x' = elim x' [ ]
 
 glued-none : (qs : List (List ℕ)) → Some qs → glued ([] ∷ []) qs ≡ qs
 unfolding glued
 glued-none (q ∷ qs) some-part = refl
+glued-none [] x' = elim x' [ ]
 
 parted-append : (m : ℕ) (a b : List ℕ) → parted m (a ++ b) ≡ glued (parted m a) (parted m b)
 unfolding words.parted
@@ -72,6 +78,7 @@ module _ (room : Room) (qs : List (List ℕ)) (some-qs : Some qs) where
   said-step : (k u : ℕ) (l : List ℕ) (ls : List (List ℕ)) → Some ls → said_from room k u (l ∷ ls) ≡ ask44 room k u (line_of l) (said_from room (suc k) (u + length (blob_in (line_of l))) ls)
   unfolding sheet.said_from
   said-step k u l (m ∷ ls) some-part = refl
+  said-step k u l [] x' = elim x' [ ]
 
   none-behind : (k u : ℕ) → Behind k u (read [] []) (said_from room k u qs)
   none-behind k u = rw (add-zero k, add-zero u, onto-none (said_from room k u qs))
@@ -89,6 +96,7 @@ module _ (room : Room) (qs : List (List ℕ)) (some-qs : Some qs) where
   behind ((b ∷ bs) ∷ []) some-part k u = tt
   behind (l ∷ m ∷ ls) some-part k u =
       rw (said-step k u l (glued (m ∷ ls) qs) (glued-some (m ∷ ls) qs some-part)) (go (line_of l) (λ v. behind (m ∷ ls) some-part (suc k) v))
+  behind [] x' k u = elim x' [ ]
     where
       Later : Type 0
       Later = (v : ℕ) → Behind (suc k) v (said_from room (suc k) v (m ∷ ls)) (said_from room (suc k) v (glued (m ∷ ls) qs))

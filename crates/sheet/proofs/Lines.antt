@@ -291,6 +291,7 @@ module _ (bytes lines k u : ℕ) (run records : List ℕ) where
         rw (letter-first (b ∷ []) fs (held (at_line k u) run records), one-letter b lf comma) (behind-letter (shape_of (b ∷ [])) (all_known b) fs ps)
     of-fields ((b ∷ x ∷ bs) ∷ fs) some-part (plains-cons (plain-cons lf comma (plain-cons lf2 comma2 p)) ps) =
         rw (letter-first (b ∷ x ∷ bs) fs (held (at_line k u) run records)) (refused-fields fs (fed (b ∷ x ∷ bs) (held (at_line k u) run records)) (two-letters b x bs lf comma lf2 comma2))
+    of-fields [] x'' _ = elim x'' [ ]
 
     pub line : (l : List ℕ) → Free LF l → LineLeft six_line (line_of l) (stepped LF (fed l (held (at_line k u) run records)))
     line l f =

@@ -1,5 +1,6 @@
 -- `ascii::bytes` meets its contract: its tests are those of the definition, in their order.
 -- Assumes nothing.
+use mathlib.Core.List.{[]}
 use Prim.Native.Nat.{◌≤◌}
 use mathlib.Core.Bool.{cond}
 use mathlib.Core.Path.{◌≡◌, sym, ◌∙◌}

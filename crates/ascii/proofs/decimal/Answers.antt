@@ -10,8 +10,8 @@ returns-then-text-eq0 c = sym (no_text _ _ c.if-text-eq0.true)
 
 pub returns-in_default : goal.returns-in_default
 returns-in_default c =
-    sym (first-none _ _ c.if-text-eq0.false (sym c.with_digit.ensures ∙ ap decimal_says c.enum_told-1.given.1))
+    sym (first-none _ _ c.if-text-eq0.false (sym c.with_digit.ensures ∙ ap decimal_says c.in_default.is))
 
 pub returns : goal.returns
 returns c =
-    c.digits.ensures ∙ sym (first_some _ _ _ c.if-text-eq0.false (sym c.with_digit.ensures ∙ ap decimal_says c.first-1.given.1))
+    c.digits.ensures ∙ sym (first_some _ _ _ c.if-text-eq0.false (sym c.with_digit.ensures ∙ ap decimal_says c.in-Number.is))

@@ -8,7 +8,7 @@ use borrow.Author.Rules.{rules}
 use Rattle.ascii.proofs.digit_at.Goals as goal
 
 pub hex_digit-requires : goal.hex_digit-requires
-hex_digit-requires c = omega (arith, c.shared_slice_known-1.given (c.args.i / 2))
+hex_digit-requires c = omega (arith, c.type_inv.bytes (c.args.i / 2))
 
 pub returns-then-i-eq0 : goal.returns-then-i-eq0
 returns-then-i-eq0 c = c.hex_digit.ensures ∙ sym (high_digit _ _ (search rules) c.if-i-eq0.true)

@@ -11,11 +11,11 @@ returns-then-n-eq0 c = sym (nothing-behind-0 _ c.loop-i.n _ c.loop-i.i (omega ar
 
 pub returns-in_default : goal.returns-in_default
 returns-in_default c =
-    sym (digit-none _ c.loop-i.n _ c.loop-i.i (omega arith) c.if-n-eq0.false (sym c.with_digit.ensures ∙ ap decimal_says c.enum_told-1.given.1)) ∙ c.loop-i.invariant
+    sym (digit-none _ c.loop-i.n _ c.loop-i.i (omega arith) c.if-n-eq0.false (sym c.with_digit.ensures ∙ ap decimal_says c.in_default.is)) ∙ c.loop-i.invariant
 
 pub loop-i-preserved : goal.loop-i-preserved
 loop-i-preserved c =
-    sym (digit-some _ c.loop-i.n _ c.loop-i.i (omega arith) c.if-n-eq0.false c.m-1.given.0.0 (sym c.with_digit.ensures ∙ ap decimal_says c.m-1.given.1)) ∙ c.loop-i.invariant
+    sym (digit-some _ c.loop-i.n _ c.loop-i.i (omega arith) c.if-n-eq0.false c.in-Number.m (sym c.with_digit.ensures ∙ ap decimal_says c.in-Number.is)) ∙ c.loop-i.invariant
 
 pub returns : goal.returns
 returns c = sym (digits-end _ c.loop-i.n _ c.loop-i.i c.loop-i-test.false) ∙ c.loop-i.invariant

@@ -15,9 +15,9 @@ loop-i-init c = (search rules, search rules, omega arith)
 pub loop-i-preserved : goal.loop-i-preserved
 loop-i-preserved c =
     let e = c.decimal_len.ensures in
-    let at = ap (λ n. length (decimal n)) (first-at (c.args.t1) (c.args.count) ((let seven : length (c.args.t1) ≡ 7 = search rules in seven)) c.requires c.loop-i.i c.loop-i-test.true) in
-    (omega arith, omega (arith, e.1), omega (arith, e.0, at, field-length ((take (c.args.count) (c.args.t1))) c.loop-i.i (omega (arith, (let many : length ((take (c.args.count) (c.args.t1))) ≡ c.args.count = first-many (c.args.t1) (c.args.count) ((let seven : length (c.args.t1) ≡ 7 = search rules in seven)) c.requires in many)))))
+    let at = ap (λ n. length (decimal n)) (first-at (c.args.fields) (c.args.count) ((let seven : length (c.args.fields) ≡ 7 = search rules in seven)) c.requires c.loop-i.i c.loop-i-test.true) in
+    (omega arith, omega (arith, e.1), omega (arith, e.0, at, field-length ((take (c.args.count) (c.args.fields))) c.loop-i.i (omega (arith, (let many : length ((take (c.args.count) (c.args.fields))) ≡ c.args.count = first-many (c.args.fields) (c.args.count) ((let seven : length (c.args.fields) ≡ 7 = search rules in seven)) c.requires in many)))))
 
 pub returns : goal.returns
 returns c =
-    (omega (arith, ap length (last-text ((take (c.args.count) (c.args.t1))) c.loop-i.i (omega (arith, (let many : length ((take (c.args.count) (c.args.t1))) ≡ c.args.count = first-many (c.args.t1) (c.args.count) ((let seven : length (c.args.t1) ≡ 7 = search rules in seven)) c.requires in many))))), omega arith)
+    (omega (arith, ap length (last-text ((take (c.args.count) (c.args.fields))) c.loop-i.i (omega (arith, (let many : length ((take (c.args.count) (c.args.fields))) ≡ c.args.count = first-many (c.args.fields) (c.args.count) ((let seven : length (c.args.fields) ≡ 7 = search rules in seven)) c.requires in many))))), omega arith)

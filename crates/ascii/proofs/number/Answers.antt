@@ -9,7 +9,7 @@ use Rattle.ascii.proofs.number.Goals as goal
 
 pub returns-in_default : goal.returns-in_default
 returns-in_default c =
-    sym (ap number_or0 (said U64 c.word.ensures c.decimal.ensures (ap decimal_says c.enum_told-1.given.1)))
+    sym (ap number_or0 (said U64 c.word.ensures c.decimal.ensures (ap decimal_says c.in_default.is)))
 
 pub returns : goal.returns
-returns c = sym (ap number_or0 (said U64 c.word.ensures c.decimal.ensures (ap decimal_says c.n-1.given.1)))
+returns c = sym (ap number_or0 (said U64 c.word.ensures c.decimal.ensures (ap decimal_says c.in-Number.is)))

@@ -1,5 +1,6 @@
 -- `ascii::start_of` meets its contract. The invariant: the word that is looked for is the `left`-th from `at` on. The measure is `left`.
 -- Assumes nothing.
+use mathlib.Core.List.{[]}
 use Prim.Native.Nat.{◌≤◌}
 use mathlib.Core.Path.{◌≡◌}
 use lib.ListN.{length, get_or, drop}

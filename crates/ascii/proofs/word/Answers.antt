@@ -8,4 +8,4 @@ use Rattle.ascii.proofs.word.Goals as goal
 pub returns : goal.returns
 returns c =
     let a = c.args in
-    first_field a.mark _ c.until-n.ensures.0 ∙ rw (whole-rest _ _) (sym c.start_of_lem.ensures.1)
+    first_field a.mark _ c.until-n.ensures.0 ∙ rw (whole-rest _ _) (sym c.start_of-at.ensures.1)

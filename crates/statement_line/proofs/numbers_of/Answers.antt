@@ -16,11 +16,11 @@ loop-i-init c = (search rules, search rules, search rules, omega arith)
 
 pub returns-then-sum-n : goal.returns-then-sum-n
 returns-then-sum-n c =
-    (full-sum _ (omega (arith, (let turn : c.loop-i.sum + c.size_from-n.result + size_from (c.args.lowest) (drop (c.loop-i.i + 1) (pairs (c.args.held) (c.args.list.now))) ≡ size_from (c.args.lowest) (pairs (c.args.held) (c.args.list.now)) = counted (c.args.lowest) c.loop-i.sum c.loop-i.inv.3 (drop-pairs (c.args.list.now) (c.args.held) c.loop-i.i c.loop-i-test.true c.requires) c.size_from-n.ensures.0 in turn))), λ h. absurd (omega arith))
+    (full-sum _ (omega (arith, (let turn : c.loop-i.sum + c.size_from-n.result + size_from (c.args.lowest) (drop (c.loop-i.i + 1) (pairs (c.args.held) (c.args.list.now))) ≡ size_from (c.args.lowest) (pairs (c.args.held) (c.args.list.now)) = counted (c.args.lowest) c.loop-i.sum c.loop-i.invariant.3 (drop-pairs (c.args.list.now) (c.args.held) c.loop-i.i c.loop-i-test.true c.requires) c.size_from-n.ensures.0 in turn))), λ h. absurd (omega arith))
 
 pub loop-i-preserved : goal.loop-i-preserved
 loop-i-preserved c =
-    (omega arith, omega (arith, c.size_from-n.ensures.1), omega arith, (let turn : c.loop-i.sum + c.size_from-n.result + size_from (c.args.lowest) (drop (c.loop-i.i + 1) (pairs (c.args.held) (c.args.list.now))) ≡ size_from (c.args.lowest) (pairs (c.args.held) (c.args.list.now)) = counted (c.args.lowest) c.loop-i.sum c.loop-i.inv.3 (drop-pairs (c.args.list.now) (c.args.held) c.loop-i.i c.loop-i-test.true c.requires) c.size_from-n.ensures.0 in turn))
+    (omega arith, omega (arith, c.size_from-n.ensures.1), omega arith, (let turn : c.loop-i.sum + c.size_from-n.result + size_from (c.args.lowest) (drop (c.loop-i.i + 1) (pairs (c.args.held) (c.args.list.now))) ≡ size_from (c.args.lowest) (pairs (c.args.held) (c.args.list.now)) = counted (c.args.lowest) c.loop-i.sum c.loop-i.invariant.3 (drop-pairs (c.args.list.now) (c.args.held) c.loop-i.i c.loop-i-test.true c.requires) c.size_from-n.ensures.0 in turn))
 
 pub returns : goal.returns
 returns c =
