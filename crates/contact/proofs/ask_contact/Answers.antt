@@ -30,29 +30,51 @@ returns-then-version-ne-BLOB_VERSION c =
 
 pub returns-in_default : goal.returns-in_default
 returns-in_default c =
-    sym (ap says (paired-stop ((let at-paired : let i = c.args in PairedAsked i.version i.row.now c.paired_at-paired_field.result = record { by = typed c.args.row.now c.shared_slice_known-1.given; known = eq-eqb _ _ c.if-version-ne-BLOB_VERSION.false; found = c.paired_at-paired_field.ensures } in at-paired)) c.enum_told-1.given.1 c.refusal.ensures))
+    let at-paired : let i = c.args in PairedAsked i.version i.row.now c.paired_at-paired_field.result = record { by = typed c.args.row.now c.type_inv.row; known = eq-eqb _ _ c.if-version-ne-BLOB_VERSION.false; found = c.paired_at-paired_field.ensures } in
+    sym (ap says (paired-stop at-paired c.in_default.is c.refusal.ensures))
 
 pub returns-in_default-keys_field : goal.returns-in_default-keys_field
 returns-in_default-keys_field c =
-    sym (ap says (keys-stop ((let at-keys : let i = c.args in KeysAsked i.version i.row.now c.paired_field-1.given.0.0 c.keys_at-keys_field.result = keys-asked ((let at-paired : let i = c.args in PairedAsked i.version i.row.now c.paired_at-paired_field.result = record { by = typed c.args.row.now c.shared_slice_known-1.given; known = eq-eqb _ _ c.if-version-ne-BLOB_VERSION.false; found = c.paired_at-paired_field.ensures } in at-paired)) c.paired_field-1.given.1 c.keys_at-keys_field.ensures in at-keys)) c.enum_told-in_default-keys_field-1.given.1 c.refusal-in_default-keys_field.ensures))
+    let at-paired : let i = c.args in PairedAsked i.version i.row.now c.paired_at-paired_field.result = record { by = typed c.args.row.now c.type_inv.row; known = eq-eqb _ _ c.if-version-ne-BLOB_VERSION.false; found = c.paired_at-paired_field.ensures } in
+    let at-keys : let i = c.args in KeysAsked i.version i.row.now c.in-Value._paired c.keys_at-keys_field.result = keys-asked at-paired c.in-Value.is c.keys_at-keys_field.ensures in
+    sym (ap says (keys-stop at-keys c.in_default-keys_field.is c.refusal-in_default-keys_field.ensures))
 
 pub returns-in_default-chained_field : goal.returns-in_default-chained_field
 returns-in_default-chained_field c =
-    sym (ap says (chained-stop ((let at-chained : let i = c.args in ChainedAsked i.version i.row.now c.paired_field-1.given.0.0 c.keys_field-1.given.0.0 c.chained_at-chained_field.result = chained-asked ((let at-keys : let i = c.args in KeysAsked i.version i.row.now c.paired_field-1.given.0.0 c.keys_at-keys_field.result = keys-asked ((let at-paired : let i = c.args in PairedAsked i.version i.row.now c.paired_at-paired_field.result = record { by = typed c.args.row.now c.shared_slice_known-1.given; known = eq-eqb _ _ c.if-version-ne-BLOB_VERSION.false; found = c.paired_at-paired_field.ensures } in at-paired)) c.paired_field-1.given.1 c.keys_at-keys_field.ensures in at-keys)) c.keys_field-1.given.1 c.chained_at-chained_field.ensures in at-chained)) c.enum_told-in_default-chained_field-1.given.1 c.refusal-in_default-chained_field.ensures))
+    let at-paired : let i = c.args in PairedAsked i.version i.row.now c.paired_at-paired_field.result = record { by = typed c.args.row.now c.type_inv.row; known = eq-eqb _ _ c.if-version-ne-BLOB_VERSION.false; found = c.paired_at-paired_field.ensures } in
+    let at-keys : let i = c.args in KeysAsked i.version i.row.now c.in-Value._paired c.keys_at-keys_field.result = keys-asked at-paired c.in-Value.is c.keys_at-keys_field.ensures in
+    let at-chained : let i = c.args in ChainedAsked i.version i.row.now c.in-Value._paired c.in-Value-keys_field.keys c.chained_at-chained_field.result = chained-asked at-keys c.in-Value-keys_field.is c.chained_at-chained_field.ensures in
+    sym (ap says (chained-stop at-chained c.in_default-chained_field.is c.refusal-in_default-chained_field.ensures))
 
 pub returns-in_default-numbers_field : goal.returns-in_default-numbers_field
 returns-in_default-numbers_field c =
-    sym (ap says (numbers-stop ((let at-numbers : let i = c.args in NumbersAsked i.version i.row.now c.paired_field-1.given.0.0 c.keys_field-1.given.0.0 c.chained_field-1.given.0.0 c.numbers_at-numbers_field.result = numbers-asked ((let at-chained : let i = c.args in ChainedAsked i.version i.row.now c.paired_field-1.given.0.0 c.keys_field-1.given.0.0 c.chained_at-chained_field.result = chained-asked ((let at-keys : let i = c.args in KeysAsked i.version i.row.now c.paired_field-1.given.0.0 c.keys_at-keys_field.result = keys-asked ((let at-paired : let i = c.args in PairedAsked i.version i.row.now c.paired_at-paired_field.result = record { by = typed c.args.row.now c.shared_slice_known-1.given; known = eq-eqb _ _ c.if-version-ne-BLOB_VERSION.false; found = c.paired_at-paired_field.ensures } in at-paired)) c.paired_field-1.given.1 c.keys_at-keys_field.ensures in at-keys)) c.keys_field-1.given.1 c.chained_at-chained_field.ensures in at-chained)) c.chained_field-1.given.1 c.numbers_at-numbers_field.ensures in at-numbers)) c.enum_told-in_default-numbers_field-1.given.1 c.refusal-in_default-numbers_field.ensures))
+    let at-paired : let i = c.args in PairedAsked i.version i.row.now c.paired_at-paired_field.result = record { by = typed c.args.row.now c.type_inv.row; known = eq-eqb _ _ c.if-version-ne-BLOB_VERSION.false; found = c.paired_at-paired_field.ensures } in
+    let at-keys : let i = c.args in KeysAsked i.version i.row.now c.in-Value._paired c.keys_at-keys_field.result = keys-asked at-paired c.in-Value.is c.keys_at-keys_field.ensures in
+    let at-chained : let i = c.args in ChainedAsked i.version i.row.now c.in-Value._paired c.in-Value-keys_field.keys c.chained_at-chained_field.result = chained-asked at-keys c.in-Value-keys_field.is c.chained_at-chained_field.ensures in
+    let at-numbers : let i = c.args in NumbersAsked i.version i.row.now c.in-Value._paired c.in-Value-keys_field.keys c.in-Value-chained_field.chained c.numbers_at-numbers_field.result = numbers-asked at-chained c.in-Value-chained_field.is c.numbers_at-numbers_field.ensures in
+    sym (ap says (numbers-stop at-numbers c.in_default-numbers_field.is c.refusal-in_default-numbers_field.ensures))
 
 pub returns-then-end-row : goal.returns-then-end-row
 returns-then-end-row c =
-    sym (ap says (end-stop ((let at-numbers : let i = c.args in NumbersAsked i.version i.row.now c.paired_field-1.given.0.0 c.keys_field-1.given.0.0 c.chained_field-1.given.0.0 c.numbers_at-numbers_field.result = numbers-asked ((let at-chained : let i = c.args in ChainedAsked i.version i.row.now c.paired_field-1.given.0.0 c.keys_field-1.given.0.0 c.chained_at-chained_field.result = chained-asked ((let at-keys : let i = c.args in KeysAsked i.version i.row.now c.paired_field-1.given.0.0 c.keys_at-keys_field.result = keys-asked ((let at-paired : let i = c.args in PairedAsked i.version i.row.now c.paired_at-paired_field.result = record { by = typed c.args.row.now c.shared_slice_known-1.given; known = eq-eqb _ _ c.if-version-ne-BLOB_VERSION.false; found = c.paired_at-paired_field.ensures } in at-paired)) c.paired_field-1.given.1 c.keys_at-keys_field.ensures in at-keys)) c.keys_field-1.given.1 c.chained_at-chained_field.ensures in at-chained)) c.chained_field-1.given.1 c.numbers_at-numbers_field.ensures in at-numbers)) c.numbers_field-1.given.1 c.if-end-row.true))
+    let at-paired : let i = c.args in PairedAsked i.version i.row.now c.paired_at-paired_field.result = record { by = typed c.args.row.now c.type_inv.row; known = eq-eqb _ _ c.if-version-ne-BLOB_VERSION.false; found = c.paired_at-paired_field.ensures } in
+    let at-keys : let i = c.args in KeysAsked i.version i.row.now c.in-Value._paired c.keys_at-keys_field.result = keys-asked at-paired c.in-Value.is c.keys_at-keys_field.ensures in
+    let at-chained : let i = c.args in ChainedAsked i.version i.row.now c.in-Value._paired c.in-Value-keys_field.keys c.chained_at-chained_field.result = chained-asked at-keys c.in-Value-keys_field.is c.chained_at-chained_field.ensures in
+    let at-numbers : let i = c.args in NumbersAsked i.version i.row.now c.in-Value._paired c.in-Value-keys_field.keys c.in-Value-chained_field.chained c.numbers_at-numbers_field.result = numbers-asked at-chained c.in-Value-chained_field.is c.numbers_at-numbers_field.ensures in
+    sym (ap says (end-stop at-numbers c.in-Value-numbers_field.is c.if-end-row.true))
 
 pub consistent_in_row-requires : goal.consistent_in_row-requires
 consistent_in_row-requires c =
-    lists-inside ((let at-numbers : let i = c.args in NumbersAsked i.version i.row.now c.paired_field-1.given.0.0 c.keys_field-1.given.0.0 c.chained_field-1.given.0.0 c.numbers_at-numbers_field.result = numbers-asked ((let at-chained : let i = c.args in ChainedAsked i.version i.row.now c.paired_field-1.given.0.0 c.keys_field-1.given.0.0 c.chained_at-chained_field.result = chained-asked ((let at-keys : let i = c.args in KeysAsked i.version i.row.now c.paired_field-1.given.0.0 c.keys_at-keys_field.result = keys-asked ((let at-paired : let i = c.args in PairedAsked i.version i.row.now c.paired_at-paired_field.result = record { by = typed c.args.row.now c.shared_slice_known-1.given; known = eq-eqb _ _ c.if-version-ne-BLOB_VERSION.false; found = c.paired_at-paired_field.ensures } in at-paired)) c.paired_field-1.given.1 c.keys_at-keys_field.ensures in at-keys)) c.keys_field-1.given.1 c.chained_at-chained_field.ensures in at-chained)) c.chained_field-1.given.1 c.numbers_at-numbers_field.ensures in at-numbers)) c.numbers_field-1.given.1
+    let at-paired : let i = c.args in PairedAsked i.version i.row.now c.paired_at-paired_field.result = record { by = typed c.args.row.now c.type_inv.row; known = eq-eqb _ _ c.if-version-ne-BLOB_VERSION.false; found = c.paired_at-paired_field.ensures } in
+    let at-keys : let i = c.args in KeysAsked i.version i.row.now c.in-Value._paired c.keys_at-keys_field.result = keys-asked at-paired c.in-Value.is c.keys_at-keys_field.ensures in
+    let at-chained : let i = c.args in ChainedAsked i.version i.row.now c.in-Value._paired c.in-Value-keys_field.keys c.chained_at-chained_field.result = chained-asked at-keys c.in-Value-keys_field.is c.chained_at-chained_field.ensures in
+    let at-numbers : let i = c.args in NumbersAsked i.version i.row.now c.in-Value._paired c.in-Value-keys_field.keys c.in-Value-chained_field.chained c.numbers_at-numbers_field.result = numbers-asked at-chained c.in-Value-chained_field.is c.numbers_at-numbers_field.ensures in
+    lists-inside at-numbers c.in-Value-numbers_field.is
 
 pub returns : goal.returns
 returns c =
-    let w = all_read ((let at-numbers : let i = c.args in NumbersAsked i.version i.row.now c.paired_field-1.given.0.0 c.keys_field-1.given.0.0 c.chained_field-1.given.0.0 c.numbers_at-numbers_field.result = numbers-asked ((let at-chained : let i = c.args in ChainedAsked i.version i.row.now c.paired_field-1.given.0.0 c.keys_field-1.given.0.0 c.chained_at-chained_field.result = chained-asked ((let at-keys : let i = c.args in KeysAsked i.version i.row.now c.paired_field-1.given.0.0 c.keys_at-keys_field.result = keys-asked ((let at-paired : let i = c.args in PairedAsked i.version i.row.now c.paired_at-paired_field.result = record { by = typed c.args.row.now c.shared_slice_known-1.given; known = eq-eqb _ _ c.if-version-ne-BLOB_VERSION.false; found = c.paired_at-paired_field.ensures } in at-paired)) c.paired_field-1.given.1 c.keys_at-keys_field.ensures in at-keys)) c.keys_field-1.given.1 c.chained_at-chained_field.ensures in at-chained)) c.chained_field-1.given.1 c.numbers_at-numbers_field.ensures in at-numbers)) c.numbers_field-1.given.1 c.if-end-row.false in
+    let at-paired : let i = c.args in PairedAsked i.version i.row.now c.paired_at-paired_field.result = record { by = typed c.args.row.now c.type_inv.row; known = eq-eqb _ _ c.if-version-ne-BLOB_VERSION.false; found = c.paired_at-paired_field.ensures } in
+    let at-keys : let i = c.args in KeysAsked i.version i.row.now c.in-Value._paired c.keys_at-keys_field.result = keys-asked at-paired c.in-Value.is c.keys_at-keys_field.ensures in
+    let at-chained : let i = c.args in ChainedAsked i.version i.row.now c.in-Value._paired c.in-Value-keys_field.keys c.chained_at-chained_field.result = chained-asked at-keys c.in-Value-keys_field.is c.chained_at-chained_field.ensures in
+    let at-numbers : let i = c.args in NumbersAsked i.version i.row.now c.in-Value._paired c.in-Value-keys_field.keys c.in-Value-chained_field.chained c.numbers_at-numbers_field.result = numbers-asked at-chained c.in-Value-chained_field.is c.numbers_at-numbers_field.ensures in
+    let w = all_read at-numbers c.in-Value-numbers_field.is c.if-end-row.false in
     last _ _ _ ∙ sym (ap says (asked-last w c.consistent_in_row.result c.consistent_in_row.ensures refl))

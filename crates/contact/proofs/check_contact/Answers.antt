@@ -15,34 +15,60 @@ returns-then-version-ne-BLOB_VERSION c =
 
 pub returns-in_default : goal.returns-in_default
 returns-in_default c =
-    sym (ap (checked _) (paired-stop ((let at-paired : let i = c.args in PairedAsked i.version i.row.now c.paired_at-paired_field.result = record { by = typed c.args.row.now c.shared_slice_known-1.given; known = eq-eqb _ _ c.if-version-ne-BLOB_VERSION.false; found = c.paired_at-paired_field.ensures } in at-paired)) c.enum_told-1.given.1 c.refusal.ensures))
+    let at-paired : let i = c.args in PairedAsked i.version i.row.now c.paired_at-paired_field.result = record { by = typed c.args.row.now c.type_inv.row; known = eq-eqb _ _ c.if-version-ne-BLOB_VERSION.false; found = c.paired_at-paired_field.ensures } in
+    sym (ap (checked _) (paired-stop at-paired c.in_default.is c.refusal.ensures))
 
 pub returns-in_default-keys_field : goal.returns-in_default-keys_field
 returns-in_default-keys_field c =
-    sym (ap (checked _) (keys-stop ((let at-keys : let i = c.args in KeysAsked i.version i.row.now c.paired_field-1.given.0.0 c.keys_at-keys_field.result = keys-asked ((let at-paired : let i = c.args in PairedAsked i.version i.row.now c.paired_at-paired_field.result = record { by = typed c.args.row.now c.shared_slice_known-1.given; known = eq-eqb _ _ c.if-version-ne-BLOB_VERSION.false; found = c.paired_at-paired_field.ensures } in at-paired)) c.paired_field-1.given.1 c.keys_at-keys_field.ensures in at-keys)) c.enum_told-in_default-keys_field-1.given.1 c.refusal-in_default-keys_field.ensures))
+    let at-paired : let i = c.args in PairedAsked i.version i.row.now c.paired_at-paired_field.result = record { by = typed c.args.row.now c.type_inv.row; known = eq-eqb _ _ c.if-version-ne-BLOB_VERSION.false; found = c.paired_at-paired_field.ensures } in
+    let at-keys : let i = c.args in KeysAsked i.version i.row.now c.in-Value.paired c.keys_at-keys_field.result = keys-asked at-paired c.in-Value.is c.keys_at-keys_field.ensures in
+    sym (ap (checked _) (keys-stop at-keys c.in_default-keys_field.is c.refusal-in_default-keys_field.ensures))
 
 pub returns-in_default-chained_field : goal.returns-in_default-chained_field
 returns-in_default-chained_field c =
-    sym (ap (checked _) (chained-stop ((let at-chained : let i = c.args in ChainedAsked i.version i.row.now c.paired_field-1.given.0.0 c.keys_field-1.given.0.0 c.chained_at-chained_field.result = chained-asked ((let at-keys : let i = c.args in KeysAsked i.version i.row.now c.paired_field-1.given.0.0 c.keys_at-keys_field.result = keys-asked ((let at-paired : let i = c.args in PairedAsked i.version i.row.now c.paired_at-paired_field.result = record { by = typed c.args.row.now c.shared_slice_known-1.given; known = eq-eqb _ _ c.if-version-ne-BLOB_VERSION.false; found = c.paired_at-paired_field.ensures } in at-paired)) c.paired_field-1.given.1 c.keys_at-keys_field.ensures in at-keys)) c.keys_field-1.given.1 c.chained_at-chained_field.ensures in at-chained)) c.enum_told-in_default-chained_field-1.given.1 c.refusal-in_default-chained_field.ensures))
+    let at-paired : let i = c.args in PairedAsked i.version i.row.now c.paired_at-paired_field.result = record { by = typed c.args.row.now c.type_inv.row; known = eq-eqb _ _ c.if-version-ne-BLOB_VERSION.false; found = c.paired_at-paired_field.ensures } in
+    let at-keys : let i = c.args in KeysAsked i.version i.row.now c.in-Value.paired c.keys_at-keys_field.result = keys-asked at-paired c.in-Value.is c.keys_at-keys_field.ensures in
+    let at-chained : let i = c.args in ChainedAsked i.version i.row.now c.in-Value.paired c.in-Value-keys_field.keys c.chained_at-chained_field.result = chained-asked at-keys c.in-Value-keys_field.is c.chained_at-chained_field.ensures in
+    sym (ap (checked _) (chained-stop at-chained c.in_default-chained_field.is c.refusal-in_default-chained_field.ensures))
 
 pub returns-in_default-numbers_field : goal.returns-in_default-numbers_field
 returns-in_default-numbers_field c =
-    sym (ap (checked _) (numbers-stop ((let at-numbers : let i = c.args in NumbersAsked i.version i.row.now c.paired_field-1.given.0.0 c.keys_field-1.given.0.0 c.chained_field-1.given.0.0 c.numbers_at-numbers_field.result = numbers-asked ((let at-chained : let i = c.args in ChainedAsked i.version i.row.now c.paired_field-1.given.0.0 c.keys_field-1.given.0.0 c.chained_at-chained_field.result = chained-asked ((let at-keys : let i = c.args in KeysAsked i.version i.row.now c.paired_field-1.given.0.0 c.keys_at-keys_field.result = keys-asked ((let at-paired : let i = c.args in PairedAsked i.version i.row.now c.paired_at-paired_field.result = record { by = typed c.args.row.now c.shared_slice_known-1.given; known = eq-eqb _ _ c.if-version-ne-BLOB_VERSION.false; found = c.paired_at-paired_field.ensures } in at-paired)) c.paired_field-1.given.1 c.keys_at-keys_field.ensures in at-keys)) c.keys_field-1.given.1 c.chained_at-chained_field.ensures in at-chained)) c.chained_field-1.given.1 c.numbers_at-numbers_field.ensures in at-numbers)) c.enum_told-in_default-numbers_field-1.given.1 c.refusal-in_default-numbers_field.ensures))
+    let at-paired : let i = c.args in PairedAsked i.version i.row.now c.paired_at-paired_field.result = record { by = typed c.args.row.now c.type_inv.row; known = eq-eqb _ _ c.if-version-ne-BLOB_VERSION.false; found = c.paired_at-paired_field.ensures } in
+    let at-keys : let i = c.args in KeysAsked i.version i.row.now c.in-Value.paired c.keys_at-keys_field.result = keys-asked at-paired c.in-Value.is c.keys_at-keys_field.ensures in
+    let at-chained : let i = c.args in ChainedAsked i.version i.row.now c.in-Value.paired c.in-Value-keys_field.keys c.chained_at-chained_field.result = chained-asked at-keys c.in-Value-keys_field.is c.chained_at-chained_field.ensures in
+    let at-numbers : let i = c.args in NumbersAsked i.version i.row.now c.in-Value.paired c.in-Value-keys_field.keys c.in-Value-chained_field.chained c.numbers_at-numbers_field.result = numbers-asked at-chained c.in-Value-chained_field.is c.numbers_at-numbers_field.ensures in
+    sym (ap (checked _) (numbers-stop at-numbers c.in_default-numbers_field.is c.refusal-in_default-numbers_field.ensures))
 
 pub returns-then-at4-row : goal.returns-then-at4-row
 returns-then-at4-row c =
-    sym (ap (checked _) (end-stop ((let at-numbers : let i = c.args in NumbersAsked i.version i.row.now c.paired_field-1.given.0.0 c.keys_field-1.given.0.0 c.chained_field-1.given.0.0 c.numbers_at-numbers_field.result = numbers-asked ((let at-chained : let i = c.args in ChainedAsked i.version i.row.now c.paired_field-1.given.0.0 c.keys_field-1.given.0.0 c.chained_at-chained_field.result = chained-asked ((let at-keys : let i = c.args in KeysAsked i.version i.row.now c.paired_field-1.given.0.0 c.keys_at-keys_field.result = keys-asked ((let at-paired : let i = c.args in PairedAsked i.version i.row.now c.paired_at-paired_field.result = record { by = typed c.args.row.now c.shared_slice_known-1.given; known = eq-eqb _ _ c.if-version-ne-BLOB_VERSION.false; found = c.paired_at-paired_field.ensures } in at-paired)) c.paired_field-1.given.1 c.keys_at-keys_field.ensures in at-keys)) c.keys_field-1.given.1 c.chained_at-chained_field.ensures in at-chained)) c.chained_field-1.given.1 c.numbers_at-numbers_field.ensures in at-numbers)) c.numbers_field-1.given.1 c.if-at4-row.true))
+    let at-paired : let i = c.args in PairedAsked i.version i.row.now c.paired_at-paired_field.result = record { by = typed c.args.row.now c.type_inv.row; known = eq-eqb _ _ c.if-version-ne-BLOB_VERSION.false; found = c.paired_at-paired_field.ensures } in
+    let at-keys : let i = c.args in KeysAsked i.version i.row.now c.in-Value.paired c.keys_at-keys_field.result = keys-asked at-paired c.in-Value.is c.keys_at-keys_field.ensures in
+    let at-chained : let i = c.args in ChainedAsked i.version i.row.now c.in-Value.paired c.in-Value-keys_field.keys c.chained_at-chained_field.result = chained-asked at-keys c.in-Value-keys_field.is c.chained_at-chained_field.ensures in
+    let at-numbers : let i = c.args in NumbersAsked i.version i.row.now c.in-Value.paired c.in-Value-keys_field.keys c.in-Value-chained_field.chained c.numbers_at-numbers_field.result = numbers-asked at-chained c.in-Value-chained_field.is c.numbers_at-numbers_field.ensures in
+    sym (ap (checked _) (end-stop at-numbers c.in-Value-numbers_field.is c.if-at4-row.true))
 
 pub consistent_in_row-requires : goal.consistent_in_row-requires
 consistent_in_row-requires c =
-    lists-inside ((let at-numbers : let i = c.args in NumbersAsked i.version i.row.now c.paired_field-1.given.0.0 c.keys_field-1.given.0.0 c.chained_field-1.given.0.0 c.numbers_at-numbers_field.result = numbers-asked ((let at-chained : let i = c.args in ChainedAsked i.version i.row.now c.paired_field-1.given.0.0 c.keys_field-1.given.0.0 c.chained_at-chained_field.result = chained-asked ((let at-keys : let i = c.args in KeysAsked i.version i.row.now c.paired_field-1.given.0.0 c.keys_at-keys_field.result = keys-asked ((let at-paired : let i = c.args in PairedAsked i.version i.row.now c.paired_at-paired_field.result = record { by = typed c.args.row.now c.shared_slice_known-1.given; known = eq-eqb _ _ c.if-version-ne-BLOB_VERSION.false; found = c.paired_at-paired_field.ensures } in at-paired)) c.paired_field-1.given.1 c.keys_at-keys_field.ensures in at-keys)) c.keys_field-1.given.1 c.chained_at-chained_field.ensures in at-chained)) c.chained_field-1.given.1 c.numbers_at-numbers_field.ensures in at-numbers)) c.numbers_field-1.given.1
+    let at-paired : let i = c.args in PairedAsked i.version i.row.now c.paired_at-paired_field.result = record { by = typed c.args.row.now c.type_inv.row; known = eq-eqb _ _ c.if-version-ne-BLOB_VERSION.false; found = c.paired_at-paired_field.ensures } in
+    let at-keys : let i = c.args in KeysAsked i.version i.row.now c.in-Value.paired c.keys_at-keys_field.result = keys-asked at-paired c.in-Value.is c.keys_at-keys_field.ensures in
+    let at-chained : let i = c.args in ChainedAsked i.version i.row.now c.in-Value.paired c.in-Value-keys_field.keys c.chained_at-chained_field.result = chained-asked at-keys c.in-Value-keys_field.is c.chained_at-chained_field.ensures in
+    let at-numbers : let i = c.args in NumbersAsked i.version i.row.now c.in-Value.paired c.in-Value-keys_field.keys c.in-Value-chained_field.chained c.numbers_at-numbers_field.result = numbers-asked at-chained c.in-Value-chained_field.is c.numbers_at-numbers_field.ensures in
+    lists-inside at-numbers c.in-Value-numbers_field.is
 
 pub returns-in_default-consistent_in_row : goal.returns-in_default-consistent_in_row
 returns-in_default-consistent_in_row c =
-    let w = all_read ((let at-numbers : let i = c.args in NumbersAsked i.version i.row.now c.paired_field-1.given.0.0 c.keys_field-1.given.0.0 c.chained_field-1.given.0.0 c.numbers_at-numbers_field.result = numbers-asked ((let at-chained : let i = c.args in ChainedAsked i.version i.row.now c.paired_field-1.given.0.0 c.keys_field-1.given.0.0 c.chained_at-chained_field.result = chained-asked ((let at-keys : let i = c.args in KeysAsked i.version i.row.now c.paired_field-1.given.0.0 c.keys_at-keys_field.result = keys-asked ((let at-paired : let i = c.args in PairedAsked i.version i.row.now c.paired_at-paired_field.result = record { by = typed c.args.row.now c.shared_slice_known-1.given; known = eq-eqb _ _ c.if-version-ne-BLOB_VERSION.false; found = c.paired_at-paired_field.ensures } in at-paired)) c.paired_field-1.given.1 c.keys_at-keys_field.ensures in at-keys)) c.keys_field-1.given.1 c.chained_at-chained_field.ensures in at-chained)) c.chained_field-1.given.1 c.numbers_at-numbers_field.ensures in at-numbers)) c.numbers_field-1.given.1 c.if-at4-row.false in
-    ap Fields w.placed ∙ sym (ap (checked _) (asked-last w c.consistent_in_row.result c.consistent_in_row.ensures c.enum_told-in_default-consistent_in_row-1.given.1))
+    let at-paired : let i = c.args in PairedAsked i.version i.row.now c.paired_at-paired_field.result = record { by = typed c.args.row.now c.type_inv.row; known = eq-eqb _ _ c.if-version-ne-BLOB_VERSION.false; found = c.paired_at-paired_field.ensures } in
+    let at-keys : let i = c.args in KeysAsked i.version i.row.now c.in-Value.paired c.keys_at-keys_field.result = keys-asked at-paired c.in-Value.is c.keys_at-keys_field.ensures in
+    let at-chained : let i = c.args in ChainedAsked i.version i.row.now c.in-Value.paired c.in-Value-keys_field.keys c.chained_at-chained_field.result = chained-asked at-keys c.in-Value-keys_field.is c.chained_at-chained_field.ensures in
+    let at-numbers : let i = c.args in NumbersAsked i.version i.row.now c.in-Value.paired c.in-Value-keys_field.keys c.in-Value-chained_field.chained c.numbers_at-numbers_field.result = numbers-asked at-chained c.in-Value-chained_field.is c.numbers_at-numbers_field.ensures in
+    let w = all_read at-numbers c.in-Value-numbers_field.is c.if-at4-row.false in
+    ap Fields w.placed ∙ sym (ap (checked _) (asked-last w c.consistent_in_row.result c.consistent_in_row.ensures c.in_default-consistent_in_row.is))
 
 pub returns : goal.returns
 returns c =
-    let w = all_read ((let at-numbers : let i = c.args in NumbersAsked i.version i.row.now c.paired_field-1.given.0.0 c.keys_field-1.given.0.0 c.chained_field-1.given.0.0 c.numbers_at-numbers_field.result = numbers-asked ((let at-chained : let i = c.args in ChainedAsked i.version i.row.now c.paired_field-1.given.0.0 c.keys_field-1.given.0.0 c.chained_at-chained_field.result = chained-asked ((let at-keys : let i = c.args in KeysAsked i.version i.row.now c.paired_field-1.given.0.0 c.keys_at-keys_field.result = keys-asked ((let at-paired : let i = c.args in PairedAsked i.version i.row.now c.paired_at-paired_field.result = record { by = typed c.args.row.now c.shared_slice_known-1.given; known = eq-eqb _ _ c.if-version-ne-BLOB_VERSION.false; found = c.paired_at-paired_field.ensures } in at-paired)) c.paired_field-1.given.1 c.keys_at-keys_field.ensures in at-keys)) c.keys_field-1.given.1 c.chained_at-chained_field.ensures in at-chained)) c.chained_field-1.given.1 c.numbers_at-numbers_field.ensures in at-numbers)) c.numbers_field-1.given.1 c.if-at4-row.false in
-    sym (ap (checked _) (asked-last w c.consistent_in_row.result c.consistent_in_row.ensures c.q-1.given.1))
+    let at-paired : let i = c.args in PairedAsked i.version i.row.now c.paired_at-paired_field.result = record { by = typed c.args.row.now c.type_inv.row; known = eq-eqb _ _ c.if-version-ne-BLOB_VERSION.false; found = c.paired_at-paired_field.ensures } in
+    let at-keys : let i = c.args in KeysAsked i.version i.row.now c.in-Value.paired c.keys_at-keys_field.result = keys-asked at-paired c.in-Value.is c.keys_at-keys_field.ensures in
+    let at-chained : let i = c.args in ChainedAsked i.version i.row.now c.in-Value.paired c.in-Value-keys_field.keys c.chained_at-chained_field.result = chained-asked at-keys c.in-Value-keys_field.is c.chained_at-chained_field.ensures in
+    let at-numbers : let i = c.args in NumbersAsked i.version i.row.now c.in-Value.paired c.in-Value-keys_field.keys c.in-Value-chained_field.chained c.numbers_at-numbers_field.result = numbers-asked at-chained c.in-Value-chained_field.is c.numbers_at-numbers_field.ensures in
+    let w = all_read at-numbers c.in-Value-numbers_field.is c.if-at4-row.false in
+    sym (ap (checked _) (asked-last w c.consistent_in_row.result c.consistent_in_row.ensures c.in-Refused.is))

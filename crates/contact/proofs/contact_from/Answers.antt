@@ -27,7 +27,7 @@ returns c =
     let row = c.args.row.now in
     let at = c.args.at in
     let lists = c.requires.places in
-    let by = typed row c.shared_slice_known-1.given in
+    let by = typed row c.type_inv.row in
     λ i. record {
       resume_index = at.keys.resume_index;
       chains = count (group chain) chain-lawful row by at.chained.chains lists.chained.chains i;

@@ -11,15 +11,18 @@ use Rattle.contact_image.proofs.put_pending.Goals as goal
 
 pub put_byte-chain_key_at-requires : goal.put_byte-chain_key_at-requires
 put_byte-chain_key_at-requires c =
-    omega (arith, (let fit : c.args.at + 65 ≤ length c.args.out.now = omega (arith, pending-long c.args.contact c.type-inv.ensures.1 c.if-contact.true, c.requires) in fit))
+    let fit : c.args.at + 65 ≤ length c.args.out.now = omega (arith, pending-long c.args.contact c.type-inv.ensures.1 c.if-contact.true, c.requires) in
+    omega (arith, fit)
 
 pub put_32-msg_seed_at-requires : goal.put_32-msg_seed_at-requires
 put_32-msg_seed_at-requires c =
-    room 32 (stored c.put_byte-chain_key_at.ensures) (omega (arith, (let fit : c.args.at + 65 ≤ length c.args.out.now = omega (arith, pending-long c.args.contact c.type-inv.ensures.1 c.if-contact.true, c.requires) in fit)))
+    let fit : c.args.at + 65 ≤ length c.args.out.now = omega (arith, pending-long c.args.contact c.type-inv.ensures.1 c.if-contact.true, c.requires) in
+    room 32 (stored c.put_byte-chain_key_at.ensures) (omega (arith, fit))
 
 pub put_32-requires : goal.put_32-requires
 put_32-requires c =
-    room 32 (stored c.put_byte-chain_key_at.ensures on stored c.put_32-msg_seed_at.ensures) ((let fit : c.args.at + 65 ≤ length c.args.out.now = omega (arith, pending-long c.args.contact c.type-inv.ensures.1 c.if-contact.true, c.requires) in fit))
+    let fit : c.args.at + 65 ≤ length c.args.out.now = omega (arith, pending-long c.args.contact c.type-inv.ensures.1 c.if-contact.true, c.requires) in
+    room 32 (stored c.put_byte-chain_key_at.ensures on stored c.put_32-msg_seed_at.ensures) fit
 
 pub returns-then-contact : goal.returns-then-contact
 returns-then-contact c =

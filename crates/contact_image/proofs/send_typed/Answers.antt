@@ -5,7 +5,7 @@ use Rattle.contact_image.specs.Row.{SendTyped}
 use Rattle.contact_image.proofs.send_typed.Goals as goal
 
 pub returns-in-Absent : goal.returns-in-Absent
-returns-in-Absent c = subst SendTyped (sym c.enum_told-1.given.1) tt
+returns-in-Absent c = subst SendTyped (sym c.in-Absent.is) tt
 
 pub returns-in-Present : goal.returns-in-Present
-returns-in-Present c = subst SendTyped (sym c.send-1.given.1) (search rules, search rules)
+returns-in-Present c = subst SendTyped (sym c.in-Present.is) (search rules, search rules)

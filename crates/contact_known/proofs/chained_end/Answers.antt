@@ -13,20 +13,27 @@ use Rattle.contact_known.proofs.chained_end.Goals as goal
 
 pub returns-in_default : goal.returns-in_default
 returns-in_default c =
+    let by : Bytes c.args.row.now = typed c.args.row.now c.type_inv.row in
     λ v next read.
-    absurd (never (chains-read (c.args.row.now) ((let by : Bytes (c.args.row.now) = typed (c.args.row.now) c.shared_slice_known-1.given in by)) (c.args.at) read _ _ c.behind_flag-send.ensures c.behind_flag-chains_at.ensures) (learn (list_says (group chain) (c.args.row.now)) c.chains_at.ensures.0 c.enum_told-1.given.1))
+    absurd (never (chains-read c.args.row.now by c.args.at read _ _ c.behind_flag-send.ensures c.behind_flag-chains_at.ensures) (learn (list_says (group chain) c.args.row.now) c.chains_at.ensures.0 c.in_default.is))
 
 pub returns-in_default-u16_at : goal.returns-in_default-u16_at
 returns-in_default-u16_at c =
+    let by : Bytes c.args.row.now = typed c.args.row.now c.type_inv.row in
+    let found : let is = c.in-Value.chains in read_at (list (group chain)) c.args.row.now c.behind_flag-chains_at.result ≡ takes (items (group chain) is.count (drop is.first c.args.row.now)) is.next = learn (list_says (group chain) c.args.row.now) c.chains_at.ensures.0 c.in-Value.is in
     λ v next read.
-    absurd (never (skipped-counted (c.args.row.now) ((let by : Bytes (c.args.row.now) = typed (c.args.row.now) c.shared_slice_known-1.given in by)) (c.args.at) read _ _ c.behind_flag-send.ensures c.behind_flag-chains_at.ensures ((let found : let is = c.chains-1.given.0.0 in read_at (list (group chain)) (c.args.row.now) c.behind_flag-chains_at.result ≡ takes (items (group chain) is.count (drop is.first (c.args.row.now))) is.next = learn (list_says (group chain) (c.args.row.now)) c.chains_at.ensures.0 c.chains-1.given.1 in found))) (learn u16_says c.u16_at.ensures c.enum_told-in_default-u16_at-1.given.1))
+    absurd (never (skipped-counted c.args.row.now by c.args.at read _ _ c.behind_flag-send.ensures c.behind_flag-chains_at.ensures found) (learn u16_says c.u16_at.ensures c.in_default-u16_at.is))
 
 pub returns-in_default-run_at : goal.returns-in_default-run_at
 returns-in_default-run_at c =
+    let by : Bytes c.args.row.now = typed c.args.row.now c.type_inv.row in
+    let found : let is = c.in-Value.chains in read_at (list (group chain)) c.args.row.now c.behind_flag-chains_at.result ≡ takes (items (group chain) is.count (drop is.first c.args.row.now)) is.next = learn (list_says (group chain) c.args.row.now) c.chains_at.ensures.0 c.in-Value.is in
     λ v next read.
-    absurd (never ((skipped-run (c.args.row.now) ((let by : Bytes (c.args.row.now) = typed (c.args.row.now) c.shared_slice_known-1.given in by)) (c.args.at) read _ _ c.behind_flag-send.ensures c.behind_flag-chains_at.ensures ((let found : let is = c.chains-1.given.0.0 in read_at (list (group chain)) (c.args.row.now) c.behind_flag-chains_at.result ≡ takes (items (group chain) is.count (drop is.first (c.args.row.now))) is.next = learn (list_says (group chain) (c.args.row.now)) c.chains_at.ensures.0 c.chains-1.given.1 in found)) (learn u16_says c.u16_at.ensures c.count-1.given.1))) (learn (run_says _ (c.args.row.now)) c.run_at.ensures.0 c.enum_told-in_default-run_at-1.given.1))
+    absurd (never ((skipped-run c.args.row.now by c.args.at read _ _ c.behind_flag-send.ensures c.behind_flag-chains_at.ensures found (learn u16_says c.u16_at.ensures c.in-Value-u16_at.is))) (learn (run_says _ c.args.row.now) c.run_at.ensures.0 c.in_default-run_at.is))
 
 pub returns : goal.returns
 returns c =
+    let by : Bytes c.args.row.now = typed c.args.row.now c.type_inv.row in
+    let found : let is = c.in-Value.chains in read_at (list (group chain)) c.args.row.now c.behind_flag-chains_at.result ≡ takes (items (group chain) is.count (drop is.first c.args.row.now)) is.next = learn (list_says (group chain) c.args.row.now) c.chains_at.ensures.0 c.in-Value.is in
     λ v next read.
-    (once (learn (run_says _ (c.args.row.now)) c.run_at.ensures.0 c._first-1.given.1) ((skipped-run (c.args.row.now) ((let by : Bytes (c.args.row.now) = typed (c.args.row.now) c.shared_slice_known-1.given in by)) (c.args.at) read _ _ c.behind_flag-send.ensures c.behind_flag-chains_at.ensures ((let found : let is = c.chains-1.given.0.0 in read_at (list (group chain)) (c.args.row.now) c.behind_flag-chains_at.result ≡ takes (items (group chain) is.count (drop is.first (c.args.row.now))) is.next = learn (list_says (group chain) (c.args.row.now)) c.chains_at.ensures.0 c.chains-1.given.1 in found)) (learn u16_says c.u16_at.ensures c.count-1.given.1)))).1
+    (once (learn (run_says _ c.args.row.now) c.run_at.ensures.0 c.in-Value-run_at.is) ((skipped-run c.args.row.now by c.args.at read _ _ c.behind_flag-send.ensures c.behind_flag-chains_at.ensures found (learn u16_says c.u16_at.ensures c.in-Value-u16_at.is)))).1

@@ -7,14 +7,17 @@ use Rattle.contact_known.proofs.paired_end.Goals as goal
 
 pub returns-in_default : goal.returns-in_default
 returns-in_default c =
-    λ p next read. absurd (never (card-counted (c.args.row.now) ((let by : Bytes (c.args.row.now) = typed (c.args.row.now) c.shared_slice_known-1.given in by)) read) (learn u16_says c.u16_at.ensures c.enum_told-1.given.1))
+    let by : Bytes c.args.row.now = typed c.args.row.now c.type_inv.row in
+    λ p next read. absurd (never (card-counted c.args.row.now by read) (learn u16_says c.u16_at.ensures c.in_default.is))
 
 pub returns-in_default-run_at : goal.returns-in_default-run_at
 returns-in_default-run_at c =
+    let by : Bytes c.args.row.now = typed c.args.row.now c.type_inv.row in
     λ p next read.
-    absurd (never (card-run (c.args.row.now) ((let by : Bytes (c.args.row.now) = typed (c.args.row.now) c.shared_slice_known-1.given in by)) read (learn u16_says c.u16_at.ensures c.len-1.given.1)) (learn (run_says _ (c.args.row.now)) c.run_at.ensures.0 c.enum_told-in_default-run_at-1.given.1))
+    absurd (never (card-run c.args.row.now by read (learn u16_says c.u16_at.ensures c.in-Value.is)) (learn (run_says _ c.args.row.now) c.run_at.ensures.0 c.in_default-run_at.is))
 
 pub returns : goal.returns
 returns c =
+    let by : Bytes c.args.row.now = typed c.args.row.now c.type_inv.row in
     λ p next read.
-    (once (learn (run_says _ (c.args.row.now)) c.run_at.ensures.0 c._start-1.given.1) (card-run (c.args.row.now) ((let by : Bytes (c.args.row.now) = typed (c.args.row.now) c.shared_slice_known-1.given in by)) read (learn u16_says c.u16_at.ensures c.len-1.given.1))).1
+    (once (learn (run_says _ c.args.row.now) c.run_at.ensures.0 c.in-Value-run_at.is) (card-run c.args.row.now by read (learn u16_says c.u16_at.ensures c.in-Value.is))).1

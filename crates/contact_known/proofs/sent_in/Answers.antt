@@ -20,17 +20,22 @@ not-both e = let z : ◌≡◌ {A = ℕ} 0 1 = cc in omega arith
 
 pub returns-in_default : goal.returns-in_default
 returns-in_default c =
+    let by : Bytes c.args.row.now = typed c.args.row.now c.type_inv.row in
     λ version v granted.
-    absurd (keys-granted version (c.args.row.now) ((let by : Bytes (c.args.row.now) = typed (c.args.row.now) c.shared_slice_known-1.given in by)) granted _ c.paired_end-keys_at.ensures (sym c.keys_at.ensures ∙ c.enum_told-1.given.1))
+    absurd (keys-granted version c.args.row.now by granted _ c.paired_end-keys_at.ensures (sym c.keys_at.ensures ∙ c.in_default.is))
 
 pub returns-in_default-unacked_at : goal.returns-in_default-unacked_at
 returns-in_default-unacked_at c =
+    let by : Bytes c.args.row.now = typed c.args.row.now c.type_inv.row in
+    let found : let at = c.paired_end-keys_at.result in keys_found at (read_at (group keys) c.args.row.now at) ≡ Value c.in-Value.keys c.in-Value.behind_keys = sym c.keys_at.ensures ∙ c.in-Value.is in
     λ version v granted.
-    absurd (not-both (sym ((numbers-there version (c.args.row.now) ((let by : Bytes (c.args.row.now) = typed (c.args.row.now) c.shared_slice_known-1.given in by)) granted _ c.paired_end-keys_at.ensures ((let found : let at = c.paired_end-keys_at.result in keys_found at (read_at (group keys) (c.args.row.now) at) ≡ Value c.keys-1.given.0.0 c.keys-1.given.0.1.0 = sym c.keys_at.ensures ∙ c.keys-1.given.1 in found)) _ c.chained_end-numbers_at.ensures c.unacked_at.ensures)) ∙ c.enum_told-in_default-unacked_at-1.given.1))
+    absurd (not-both (sym ((numbers-there version c.args.row.now by granted _ c.paired_end-keys_at.ensures found _ c.chained_end-numbers_at.ensures c.unacked_at.ensures)) ∙ c.in_default-unacked_at.is))
 
 pub returns : goal.returns
 returns c =
+    let by : Bytes c.args.row.now = typed c.args.row.now c.type_inv.row in
+    let found : let at = c.paired_end-keys_at.result in keys_found at (read_at (group keys) c.args.row.now at) ≡ Value c.in-Value.keys c.in-Value.behind_keys = sym c.keys_at.ensures ∙ c.in-Value.is in
     λ version v granted.
-    let k-is = keys-are version (c.args.row.now) ((let by : Bytes (c.args.row.now) = typed (c.args.row.now) c.shared_slice_known-1.given in by)) granted _ c.paired_end-keys_at.ensures ((let found : let at = c.paired_end-keys_at.result in keys_found at (read_at (group keys) (c.args.row.now) at) ≡ Value c.keys-1.given.0.0 c.keys-1.given.0.1.0 = sym c.keys_at.ensures ∙ c.keys-1.given.1 in found)) in
-    let l-is : c.unacked-1.given.0.0 ≡ (contact_at version v).numbers.unacked = let is = sym c.unacked-1.given.1 ∙ (numbers-there version (c.args.row.now) ((let by : Bytes (c.args.row.now) = typed (c.args.row.now) c.shared_slice_known-1.given in by)) granted _ c.paired_end-keys_at.ensures ((let found : let at = c.paired_end-keys_at.result in keys_found at (read_at (group keys) (c.args.row.now) at) ≡ Value c.keys-1.given.0.0 c.keys-1.given.0.1.0 = sym c.keys_at.ensures ∙ c.keys-1.given.1 in found)) _ c.chained_end-numbers_at.ensures c.unacked_at.ensures) in cc in
+    let k-is = keys-are version c.args.row.now by granted _ c.paired_end-keys_at.ensures found in
+    let l-is : c.in-Value-unacked_at.unacked ≡ (contact_at version v).numbers.unacked = let is = sym c.in-Value-unacked_at.is ∙ (numbers-there version c.args.row.now by granted _ c.paired_end-keys_at.ensures found _ c.chained_end-numbers_at.ensures c.unacked_at.ensures) in cc in
     λ i. record { unacked = l-is i; sent_msgno = (k-is i).sent_msgno }

@@ -1,4 +1,5 @@
 -- `contact_row::chains_consistent` meets its contract: question by question.
+use mathlib.Core.List.{List}
 use mathlib.Core.Bool.{true}
 use mathlib.Core.Path.{◌≡◌, sym, ap, ◌∙◌}
 use lib.ListN.{length}
@@ -6,6 +7,7 @@ use borrow.Author.Tests.{le-leb, lt-leb, not-true, not-false}
 use Rattle.layout.specs.Layout.{group}
 use Rattle.layout.specs.RowLaws.{Bytes}
 use Rattle.layout.proofs.At.{typed}
+use Rattle.rows.specs.Values.{Chain, Skipped}
 use Rattle.rows.specs.Checks.{few_chains, one_chain_at_most, gens_distinct, keys_distinct}
 use Rattle.rows.specs.Rows.{skipped as key}
 use Rattle.contact_lent.specs.Lent.{chains_of, skipped_of}
@@ -18,38 +20,70 @@ use Rattle.contact_row.proofs.chains_consistent.Goals as goal
 -- ---- what is asked
 pub returns-then-contact-gt-MAX_CHAINS : goal.returns-then-contact-gt-MAX_CHAINS
 returns-then-contact-gt-MAX_CHAINS c =
-    rw ((let many-chains : length ((chains_of c.args.contact.chains c.args.chains.now)) ≡ c.args.contact.chains = (chains-printed c.args.contact.chains c.args.chains.now c.requires.chains_granted.reads ((let chains-bytes : Bytes c.args.chains.now = typed c.args.chains.now c.shared_slice_known-1.given in chains-bytes)) c.requires.chains).count in many-chains), lt-leb _ _ c.if-contact-gt-MAX_CHAINS.true)
+    let chains-bytes : Bytes c.args.chains.now = typed c.args.chains.now c.type_inv.chains in
+    let chains : List Chain = chains_of c.args.contact.chains c.args.chains.now in
+    let many-chains : length chains ≡ c.args.contact.chains = (chains-printed c.args.contact.chains c.args.chains.now c.requires.chains_granted.reads chains-bytes c.requires.chains).count in
+    rw (many-chains, lt-leb _ _ c.if-contact-gt-MAX_CHAINS.true)
 
 pub chains_lent-asked-requires : goal.chains_lent-asked-requires
 chains_lent-asked-requires c = let p = c.requires in record { room = p.chains; records = _; rest = _; so = p.chains_granted.reads }
 
 pub returns-then-not-asked : goal.returns-then-not-asked
 returns-then-not-asked c =
-    rw ((let yes-54 : few_chains ((chains_of c.args.contact.chains c.args.chains.now)) ≡ true = rw ((let many-chains : length ((chains_of c.args.contact.chains c.args.chains.now)) ≡ c.args.contact.chains = (chains-printed c.args.contact.chains c.args.chains.now c.requires.chains_granted.reads ((let chains-bytes : Bytes c.args.chains.now = typed c.args.chains.now c.shared_slice_known-1.given in chains-bytes)) c.requires.chains).count in many-chains)) (le-leb _ _ c.if-contact-gt-MAX_CHAINS.false) in yes-54), (sym (ap (λ (a : ChainsAsked). a.one_current) c.chains_lent-asked.ensures) ∙ (not-true _ c.if-not-asked.true)))
+    let chains-bytes : Bytes c.args.chains.now = typed c.args.chains.now c.type_inv.chains in
+    let chains : List Chain = chains_of c.args.contact.chains c.args.chains.now in
+    let many-chains : length chains ≡ c.args.contact.chains = (chains-printed c.args.contact.chains c.args.chains.now c.requires.chains_granted.reads chains-bytes c.requires.chains).count in
+    let yes-54 : few_chains chains ≡ true = rw many-chains (le-leb _ _ c.if-contact-gt-MAX_CHAINS.false) in
+    rw (yes-54, (sym (ap (λ (a : ChainsAsked). a.one_current) c.chains_lent-asked.ensures) ∙ (not-true _ c.if-not-asked.true)))
 
 pub returns-then-not-asked-2 : goal.returns-then-not-asked-2
 returns-then-not-asked-2 c =
-    rw ((let yes-54 : few_chains ((chains_of c.args.contact.chains c.args.chains.now)) ≡ true = rw ((let many-chains : length ((chains_of c.args.contact.chains c.args.chains.now)) ≡ c.args.contact.chains = (chains-printed c.args.contact.chains c.args.chains.now c.requires.chains_granted.reads ((let chains-bytes : Bytes c.args.chains.now = typed c.args.chains.now c.shared_slice_known-1.given in chains-bytes)) c.requires.chains).count in many-chains)) (le-leb _ _ c.if-contact-gt-MAX_CHAINS.false) in yes-54), (let yes-17 : one_chain_at_most ((chains_of ((((c).before)).before.before.before).args.contact.chains ((((c).before)).before.before.before).args.chains.now)) ≡ true = (sym (ap (λ (a : ChainsAsked). a.one_current) c.chains_lent-asked.ensures) ∙ (not-false _ c.if-not-asked.false)) in yes-17), (sym (ap (λ (a : ChainsAsked). a.gens_distinct) c.chains_lent-asked.ensures) ∙ (not-true _ c.if-not-asked-2.true)))
+    let chains-bytes : Bytes c.args.chains.now = typed c.args.chains.now c.type_inv.chains in
+    let chains : List Chain = chains_of c.args.contact.chains c.args.chains.now in
+    let many-chains : length chains ≡ c.args.contact.chains = (chains-printed c.args.contact.chains c.args.chains.now c.requires.chains_granted.reads chains-bytes c.requires.chains).count in
+    let yes-54 : few_chains chains ≡ true = rw many-chains (le-leb _ _ c.if-contact-gt-MAX_CHAINS.false) in
+    let yes-17 : one_chain_at_most ((let chains : List Chain = chains_of c.before.before.before.before.args.contact.chains c.before.before.before.before.args.chains.now in chains)) ≡ true = (sym (ap (λ (a : ChainsAsked). a.one_current) c.chains_lent-asked.ensures) ∙ (not-false _ c.if-not-asked.false)) in
+    rw (yes-54, yes-17, (sym (ap (λ (a : ChainsAsked). a.gens_distinct) c.chains_lent-asked.ensures) ∙ (not-true _ c.if-not-asked-2.true)))
 
 pub skipped_distinct-requires : goal.skipped_distinct-requires
 skipped_distinct-requires c =
-    let f = (c).before in
-    skipped-stand (f.before.before.before).args.skipped.now (f.before.before.before).args.contact.skipped ((let skipped-bytes : Bytes (f.before.before.before).args.skipped.now = typed (f.before.before.before).args.skipped.now f.before.shared-slice-known2.given in skipped-bytes)) ((let stand : Placed 46 (group key) (f.before.before.before).args.skipped.now (f.before.before.before).args.contact.skipped = let p = (f.before.before.before).requires in record { room = p.skipped; records = _; rest = _; so = p.skipped_granted.reads } in stand))
+    let f = c.before in
+    skipped-stand f.before.before.before.args.skipped.now f.before.before.before.args.contact.skipped ((let skipped-bytes : Bytes f.before.before.before.args.skipped.now = typed f.before.before.before.args.skipped.now f.before.shared-slice-known2.given in skipped-bytes)) ((let stand : Placed 46 (group key) f.before.before.before.args.skipped.now f.before.before.before.args.contact.skipped = let p = f.before.before.before.requires in record { room = p.skipped; records = _; rest = _; so = p.skipped_granted.reads } in stand))
 
 pub returns-then-not-skipped_distinct : goal.returns-then-not-skipped_distinct
 returns-then-not-skipped_distinct c =
-    rw ((let yes-54 : few_chains ((chains_of c.args.contact.chains c.args.chains.now)) ≡ true = rw ((let many-chains : length ((chains_of c.args.contact.chains c.args.chains.now)) ≡ c.args.contact.chains = (chains-printed c.args.contact.chains c.args.chains.now c.requires.chains_granted.reads ((let chains-bytes : Bytes c.args.chains.now = typed c.args.chains.now c.shared_slice_known-1.given in chains-bytes)) c.requires.chains).count in many-chains)) (le-leb _ _ c.if-contact-gt-MAX_CHAINS.false) in yes-54), (let yes-17 : one_chain_at_most ((chains_of ((((c).before)).before.before.before).args.contact.chains ((((c).before)).before.before.before).args.chains.now)) ≡ true = (sym (ap (λ (a : ChainsAsked). a.one_current) c.chains_lent-asked.ensures) ∙ (not-false _ c.if-not-asked.false)) in yes-17), (let yes-18 : gens_distinct ((chains_of ((((c).before)).before.before.before).args.contact.chains ((((c).before)).before.before.before).args.chains.now)) ≡ true = (sym (ap (λ (a : ChainsAsked). a.gens_distinct) c.chains_lent-asked.ensures) ∙ (not-false _ c.if-not-asked-2.false)) in yes-18), (let f = (c).before in
-    ap keys_distinct (sym (skipped-items (f.before.before.before).args.skipped.now (f.before.before.before).args.contact.skipped ((let skipped-bytes : Bytes (f.before.before.before).args.skipped.now = typed (f.before.before.before).args.skipped.now f.before.shared-slice-known2.given in skipped-bytes)) ((let stand : Placed 46 (group key) (f.before.before.before).args.skipped.now (f.before.before.before).args.contact.skipped = let p = (f.before.before.before).requires in record { room = p.skipped; records = _; rest = _; so = p.skipped_granted.reads } in stand))))
+    let chains-bytes : Bytes c.args.chains.now = typed c.args.chains.now c.type_inv.chains in
+    let chains : List Chain = chains_of c.args.contact.chains c.args.chains.now in
+    let many-chains : length chains ≡ c.args.contact.chains = (chains-printed c.args.contact.chains c.args.chains.now c.requires.chains_granted.reads chains-bytes c.requires.chains).count in
+    let yes-54 : few_chains chains ≡ true = rw many-chains (le-leb _ _ c.if-contact-gt-MAX_CHAINS.false) in
+    let yes-17 : one_chain_at_most ((let chains : List Chain = chains_of c.before.before.before.before.args.contact.chains c.before.before.before.before.args.chains.now in chains)) ≡ true = (sym (ap (λ (a : ChainsAsked). a.one_current) c.chains_lent-asked.ensures) ∙ (not-false _ c.if-not-asked.false)) in
+    let yes-18 : gens_distinct ((let chains : List Chain = chains_of c.before.before.before.before.args.contact.chains c.before.before.before.before.args.chains.now in chains)) ≡ true = (sym (ap (λ (a : ChainsAsked). a.gens_distinct) c.chains_lent-asked.ensures) ∙ (not-false _ c.if-not-asked-2.false)) in
+    rw (yes-54, yes-17, yes-18, (let f = c.before in
+    ap keys_distinct (sym (skipped-items f.before.before.before.args.skipped.now f.before.before.before.args.contact.skipped ((let skipped-bytes : Bytes f.before.before.before.args.skipped.now = typed f.before.before.before.args.skipped.now f.before.shared-slice-known2.given in skipped-bytes)) ((let stand : Placed 46 (group key) f.before.before.before.args.skipped.now f.before.before.before.args.contact.skipped = let p = f.before.before.before.requires in record { room = p.skipped; records = _; rest = _; so = p.skipped_granted.reads } in stand))))
     ∙ sym c.skipped_distinct.ensures ∙ (not-true _ c.if-not-skipped_distinct.true)))
 
 pub returns-then-contact-gt-MAX_SKIPPED : goal.returns-then-contact-gt-MAX_SKIPPED
 returns-then-contact-gt-MAX_SKIPPED c =
-    rw ((let yes-54 : few_chains ((chains_of c.args.contact.chains c.args.chains.now)) ≡ true = rw ((let many-chains : length ((chains_of c.args.contact.chains c.args.chains.now)) ≡ c.args.contact.chains = (chains-printed c.args.contact.chains c.args.chains.now c.requires.chains_granted.reads ((let chains-bytes : Bytes c.args.chains.now = typed c.args.chains.now c.shared_slice_known-1.given in chains-bytes)) c.requires.chains).count in many-chains)) (le-leb _ _ c.if-contact-gt-MAX_CHAINS.false) in yes-54), (let yes-17 : one_chain_at_most ((chains_of ((((c).before)).before.before.before).args.contact.chains ((((c).before)).before.before.before).args.chains.now)) ≡ true = (sym (ap (λ (a : ChainsAsked). a.one_current) c.chains_lent-asked.ensures) ∙ (not-false _ c.if-not-asked.false)) in yes-17), (let yes-18 : gens_distinct ((chains_of ((((c).before)).before.before.before).args.contact.chains ((((c).before)).before.before.before).args.chains.now)) ≡ true = (sym (ap (λ (a : ChainsAsked). a.gens_distinct) c.chains_lent-asked.ensures) ∙ (not-false _ c.if-not-asked-2.false)) in yes-18), (let yes-19 : keys_distinct ((skipped_of ((((c).before)).before.before.before).args.contact.skipped ((((c).before)).before.before.before).args.skipped.now)) ≡ true = (let f = (c).before in
-    ap keys_distinct (sym (skipped-items (f.before.before.before).args.skipped.now (f.before.before.before).args.contact.skipped ((let skipped-bytes : Bytes (f.before.before.before).args.skipped.now = typed (f.before.before.before).args.skipped.now f.before.shared-slice-known2.given in skipped-bytes)) ((let stand : Placed 46 (group key) (f.before.before.before).args.skipped.now (f.before.before.before).args.contact.skipped = let p = (f.before.before.before).requires in record { room = p.skipped; records = _; rest = _; so = p.skipped_granted.reads } in stand))))
-    ∙ sym c.skipped_distinct.ensures ∙ (not-false _ c.if-not-skipped_distinct.false)) in yes-19), (let many-skipped : length ((skipped_of ((((c).before)).before.before.before).args.contact.skipped ((((c).before)).before.before.before).args.skipped.now)) ≡ ((((c).before)).before.before.before).args.contact.skipped = let s = (((c).before)).before.before.before in (skipped-printed s.args.contact.skipped s.args.skipped.now s.pre.skipped_granted.reads ((let skipped-bytes : Bytes ((((c).before)).before.before.before).args.skipped.now = typed ((((c).before)).before.before.before).args.skipped.now (((c).before)).before.shared-slice-known2.given in skipped-bytes)) s.pre.skipped).count in many-skipped), lt-leb _ _ c.if-contact-gt-MAX_SKIPPED.true)
+    let chains-bytes : Bytes c.args.chains.now = typed c.args.chains.now c.type_inv.chains in
+    let chains : List Chain = chains_of c.args.contact.chains c.args.chains.now in
+    let many-chains : length chains ≡ c.args.contact.chains = (chains-printed c.args.contact.chains c.args.chains.now c.requires.chains_granted.reads chains-bytes c.requires.chains).count in
+    let yes-54 : few_chains chains ≡ true = rw many-chains (le-leb _ _ c.if-contact-gt-MAX_CHAINS.false) in
+    let yes-17 : one_chain_at_most ((let chains : List Chain = chains_of c.before.before.before.before.args.contact.chains c.before.before.before.before.args.chains.now in chains)) ≡ true = (sym (ap (λ (a : ChainsAsked). a.one_current) c.chains_lent-asked.ensures) ∙ (not-false _ c.if-not-asked.false)) in
+    let yes-18 : gens_distinct ((let chains : List Chain = chains_of c.before.before.before.before.args.contact.chains c.before.before.before.before.args.chains.now in chains)) ≡ true = (sym (ap (λ (a : ChainsAsked). a.gens_distinct) c.chains_lent-asked.ensures) ∙ (not-false _ c.if-not-asked-2.false)) in
+    let yes-19 : keys_distinct ((let skipped : List Skipped = skipped_of c.before.before.before.before.args.contact.skipped c.before.before.before.before.args.skipped.now in skipped)) ≡ true = (let f = c.before in
+    ap keys_distinct (sym (skipped-items f.before.before.before.args.skipped.now f.before.before.before.args.contact.skipped ((let skipped-bytes : Bytes f.before.before.before.args.skipped.now = typed f.before.before.before.args.skipped.now f.before.shared-slice-known2.given in skipped-bytes)) ((let stand : Placed 46 (group key) f.before.before.before.args.skipped.now f.before.before.before.args.contact.skipped = let p = f.before.before.before.requires in record { room = p.skipped; records = _; rest = _; so = p.skipped_granted.reads } in stand))))
+    ∙ sym c.skipped_distinct.ensures ∙ (not-false _ c.if-not-skipped_distinct.false)) in
+    rw (yes-54, yes-17, yes-18, yes-19, (let many-skipped : length ((let skipped : List Skipped = skipped_of c.before.before.before.before.args.contact.skipped c.before.before.before.before.args.skipped.now in skipped)) ≡ c.before.before.before.before.args.contact.skipped = let s = c.before.before.before.before in (skipped-printed s.args.contact.skipped s.args.skipped.now s.pre.skipped_granted.reads ((let skipped-bytes : Bytes c.before.before.before.before.args.skipped.now = typed c.before.before.before.before.args.skipped.now c.before.before.shared-slice-known2.given in skipped-bytes)) s.pre.skipped).count in many-skipped), lt-leb _ _ c.if-contact-gt-MAX_SKIPPED.true)
 
 pub returns : goal.returns
 returns c =
-    rw ((let yes-54 : few_chains ((chains_of c.args.contact.chains c.args.chains.now)) ≡ true = rw ((let many-chains : length ((chains_of c.args.contact.chains c.args.chains.now)) ≡ c.args.contact.chains = (chains-printed c.args.contact.chains c.args.chains.now c.requires.chains_granted.reads ((let chains-bytes : Bytes c.args.chains.now = typed c.args.chains.now c.shared_slice_known-1.given in chains-bytes)) c.requires.chains).count in many-chains)) (le-leb _ _ c.if-contact-gt-MAX_CHAINS.false) in yes-54), (let yes-17 : one_chain_at_most ((chains_of ((((c).before)).before.before.before).args.contact.chains ((((c).before)).before.before.before).args.chains.now)) ≡ true = (sym (ap (λ (a : ChainsAsked). a.one_current) c.chains_lent-asked.ensures) ∙ (not-false _ c.if-not-asked.false)) in yes-17), (let yes-18 : gens_distinct ((chains_of ((((c).before)).before.before.before).args.contact.chains ((((c).before)).before.before.before).args.chains.now)) ≡ true = (sym (ap (λ (a : ChainsAsked). a.gens_distinct) c.chains_lent-asked.ensures) ∙ (not-false _ c.if-not-asked-2.false)) in yes-18), (let yes-19 : keys_distinct ((skipped_of ((((c).before)).before.before.before).args.contact.skipped ((((c).before)).before.before.before).args.skipped.now)) ≡ true = (let f = (c).before in
-    ap keys_distinct (sym (skipped-items (f.before.before.before).args.skipped.now (f.before.before.before).args.contact.skipped ((let skipped-bytes : Bytes (f.before.before.before).args.skipped.now = typed (f.before.before.before).args.skipped.now f.before.shared-slice-known2.given in skipped-bytes)) ((let stand : Placed 46 (group key) (f.before.before.before).args.skipped.now (f.before.before.before).args.contact.skipped = let p = (f.before.before.before).requires in record { room = p.skipped; records = _; rest = _; so = p.skipped_granted.reads } in stand))))
-    ∙ sym c.skipped_distinct.ensures ∙ (not-false _ c.if-not-skipped_distinct.false)) in yes-19), (let many-skipped : length ((skipped_of ((((c).before)).before.before.before).args.contact.skipped ((((c).before)).before.before.before).args.skipped.now)) ≡ ((((c).before)).before.before.before).args.contact.skipped = let s = (((c).before)).before.before.before in (skipped-printed s.args.contact.skipped s.args.skipped.now s.pre.skipped_granted.reads ((let skipped-bytes : Bytes ((((c).before)).before.before.before).args.skipped.now = typed ((((c).before)).before.before.before).args.skipped.now (((c).before)).before.shared-slice-known2.given in skipped-bytes)) s.pre.skipped).count in many-skipped), le-leb _ _ c.if-contact-gt-MAX_SKIPPED.false)
+    let chains-bytes : Bytes c.args.chains.now = typed c.args.chains.now c.type_inv.chains in
+    let chains : List Chain = chains_of c.args.contact.chains c.args.chains.now in
+    let many-chains : length chains ≡ c.args.contact.chains = (chains-printed c.args.contact.chains c.args.chains.now c.requires.chains_granted.reads chains-bytes c.requires.chains).count in
+    let yes-54 : few_chains chains ≡ true = rw many-chains (le-leb _ _ c.if-contact-gt-MAX_CHAINS.false) in
+    let yes-17 : one_chain_at_most ((let chains : List Chain = chains_of c.before.before.before.before.args.contact.chains c.before.before.before.before.args.chains.now in chains)) ≡ true = (sym (ap (λ (a : ChainsAsked). a.one_current) c.chains_lent-asked.ensures) ∙ (not-false _ c.if-not-asked.false)) in
+    let yes-18 : gens_distinct ((let chains : List Chain = chains_of c.before.before.before.before.args.contact.chains c.before.before.before.before.args.chains.now in chains)) ≡ true = (sym (ap (λ (a : ChainsAsked). a.gens_distinct) c.chains_lent-asked.ensures) ∙ (not-false _ c.if-not-asked-2.false)) in
+    let yes-19 : keys_distinct ((let skipped : List Skipped = skipped_of c.before.before.before.before.args.contact.skipped c.before.before.before.before.args.skipped.now in skipped)) ≡ true = (let f = c.before in
+    ap keys_distinct (sym (skipped-items f.before.before.before.args.skipped.now f.before.before.before.args.contact.skipped ((let skipped-bytes : Bytes f.before.before.before.args.skipped.now = typed f.before.before.before.args.skipped.now f.before.shared-slice-known2.given in skipped-bytes)) ((let stand : Placed 46 (group key) f.before.before.before.args.skipped.now f.before.before.before.args.contact.skipped = let p = f.before.before.before.requires in record { room = p.skipped; records = _; rest = _; so = p.skipped_granted.reads } in stand))))
+    ∙ sym c.skipped_distinct.ensures ∙ (not-false _ c.if-not-skipped_distinct.false)) in
+    rw (yes-54, yes-17, yes-18, yes-19, (let many-skipped : length ((let skipped : List Skipped = skipped_of c.before.before.before.before.args.contact.skipped c.before.before.before.before.args.skipped.now in skipped)) ≡ c.before.before.before.before.args.contact.skipped = let s = c.before.before.before.before in (skipped-printed s.args.contact.skipped s.args.skipped.now s.pre.skipped_granted.reads ((let skipped-bytes : Bytes c.before.before.before.before.args.skipped.now = typed c.before.before.before.before.args.skipped.now c.before.before.shared-slice-known2.given in skipped-bytes)) s.pre.skipped).count in many-skipped), le-leb _ _ c.if-contact-gt-MAX_SKIPPED.false)

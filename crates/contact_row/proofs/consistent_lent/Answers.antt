@@ -9,11 +9,11 @@ chains_consistent-first-requires c = c.requires.0
 
 pub returns-in_default : goal.returns-in_default
 returns-in_default c =
-    stands _ c.chains_consistent-first.ensures (learn refusal_in c.chains_consistent-first.ensures c.enum_told-in_default-1.given.1)
+    stands _ c.chains_consistent-first.ensures (learn refusal_in c.chains_consistent-first.ensures c.in_default.is)
 
 pub numbers_consistent-requires : goal.numbers_consistent-requires
 numbers_consistent-requires c = c.requires.1
 
 pub returns : goal.returns
 returns c =
-    goes_on c.numbers_consistent.ensures (learn refusal_in c.chains_consistent-first.ensures c.enum_told-1.given.1)
+    goes_on c.numbers_consistent.ensures (learn refusal_in c.chains_consistent-first.ensures c.in-Accepted.is)

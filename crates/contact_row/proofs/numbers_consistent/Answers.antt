@@ -1,12 +1,15 @@
 -- `contact_row::numbers_consistent` meets its contract: question by question.
 use Prim.Native.Nat.{ℕ, ◌+◌, ◌≤◌}
+use mathlib.Core.List.{List}
 use mathlib.Core.Bool.{true}
 use mathlib.Core.Path.{◌≡◌, sym, ap, ◌∙◌}
 use native.Mathlib.Omega.{arith}
 use lib.ListN.{get_or, take}
 use borrow.Author.Tests.{le-leb, lt-leb, not-true, not-false}
+use Rattle.rows.specs.Values.{Range}
 use Rattle.rows.specs.Checks.{acked_sent, rising, canonical}
 use Rattle.received.specs.Lent.{pairs}
+use Rattle.contact.specs.declared.Contact.{Contact}
 use Rattle.contact_checks.proofs.Callers.{canonical-lent}
 use Rattle.contact_row.proofs.numbers_consistent.Goals as goal
 
@@ -19,31 +22,35 @@ rising_lent-requires c = c.requires.unacked
 
 pub returns-then-not-rising_lent : goal.returns-then-not-rising_lent
 returns-then-not-rising_lent c =
-    rw ((let acked : acked_sent (c.args.contact).peer_acked (c.args.contact).sent_msgno ≡ true = le-leb _ _ c.if-sent-contact.false in acked), (sym c.rising_lent.ensures ∙ (not-true _ c.if-not-rising_lent.true)))
+    let acked : acked_sent c.args.contact.peer_acked c.args.contact.sent_msgno ≡ true = le-leb _ _ c.if-sent-contact.false in
+    rw (acked, (sym c.rising_lent.ensures ∙ (not-true _ c.if-not-rising_lent.true)))
 
 pub canonical_lent-requires : goal.canonical_lent-requires
 canonical_lent-requires c = (c.requires.above, omega (arith, c.wide-from.ensures.1))
 
 pub returns-then-not-canonical_lent : goal.returns-then-not-canonical_lent
 returns-then-not-canonical_lent c =
-    rw ((let acked : acked_sent ((((((c).before).before)).before.before.before.before.before).args.contact).peer_acked ((((((c).before).before)).before.before.before.before.before).args.contact).sent_msgno ≡ true = le-leb _ _ ((((c).before).before)).if1.false in acked), (let yes-22 : rising 1 (c.args.contact).sent_msgno (take (c.args.contact).unacked c.args.unacked.now) ≡ true = (sym c.rising_lent.ensures ∙ (not-false _ c.if-not-rising_lent.false)) in yes-22), (let s = ((c).before).before in
-    let words : (i : ℕ) → get_or (s.before.before.before.before.before).args.above.now i 0 ≤ 4294967295 = λ i. omega (arith, (s.before.before.before.before.shared-slice-known.given i).fits) in
-    ap (λ (n : ℕ). canonical (n + 2) ((pairs ((s.before.before.before.before.before).args.contact).above (s.before.before.before.before.before).args.above.now))) (sym c.wide-from.ensures.0)
-    ∙ sym (canonical-lent ((s.before.before.before.before.before).args.contact).above (c.wide-from.result + 2) (s.before.before.before.before.before).args.above.now words) ∙ sym c.canonical_lent.ensures ∙ (not-true _ c.if-not-canonical_lent.true)))
+    let yes-22 : rising 1 c.args.contact.sent_msgno (take c.args.contact.unacked c.args.unacked.now) ≡ true = (sym c.rising_lent.ensures ∙ (not-false _ c.if-not-rising_lent.false)) in
+    rw ((let acked : acked_sent ((let contact : Contact = c.before.before.before.before.before.before.before.args.contact in contact)).peer_acked ((let contact : Contact = c.before.before.before.before.before.before.before.args.contact in contact)).sent_msgno ≡ true = le-leb _ _ c.before.before.if1.false in acked), yes-22, (let s = c.before.before in
+    let words : (i : ℕ) → get_or s.before.before.before.before.before.args.above.now i 0 ≤ 4294967295 = λ i. omega (arith, (s.before.before.before.before.shared-slice-known.given i).fits) in
+    ap (λ (n : ℕ). canonical (n + 2) ((let ranges : List Range = pairs ((let contact : Contact = s.before.before.before.before.before.args.contact in contact)).above s.before.before.before.before.before.args.above.now in ranges))) (sym c.wide-from.ensures.0)
+    ∙ sym (canonical-lent ((let contact : Contact = s.before.before.before.before.before.args.contact in contact)).above (c.wide-from.result + 2) s.before.before.before.before.before.args.above.now words) ∙ sym c.canonical_lent.ensures ∙ (not-true _ c.if-not-canonical_lent.true)))
 
 pub canonical_lent-requires-2 : goal.canonical_lent-requires-2
-canonical_lent-requires-2 c = ((((((c).before).before)).before.before.before.before.before).requires.expired, omega arith)
+canonical_lent-requires-2 c = (c.before.before.before.before.before.before.before.requires.expired, omega arith)
 
 pub returns-then-not-canonical_lent-2 : goal.returns-then-not-canonical_lent-2
 returns-then-not-canonical_lent-2 c =
-    rw ((let acked : acked_sent ((((((((c).before).before.before).before).before)).before.before.before.before.before).args.contact).peer_acked ((((((((c).before).before.before).before).before)).before.before.before.before.before).args.contact).sent_msgno ≡ true = le-leb _ _ ((((((c).before).before.before).before).before)).if1.false in acked), (let yes-22 : rising 1 (((((((((c).before).before.before)).before).before)).before.before.before.before.before).args.contact).sent_msgno (take (((((((((c).before).before.before)).before).before)).before.before.before.before.before).args.contact).unacked ((((((((c).before).before.before)).before).before)).before.before.before.before.before).args.unacked.now) ≡ true = (sym (((((c).before).before.before)).before).rising-lent.ensures ∙ (not-false _ ((((c).before).before.before)).if2.false)) in yes-22), (let yes-23 : canonical (((((((c).before).before)).before.before.before.before.before).args.contact).contiguous + 2) ((pairs ((((((c).before).before)).before.before.before.before.before).args.contact).above (((((c).before).before)).before.before.before.before.before).args.above.now)) ≡ true = (let s = ((c).before).before in
-    let words : (i : ℕ) → get_or (s.before.before.before.before.before).args.above.now i 0 ≤ 4294967295 = λ i. omega (arith, (s.before.before.before.before.shared-slice-known.given i).fits) in
-    ap (λ (n : ℕ). canonical (n + 2) ((pairs ((s.before.before.before.before.before).args.contact).above (s.before.before.before.before.before).args.above.now))) (sym c.wide-from.ensures.0)
-    ∙ sym (canonical-lent ((s.before.before.before.before.before).args.contact).above (c.wide-from.result + 2) (s.before.before.before.before.before).args.above.now words) ∙ sym c.canonical_lent.ensures ∙ (not-false _ c.if-not-canonical_lent.false)) in yes-23), (sym c.canonical_lent-2.ensures ∙ (not-true _ c.if-not-canonical_lent-2.true)))
+    let yes-23 : canonical (((let contact : Contact = c.before.before.before.before.before.before.before.args.contact in contact)).contiguous + 2) ((let ranges : List Range = pairs ((let contact : Contact = c.before.before.before.before.before.before.before.args.contact in contact)).above c.before.before.before.before.before.before.before.args.above.now in ranges)) ≡ true = (let s = c.before.before in
+    let words : (i : ℕ) → get_or s.before.before.before.before.before.args.above.now i 0 ≤ 4294967295 = λ i. omega (arith, (s.before.before.before.before.shared-slice-known.given i).fits) in
+    ap (λ (n : ℕ). canonical (n + 2) ((let ranges : List Range = pairs ((let contact : Contact = s.before.before.before.before.before.args.contact in contact)).above s.before.before.before.before.before.args.above.now in ranges))) (sym c.wide-from.ensures.0)
+    ∙ sym (canonical-lent ((let contact : Contact = s.before.before.before.before.before.args.contact in contact)).above (c.wide-from.result + 2) s.before.before.before.before.before.args.above.now words) ∙ sym c.canonical_lent.ensures ∙ (not-false _ c.if-not-canonical_lent.false)) in
+    rw ((let acked : acked_sent ((let contact : Contact = c.before.before.before.before.before.before.before.before.before.before.args.contact in contact)).peer_acked ((let contact : Contact = c.before.before.before.before.before.before.before.before.before.before.args.contact in contact)).sent_msgno ≡ true = le-leb _ _ c.before.before.before.before.before.if1.false in acked), (let yes-22 : rising 1 ((let contact : Contact = c.before.before.before.before.before.before.before.before.before.before.args.contact in contact)).sent_msgno (take ((let contact : Contact = c.before.before.before.before.before.before.before.before.before.before.args.contact in contact)).unacked c.before.before.before.before.before.before.before.before.before.before.args.unacked.now) ≡ true = (sym c.before.before.before.before.rising-lent.ensures ∙ (not-false _ c.before.before.before.if2.false)) in yes-22), yes-23, (sym c.canonical_lent-2.ensures ∙ (not-true _ c.if-not-canonical_lent-2.true)))
 
 pub returns : goal.returns
 returns c =
-    rw ((let acked : acked_sent ((((((((c).before).before.before).before).before)).before.before.before.before.before).args.contact).peer_acked ((((((((c).before).before.before).before).before)).before.before.before.before.before).args.contact).sent_msgno ≡ true = le-leb _ _ ((((((c).before).before.before).before).before)).if1.false in acked), (let yes-22 : rising 1 (((((((((c).before).before.before)).before).before)).before.before.before.before.before).args.contact).sent_msgno (take (((((((((c).before).before.before)).before).before)).before.before.before.before.before).args.contact).unacked ((((((((c).before).before.before)).before).before)).before.before.before.before.before).args.unacked.now) ≡ true = (sym (((((c).before).before.before)).before).rising-lent.ensures ∙ (not-false _ ((((c).before).before.before)).if2.false)) in yes-22), (let yes-23 : canonical (((((((c).before).before)).before.before.before.before.before).args.contact).contiguous + 2) ((pairs ((((((c).before).before)).before.before.before.before.before).args.contact).above (((((c).before).before)).before.before.before.before.before).args.above.now)) ≡ true = (let s = ((c).before).before in
-    let words : (i : ℕ) → get_or (s.before.before.before.before.before).args.above.now i 0 ≤ 4294967295 = λ i. omega (arith, (s.before.before.before.before.shared-slice-known.given i).fits) in
-    ap (λ (n : ℕ). canonical (n + 2) ((pairs ((s.before.before.before.before.before).args.contact).above (s.before.before.before.before.before).args.above.now))) (sym c.wide-from.ensures.0)
-    ∙ sym (canonical-lent ((s.before.before.before.before.before).args.contact).above (c.wide-from.result + 2) (s.before.before.before.before.before).args.above.now words) ∙ sym c.canonical_lent.ensures ∙ (not-false _ c.if-not-canonical_lent.false)) in yes-23), (sym c.canonical_lent-2.ensures ∙ (not-false _ c.if-not-canonical_lent-2.false)))
+    let yes-23 : canonical (((let contact : Contact = c.before.before.before.before.before.before.before.args.contact in contact)).contiguous + 2) ((let ranges : List Range = pairs ((let contact : Contact = c.before.before.before.before.before.before.before.args.contact in contact)).above c.before.before.before.before.before.before.before.args.above.now in ranges)) ≡ true = (let s = c.before.before in
+    let words : (i : ℕ) → get_or s.before.before.before.before.before.args.above.now i 0 ≤ 4294967295 = λ i. omega (arith, (s.before.before.before.before.shared-slice-known.given i).fits) in
+    ap (λ (n : ℕ). canonical (n + 2) ((let ranges : List Range = pairs ((let contact : Contact = s.before.before.before.before.before.args.contact in contact)).above s.before.before.before.before.before.args.above.now in ranges))) (sym c.wide-from.ensures.0)
+    ∙ sym (canonical-lent ((let contact : Contact = s.before.before.before.before.before.args.contact in contact)).above (c.wide-from.result + 2) s.before.before.before.before.before.args.above.now words) ∙ sym c.canonical_lent.ensures ∙ (not-false _ c.if-not-canonical_lent.false)) in
+    rw ((let acked : acked_sent ((let contact : Contact = c.before.before.before.before.before.before.before.before.before.before.args.contact in contact)).peer_acked ((let contact : Contact = c.before.before.before.before.before.before.before.before.before.before.args.contact in contact)).sent_msgno ≡ true = le-leb _ _ c.before.before.before.before.before.if1.false in acked), (let yes-22 : rising 1 ((let contact : Contact = c.before.before.before.before.before.before.before.before.before.before.args.contact in contact)).sent_msgno (take ((let contact : Contact = c.before.before.before.before.before.before.before.before.before.before.args.contact in contact)).unacked c.before.before.before.before.before.before.before.before.before.before.args.unacked.now) ≡ true = (sym c.before.before.before.before.rising-lent.ensures ∙ (not-false _ c.before.before.before.if2.false)) in yes-22), yes-23, (sym c.canonical_lent-2.ensures ∙ (not-false _ c.if-not-canonical_lent-2.false)))

@@ -7,10 +7,10 @@ use Rattle.courier.specs.Courier.{kind_of, kind_byte}
 use Rattle.courier.proofs.kind_at.Goals as goal
 
 pub returns-in-0 : goal.returns-in-0
-returns-in-0 c = sym (letter-in _ _ CODE kind_of kind_byte c.if-at-row.true (rw c.in-0.keys1))
+returns-in-0 c = sym (letter-in _ _ CODE kind_of kind_byte c.if-at-row.true (rw c.in-0.is))
 
 pub returns-in-1 : goal.returns-in-1
-returns-in-1 c = sym (letter-in _ _ CODE kind_of kind_byte c.if-at-row.true (rw c.in-1.keys2))
+returns-in-1 c = sym (letter-in _ _ CODE kind_of kind_byte c.if-at-row.true (rw c.in-1.is))
 
 pub returns-in_default : goal.returns-in_default
 returns-in_default c =

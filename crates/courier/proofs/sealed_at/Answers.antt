@@ -2,7 +2,7 @@
 use Rattle.courier.proofs.sealed_at.Goals as goal
 
 pub returns-in-Carried : goal.returns-in-Carried
-returns-in-Carried c = rw c.at-1.given.1
+returns-in-Carried c = rw c.in-Carried.is
 
 pub returns-in-Tombstone : goal.returns-in-Tombstone
-returns-in-Tombstone c = rw c.enum_told-1.given.1
+returns-in-Tombstone c = rw c.in-Tombstone.is

@@ -10,7 +10,7 @@ use Rattle.layout.specs.Layout.{group}
 use Rattle.layout.specs.RowLaws.{Bytes}
 use Rattle.layout.proofs.Front.{number-lawful}
 use Rattle.layout.proofs.At.{learn, Took, typed, took, refused-at}
-use Rattle.layout.proofs.Steps.{start, field-yes, field-no, done-yes}
+use Rattle.layout.proofs.Steps.{Reached, start, field-yes, field-no, done-yes}
 use Rattle.rows.specs.Values.{Tombstone}
 use Rattle.rows.specs.Rows.{tombstone}
 use Rattle.fields.specs.Says.{u32_says}
@@ -29,27 +29,43 @@ its-places from v tag_at s-at = λ i. record { tag = tag_at i; s = s-at i; expir
 
 pub returns-in_default : goal.returns-in_default
 returns-in_default c =
-    let stop = field-no (start).so (run_short _ _ plain 16 c.run_at.ensures.0 c.enum_told-1.given.1) in
+    let r0 : (Reached tombstone c.args.row.now c.args.at) = start in
+    let stop = field-no r0.so (run_short _ _ plain 16 c.run_at.ensures.0 c.in_default.is) in
     locates-not _ _ (group tombstone) (tombstone_at _) stop
 
 pub returns-in_default-run_at : goal.returns-in_default-run_at
 returns-in_default-run_at c =
-    let stop = field-no ((field-yes (start).so (run-took _ _ plain 16 c.run_at.ensures.0 ((let by : Bytes (c.args.row.now) = typed (c.args.row.now) c.shared_slice_known-1.given in by)) c.tag-1.given.1))).so (run_short _ _ veiled 16 c.run_at-2.ensures.0 c.enum_told-in_default-run_at-1.given.1) in
+    let r0 : (Reached tombstone c.args.row.now c.args.at) = start in
+    let by : Bytes c.args.row.now = typed c.args.row.now c.type_inv.row in
+    let r1 : (Reached tombstone c.args.row.now c.args.at) = field-yes r0.so (run-took _ _ plain 16 c.run_at.ensures.0 by c.in-Value.is) in
+    let stop = field-no r1.so (run_short _ _ veiled 16 c.run_at-2.ensures.0 c.in_default-run_at.is) in
     locates-not _ _ (group tombstone) (tombstone_at _) stop
 
 pub returns-in_default-u32_at : goal.returns-in_default-u32_at
 returns-in_default-u32_at c =
-    let stop = field-no ((field-yes ((field-yes (start).so (run-took _ _ plain 16 c.run_at.ensures.0 ((let by : Bytes (c.args.row.now) = typed (c.args.row.now) c.shared_slice_known-1.given in by)) c.tag-1.given.1))).so (run-took _ _ veiled 16 c.run_at-2.ensures.0 ((let by : Bytes (c.args.row.now) = typed (c.args.row.now) c.shared_slice_known-1.given in by)) c.s-1.given.1))).so (refused-at _ _ u32 (learn u32_says c.u32_at.ensures c.enum_told-in_default-u32_at-1.given.1)) in
+    let r0 : (Reached tombstone c.args.row.now c.args.at) = start in
+    let by : Bytes c.args.row.now = typed c.args.row.now c.type_inv.row in
+    let r1 : (Reached tombstone c.args.row.now c.args.at) = field-yes r0.so (run-took _ _ plain 16 c.run_at.ensures.0 by c.in-Value.is) in
+    let r2 : (Reached tombstone c.args.row.now c.args.at) = field-yes r1.so (run-took _ _ veiled 16 c.run_at-2.ensures.0 by c.in-Value-run_at.is) in
+    let stop = field-no r2.so (refused-at _ _ u32 (learn u32_says c.u32_at.ensures c.in_default-u32_at.is)) in
     locates-not _ _ (group tombstone) (tombstone_at _) stop
 
 pub returns : goal.returns
 returns c =
+    let r0 : (Reached tombstone c.args.row.now c.args.at) = start in
+    let by : Bytes c.args.row.now = typed c.args.row.now c.type_inv.row in
+    let r1 : (Reached tombstone c.args.row.now c.args.at) = field-yes r0.so (run-took _ _ plain 16 c.run_at.ensures.0 by c.in-Value.is) in
+    let r2 : (Reached tombstone c.args.row.now c.args.at) = field-yes r1.so (run-took _ _ veiled 16 c.run_at-2.ensures.0 by c.in-Value-run_at.is) in
+    let expiry-min-took : Took u32 c.args.row.now r2.here c.in-Value-u32_at.expiry_min c.in-Value-u32_at.at3 = took _ _ u32 (number-lawful 4) by (learn u32_says c.u32_at.ensures c.in-Value-u32_at.is) in
+    let r3 : (Reached tombstone c.args.row.now c.args.at) = field-yes r2.so expiry-min-took in
+    let tag-run : Run c.args.at (take 16 (drop c.in-Value.tag c.args.row.now)) c.in-Value.tag c.in-Value.at1 = run-starts _ _ 16 by (omega arith) c.run_at.ensures c.in-Value.is in
+    let s-run : Run r1.here (take 16 (drop c.in-Value-run_at.s c.args.row.now)) c.in-Value-run_at.s c.in-Value-run_at.at2 = run-starts _ _ 16 by (omega arith) c.run_at-2.ensures c.in-Value-run_at.is in
     let its : Tombstone = record {
-      tag = take 16 (drop c.tag-1.given.0.0 (c.args.row.now));
-      s = take 16 (drop c.s-1.given.0.0 (c.args.row.now));
-      expiry_min = c.expiry_min-1.given.0.0;
+      tag = take 16 (drop c.in-Value.tag c.args.row.now);
+      s = take 16 (drop c.in-Value-run_at.s c.args.row.now);
+      expiry_min = c.in-Value-u32_at.expiry_min;
     } in
-    locates _ _ (group tombstone) (tombstone_at _) {b = its} (done-yes ((field-yes ((field-yes ((field-yes (start).so (run-took _ _ plain 16 c.run_at.ensures.0 ((let by : Bytes (c.args.row.now) = typed (c.args.row.now) c.shared_slice_known-1.given in by)) c.tag-1.given.1))).so (run-took _ _ veiled 16 c.run_at-2.ensures.0 ((let by : Bytes (c.args.row.now) = typed (c.args.row.now) c.shared_slice_known-1.given in by)) c.s-1.given.1))).so ((let expiry-min-took : Took u32 (c.args.row.now) ((field-yes ((field-yes (start).so (run-took _ _ plain 16 c.run_at.ensures.0 ((let by : Bytes (c.args.row.now) = typed (c.args.row.now) c.shared_slice_known-1.given in by)) c.tag-1.given.1))).so (run-took _ _ veiled 16 c.run_at-2.ensures.0 ((let by : Bytes (c.args.row.now) = typed (c.args.row.now) c.shared_slice_known-1.given in by)) c.s-1.given.1))).here c.expiry_min-1.given.0.0 c.expiry_min-1.given.0.1.0 = took _ _ u32 (number-lawful 4) ((let by : Bytes (c.args.row.now) = typed (c.args.row.now) c.shared_slice_known-1.given in by)) (learn u32_says c.u32_at.ensures c.expiry_min-1.given.1) in expiry-min-took)))).so) ((let expiry-min-took : Took u32 (c.args.row.now) ((field-yes ((field-yes (start).so (run-took _ _ plain 16 c.run_at.ensures.0 ((let by : Bytes (c.args.row.now) = typed (c.args.row.now) c.shared_slice_known-1.given in by)) c.tag-1.given.1))).so (run-took _ _ veiled 16 c.run_at-2.ensures.0 ((let by : Bytes (c.args.row.now) = typed (c.args.row.now) c.shared_slice_known-1.given in by)) c.s-1.given.1))).here c.expiry_min-1.given.0.0 c.expiry_min-1.given.0.1.0 = took _ _ u32 (number-lawful 4) ((let by : Bytes (c.args.row.now) = typed (c.args.row.now) c.shared_slice_known-1.given in by)) (learn u32_says c.u32_at.ensures c.expiry_min-1.given.1) in expiry-min-took)).inside
-    (its-places (c.args.at) its
-    (omega (arith, ((let tag-run : Run (c.args.at) (take 16 (drop c.tag-1.given.0.0 (c.args.row.now))) c.tag-1.given.0.0 c.tag-1.given.0.1.0 = run-starts _ _ 16 ((let by : Bytes (c.args.row.now) = typed (c.args.row.now) c.shared_slice_known-1.given in by)) (omega arith) c.run_at.ensures c.tag-1.given.1 in tag-run)).starts))
-    (omega (arith, ((let tag-run : Run (c.args.at) (take 16 (drop c.tag-1.given.0.0 (c.args.row.now))) c.tag-1.given.0.0 c.tag-1.given.0.1.0 = run-starts _ _ 16 ((let by : Bytes (c.args.row.now) = typed (c.args.row.now) c.shared_slice_known-1.given in by)) (omega arith) c.run_at.ensures c.tag-1.given.1 in tag-run)).ends, ((let s-run : Run ((field-yes (start).so (run-took _ _ plain 16 c.run_at.ensures.0 ((let by : Bytes (c.args.row.now) = typed (c.args.row.now) c.shared_slice_known-1.given in by)) c.tag-1.given.1))).here (take 16 (drop c.s-1.given.0.0 (c.args.row.now))) c.s-1.given.0.0 c.s-1.given.0.1.0 = run-starts _ _ 16 ((let by : Bytes (c.args.row.now) = typed (c.args.row.now) c.shared_slice_known-1.given in by)) (omega arith) c.run_at-2.ensures c.s-1.given.1 in s-run)).starts)))
+    locates _ _ (group tombstone) (tombstone_at _) {b = its} (done-yes r3.so) expiry-min-took.inside
+    (its-places c.args.at its
+    (omega (arith, tag-run.starts))
+    (omega (arith, tag-run.ends, s-run.starts)))

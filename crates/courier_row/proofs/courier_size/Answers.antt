@@ -12,26 +12,33 @@ use Rattle.courier_row.proofs.courier_size.Goals as goal
 
 pub returns-in_default : goal.returns-in_default
 returns-in_default c =
-    sym (whole-tombstone (c.args.held) c.type-inv.ensures (c.args.sealed.now) c.enum_told-in_default-1.given.1 ∙ ap wrote (length-tombstone (c.args.held) c.type-inv.ensures))
+    sym (whole-tombstone c.args.held c.type-inv.ensures c.args.sealed.now c.in_default.is ∙ ap wrote (length-tombstone c.args.held c.type-inv.ensures))
 
 pub returns-then-held-eq0 : goal.returns-then-held-eq0
 returns-then-held-eq0 c =
-    sym (bad-expiry (c.args.held) c.typed.ensures (c.args.sealed.now) c.enum_told-1.given.1 (ap not (eq-eqb _ _ c.if-held-eq0.true)))
+    sym (bad-expiry c.args.held c.typed.ensures c.args.sealed.now c.in-Carried.is (ap not (eq-eqb _ _ c.if-held-eq0.true)))
 
 pub returns-then-held-eq0-2 : goal.returns-then-held-eq0-2
 returns-then-held-eq0-2 c =
-    sym (bad-copies (c.args.held) c.typed.ensures (c.args.sealed.now) c.enum_told-1.given.1 ((let expires : not_zero (c.args.held).expiry_min ≡ true = ap not (ne_eqb _ _ c.if-held-eq0.false) in expires)) (ap not (eq-eqb _ _ c.if-held-eq0-2.true)))
+    let expires : not_zero c.args.held.expiry_min ≡ true = ap not (ne_eqb _ _ c.if-held-eq0.false) in
+    sym (bad-copies c.args.held c.typed.ensures c.args.sealed.now c.in-Carried.is expires (ap not (eq-eqb _ _ c.if-held-eq0-2.true)))
 
 pub overflow_add-result : goal.overflow_add-result
 overflow_add-result c =
-    omega (arith, carried-few (length (c.args.sealed.now)) ((let allowed : sealed_carried (length (c.args.sealed.now)) ≡ true = sym c.sealed_carried.ensures ∙ c.if-sealed_carried.true in allowed)))
+    let allowed : sealed_carried (length c.args.sealed.now) ≡ true = sym c.sealed_carried.ensures ∙ c.if-sealed_carried.true in
+    omega (arith, carried-few (length c.args.sealed.now) allowed)
 
 pub returns-then-sealed_carried : goal.returns-then-sealed_carried
 returns-then-sealed_carried c =
-    sym (whole-carried (c.args.held) c.typed.ensures (c.args.sealed.now) ((let expires : not_zero (c.args.held).expiry_min ≡ true = ap not (ne_eqb _ _ c.if-held-eq0.false) in expires)) ((let copied : not_zero (c.args.held).copies ≡ true = ap not (ne_eqb _ _ c.if-held-eq0-2.false) in copied)) ((let allowed : sealed_carried (length (c.args.sealed.now)) ≡ true = sym c.sealed_carried.ensures ∙ c.if-sealed_carried.true in allowed)) c.enum_told-1.given.1
-    ∙ ap wrote (length-carried (c.args.held) c.typed.ensures (c.args.sealed.now)))
+    let expires : not_zero c.args.held.expiry_min ≡ true = ap not (ne_eqb _ _ c.if-held-eq0.false) in
+    let copied : not_zero c.args.held.copies ≡ true = ap not (ne_eqb _ _ c.if-held-eq0-2.false) in
+    let allowed : sealed_carried (length c.args.sealed.now) ≡ true = sym c.sealed_carried.ensures ∙ c.if-sealed_carried.true in
+    sym (whole-carried c.args.held c.typed.ensures c.args.sealed.now expires copied allowed c.in-Carried.is
+    ∙ ap wrote (length-carried c.args.held c.typed.ensures c.args.sealed.now))
 
 pub returns : goal.returns
 returns c =
-    sym (bad-length (c.args.held) c.typed.ensures (c.args.sealed.now) c.enum_told-1.given.1 ((let expires : not_zero (c.args.held).expiry_min ≡ true = ap not (ne_eqb _ _ c.if-held-eq0.false) in expires)) ((let copied : not_zero (c.args.held).copies ≡ true = ap not (ne_eqb _ _ c.if-held-eq0-2.false) in copied))
+    let expires : not_zero c.args.held.expiry_min ≡ true = ap not (ne_eqb _ _ c.if-held-eq0.false) in
+    let copied : not_zero c.args.held.copies ≡ true = ap not (ne_eqb _ _ c.if-held-eq0-2.false) in
+    sym (bad-length c.args.held c.typed.ensures c.args.sealed.now c.in-Carried.is expires copied
     (sym c.sealed_carried.ensures ∙ c.if-sealed_carried.false))

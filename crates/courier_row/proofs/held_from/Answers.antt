@@ -4,13 +4,13 @@ use Rattle.courier.specs.Courier.{Offsets}
 use Rattle.courier_row.proofs.held_from.Goals as goal
 
 pub carried_from-requires : goal.carried_from-requires
-carried_from-requires c = subst (Offsets _) c.at-1.given.1 c.requires
+carried_from-requires c = subst (Offsets _) c.in-Carried.is c.requires
 
 pub tombstone_from-requires : goal.tombstone_from-requires
-tombstone_from-requires c = subst (Offsets _) c.at-in-Tombstone-1.given.1 c.requires
+tombstone_from-requires c = subst (Offsets _) c.in-Tombstone.is c.requires
 
 pub returns-in-Carried : goal.returns-in-Carried
-returns-in-Carried c = rw (c.at-1.given.1, c.carried_from.ensures)
+returns-in-Carried c = rw (c.in-Carried.is, c.carried_from.ensures)
 
 pub returns-in-Tombstone : goal.returns-in-Tombstone
-returns-in-Tombstone c = rw (c.at-in-Tombstone-1.given.1, c.tombstone_from.ensures)
+returns-in-Tombstone c = rw (c.in-Tombstone.is, c.tombstone_from.ensures)

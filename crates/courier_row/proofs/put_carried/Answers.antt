@@ -14,12 +14,12 @@ put_byte-depositor_at-requires c = omega (arith, length-carried c.args.held c.ty
 
 pub put_be-envelope_at-requires : goal.put_be-envelope_at-requires
 put_be-envelope_at-requires c =
-    let s = (c).before.before.before in
+    let s = c.before.before.before in
     omega (arith, length-carried s.args.held c.type-inv.ensures s.args.sealed.now, wrote-long c.put_byte-depositor_at.ensures.1, c.put_byte-depositor_at.ensures.0, s.pre)
 
 pub returns : goal.returns
 returns c =
-    let s = (c).before.before.before in
+    let s = c.before.before.before in
     let held = s.args.held in
     let text = s.args.sealed.now in
     let room : length (image (envelope_in held) text) ≤ length c.put_be-envelope_at.new.0 - c.put_be-envelope_at.result =

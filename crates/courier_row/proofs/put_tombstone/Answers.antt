@@ -10,12 +10,12 @@ put_byte-tag_at-requires c = omega (arith, length-tombstone c.args.held c.type-i
 
 pub put_16-s_at-requires : goal.put_16-s_at-requires
 put_16-s_at-requires c =
-    let s = (c).before.before in
+    let s = c.before.before in
     omega (arith, length-tombstone s.args.held c.type-inv.ensures, wrote-long c.put_byte-tag_at.ensures.1, c.put_byte-tag_at.ensures.0, s.pre)
 
 pub put_16-expiry_at-requires : goal.put_16-expiry_at-requires
 put_16-expiry_at-requires c =
-    let s = (c).before.before in
+    let s = c.before.before in
     omega (
       arith,
       length-tombstone s.args.held c.typed.ensures,
@@ -28,7 +28,7 @@ put_16-expiry_at-requires c =
 
 pub put_be-requires : goal.put_be-requires
 put_be-requires c =
-    let s = (c).before.before in
+    let s = c.before.before in
     omega (
       arith,
       length-tombstone s.args.held c.typed.ensures,
@@ -43,6 +43,6 @@ put_be-requires c =
 
 pub returns : goal.returns
 returns c =
-    let s = (c).before.before in
+    let s = c.before.before in
     wrote_as (tombstone-is s.args.held c.typed.ensures)
     (c.put_byte-tag_at.ensures.1 then (c.put_16-s_at.ensures.1 then (c.put_16-expiry_at.ensures.1 then c.put_be.ensures.1)))

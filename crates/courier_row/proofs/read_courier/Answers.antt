@@ -22,17 +22,21 @@ starts row (Tombstone at) p = simp sub-zero
 
 pub returns-in_default : goal.returns-in_default
 returns-in_default c =
-    let told = c.enum_told-1.given.1 in
-    rw (learn (check_says _) ((let says : check_says (c.args.row.now) c.check_courier-check.result ≡ read_row (courier c.args.version) (c.args.row.now) = check-says (c.args.row.now) (typed (c.args.row.now) c.shared_slice_known-1.given) c.args.version c.check_courier-check.ensures in says)) told, c.refusal.ensures ∙ ap check_refusal told, c.zero.ensures)
+    let says : check_says c.args.row.now c.check_courier-check.result ≡ read_row (courier c.args.version) c.args.row.now = check-says c.args.row.now (typed c.args.row.now c.type_inv.row) c.args.version c.check_courier-check.ensures in
+    let told = c.in_default.is in
+    rw (learn (check_says _) says told, c.refusal.ensures ∙ ap check_refusal told, c.zero.ensures)
     (simp sub-zero)
 
 pub held_from-requires : goal.held_from-requires
 held_from-requires c =
-    subst (Placed _) c.check-1.given.1 ((let placed : Placed (c.args.row.now) c.check_courier-check.result = check-placed (c.args.row.now) (typed (c.args.row.now) c.shared_slice_known-1.given) c.args.version c.check_courier-check.ensures in placed))
+    let placed : Placed c.args.row.now c.check_courier-check.result = check-placed c.args.row.now (typed c.args.row.now c.type_inv.row) c.args.version c.check_courier-check.ensures in
+    subst (Placed _) c.in-Fields.is placed
 
 pub returns : goal.returns
 returns c =
+    let placed : Placed c.args.row.now c.check_courier-check.result = check-placed c.args.row.now (typed c.args.row.now c.type_inv.row) c.args.version c.check_courier-check.ensures in
+    let says : check_says c.args.row.now c.check_courier-check.result ≡ read_row (courier c.args.version) c.args.row.now = check-says c.args.row.now (typed c.args.row.now c.type_inv.row) c.args.version c.check_courier-check.ensures in
     let its = c.args.row.now in
-    let at = c.check-1.given.0.0 in
-    let place = starts its at (subst (Placed its) c.check-1.given.1 ((let placed : Placed (c.args.row.now) c.check_courier-check.result = check-placed (c.args.row.now) (typed (c.args.row.now) c.shared_slice_known-1.given) c.args.version c.check_courier-check.ensures in placed))) in
-    rw (learn (check_says _) ((let says : check_says (c.args.row.now) c.check_courier-check.result ≡ read_row (courier c.args.version) (c.args.row.now) = check-says (c.args.row.now) (typed (c.args.row.now) c.shared_slice_known-1.given) c.args.version c.check_courier-check.ensures in says)) c.check-1.given.1, c.held_from.ensures, c.sealed_at.ensures, place)
+    let at = c.in-Fields.at in
+    let place = starts its at (subst (Placed its) c.in-Fields.is placed) in
+    rw (learn (check_says _) says c.in-Fields.is, c.held_from.ensures, c.sealed_at.ensures, place)

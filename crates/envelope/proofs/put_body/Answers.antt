@@ -12,7 +12,7 @@ put_16-c_at-requires c = omega (arith, length-image c.args.envelope c.type-inv.e
 
 pub put_16-expiry_at-requires : goal.put_16-expiry_at-requires
 put_16-expiry_at-requires c =
-    let s = (c).before.before.before in
+    let s = c.before.before.before in
     omega (
       arith,
       length-image s.args.envelope c.type-inv.ensures s.args.ct.now,
@@ -23,7 +23,7 @@ put_16-expiry_at-requires c =
 
 pub put_be-copies_at-requires : goal.put_be-copies_at-requires
 put_be-copies_at-requires c =
-    let s = (c).before.before.before in
+    let s = c.before.before.before in
     omega (
       arith,
       length-image s.args.envelope c.typed.ensures s.args.ct.now,
@@ -36,7 +36,7 @@ put_be-copies_at-requires c =
 
 pub put_byte-ct_at-requires : goal.put_byte-ct_at-requires
 put_byte-ct_at-requires c =
-    let s = (c).before.before.before in
+    let s = c.before.before.before in
     omega (
       arith,
       length-image s.args.envelope c.typed.ensures s.args.ct.now,
@@ -51,7 +51,7 @@ put_byte-ct_at-requires c =
 
 pub put_run-requires : goal.put_run-requires
 put_run-requires c =
-    let s = (c).before.before.before in (
+    let s = c.before.before.before in (
       omega (
         arith,
         length-image s.args.envelope c.typed.ensures s.args.ct.now,
@@ -70,7 +70,7 @@ put_run-requires c =
 
 pub returns : goal.returns
 returns c =
-    let s = (c).before.before.before in
+    let s = c.before.before.before in
     let text = s.args.ct.now in
     let w =
     c.put_16-c_at.ensures.1 then (c.put_16-expiry_at.ensures.1 then (c.put_be-copies_at.ensures.1 then (

@@ -11,24 +11,27 @@ use Rattle.queued_row.proofs.put_own_envelope.Goals as goal
 pub put_byte-requires : goal.put_byte-requires
 put_byte-requires c =
     let q = c.args.outgoing in
-    omega (arith, ap length (own-absent q c.enum_told-1.given.1))
+    omega (arith, ap length (own-absent q c.in_default.is))
 
 pub returns-in_default : goal.returns-in_default
-returns-in_default c = wrote_as (own-absent c.args.outgoing c.enum_told-1.given.1) c.put_byte.ensures.1
+returns-in_default c = wrote_as (own-absent c.args.outgoing c.in_default.is) c.put_byte.ensures.1
 
 pub put_byte-tag_at-requires : goal.put_byte-tag_at-requires
 put_byte-tag_at-requires c =
-    omega (arith, (let long : length (own_image (c.args.outgoing)) ≡ 39 = length-present (c.args.outgoing) c.type-inv.ensures c.own-1.given.1 in long))
+    let long : length (own_image (c.args.outgoing)) ≡ 39 = length-present (c.args.outgoing) c.typed.ensures c.in-Present.is in
+    omega (arith, long)
 
 pub put_16-s_at-requires : goal.put_16-s_at-requires
 put_16-s_at-requires c =
-    omega (arith, (let long : length (own_image (c.args.outgoing)) ≡ 39 = length-present (c.args.outgoing) c.type-inv.ensures c.own-1.given.1 in long), wrote-long c.put_byte-tag_at.ensures.1)
+    let long : length (own_image (c.args.outgoing)) ≡ 39 = length-present (c.args.outgoing) c.typed.ensures c.in-Present.is in
+    omega (arith, long, wrote-long c.put_byte-tag_at.ensures.1)
 
 pub put_16-expiry_at-requires : goal.put_16-expiry_at-requires
 put_16-expiry_at-requires c =
+    let long : length (own_image (c.args.outgoing)) ≡ 39 = length-present (c.args.outgoing) c.typed.ensures c.in-Present.is in
     omega (
       arith,
-      (let long : length (own_image (c.args.outgoing)) ≡ 39 = length-present (c.args.outgoing) c.type-inv.ensures c.own-1.given.1 in long),
+      long,
       wrote-long c.put_byte-tag_at.ensures.1,
       wrote-long c.put_16-s_at.ensures.1,
       c.put_16-s_at.ensures.0,
@@ -38,9 +41,10 @@ put_16-expiry_at-requires c =
 
 pub put_numbers-requires : goal.put_numbers-requires
 put_numbers-requires c =
+    let long : length (own_image (c.args.outgoing)) ≡ 39 = length-present (c.args.outgoing) c.typed.ensures c.in-Present.is in
     omega (
       arith,
-      (let long : length (own_image (c.args.outgoing)) ≡ 39 = length-present (c.args.outgoing) c.type-inv.ensures c.own-1.given.1 in long),
+      long,
       wrote-long c.put_byte-tag_at.ensures.1,
       wrote-long c.put_16-s_at.ensures.1,
       wrote-long c.put_16-expiry_at.ensures.1,
@@ -52,5 +56,5 @@ put_numbers-requires c =
 
 pub returns : goal.returns
 returns c =
-    wrote_as (own-present (c.args.outgoing) c.typed.ensures c.own-1.given.1)
+    wrote_as (own-present (c.args.outgoing) c.typed.ensures c.in-Present.is)
     (c.put_byte-tag_at.ensures.1 then (c.put_16-s_at.ensures.1 then (c.put_16-expiry_at.ensures.1 then c.put_numbers.ensures.1)))

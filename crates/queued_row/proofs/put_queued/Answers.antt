@@ -8,65 +8,60 @@ use Rattle.queued_row.proofs.Image.{image-is, length-image}
 use Rattle.queued_row.proofs.put_queued.Goals as goal
 
 pub put_be-envelope_at-requires : goal.put_be-envelope_at-requires
-put_be-envelope_at-requires c = omega (arith, length-image c.args.outgoing c.type-inv.ensures c.args.sealed.now)
+put_be-envelope_at-requires c = omega (arith, length-image c.args.outgoing c.typed.ensures c.args.sealed.now)
 
 pub put_own_envelope-gen_at-requires : goal.put_own_envelope-gen_at-requires
 put_own_envelope-gen_at-requires c =
-    let s = (c).before.before.before in
-    omega (arith, length-image s.args.outgoing c.type-inv.ensures s.args.sealed.now, wrote-long c.put_be-envelope_at.ensures.1)
+    omega (arith, length-image c.args.outgoing c.typed.ensures c.args.sealed.now, wrote-long c.put_be-envelope_at.ensures.1)
 
 pub put_byte-idx_at-requires : goal.put_byte-idx_at-requires
 put_byte-idx_at-requires c =
-    let s = (c).before.before.before in
     omega (
       arith,
-      length-image s.args.outgoing c.typed.ensures s.args.sealed.now,
+      length-image c.args.outgoing c.typed.ensures c.args.sealed.now,
       wrote-long c.put_be-envelope_at.ensures.1,
       wrote-long c.put_own_envelope-gen_at.ensures.1,
       c.put_be-envelope_at.ensures.0,
       c.put_own_envelope-gen_at.ensures.0,
-      s.pre,
+      c.requires,
     )
 
 pub put_leb128-sealed_at-requires : goal.put_leb128-sealed_at-requires
 put_leb128-sealed_at-requires c =
-    let s = (c).before.before.before in
     omega (
       arith,
-      length-image s.args.outgoing c.typed.ensures s.args.sealed.now,
+      length-image c.args.outgoing c.typed.ensures c.args.sealed.now,
       wrote-long c.put_be-envelope_at.ensures.1,
       wrote-long c.put_own_envelope-gen_at.ensures.1,
       wrote-long c.put_byte-idx_at.ensures.1,
       c.put_be-envelope_at.ensures.0,
       c.put_own_envelope-gen_at.ensures.0,
       c.put_byte-idx_at.ensures.0,
-      s.pre,
+      c.requires,
     )
 
 pub put_run-requires : goal.put_run-requires
-put_run-requires c =
-    let s = (c).before.before.before in (
-      omega (
-        arith,
-        length-image s.args.outgoing c.typed.ensures s.args.sealed.now,
-        wrote-long c.put_be-envelope_at.ensures.1,
-        wrote-long c.put_own_envelope-gen_at.ensures.1,
-        wrote-long c.put_byte-idx_at.ensures.1,
-        wrote-long c.put_leb128-sealed_at.ensures.1,
-        c.put_be-envelope_at.ensures.0,
-        c.put_own_envelope-gen_at.ensures.0,
-        c.put_byte-idx_at.ensures.0,
-        c.put_leb128-sealed_at.ensures.0,
-        s.pre,
-      ),
-      omega arith,
-    )
+put_run-requires c = (
+  omega (
+    arith,
+    length-image c.args.outgoing c.typed.ensures c.args.sealed.now,
+    wrote-long c.put_be-envelope_at.ensures.1,
+    wrote-long c.put_own_envelope-gen_at.ensures.1,
+    wrote-long c.put_byte-idx_at.ensures.1,
+    wrote-long c.put_leb128-sealed_at.ensures.1,
+    c.put_be-envelope_at.ensures.0,
+    c.put_own_envelope-gen_at.ensures.0,
+    c.put_byte-idx_at.ensures.0,
+    c.put_leb128-sealed_at.ensures.0,
+    c.requires,
+  ),
+  omega arith,
+)
 
 pub returns : goal.returns
 returns c =
-    let s = (c).before.before.before in
-    let text = s.args.sealed.now in
-    wrote_as (image-is s.args.outgoing c.typed.ensures text)
+    let text = c.args.sealed.now in
+    wrote_as (image-is c.args.outgoing c.typed.ensures text)
     (c.put_be-envelope_at.ensures.1 then (c.put_own_envelope-gen_at.ensures.1 then (c.put_byte-idx_at.ensures.1 then (
     c.put_leb128-sealed_at.ensures.1 then whole_run {s = text} (length text) refl c.put_run.ensures.1
     ))))

@@ -11,20 +11,17 @@ use Rattle.queued.specs.Queued.{check_refusal}
 use Rattle.queued.proofs.Placed.{check_says, Placed, check-says, check-placed}
 use Rattle.queued_row.proofs.read_queued.Goals as goal
 
-pub returns-in_default : goal.returns-in_default
-returns-in_default c =
-    let told = c.enum_told-1.given.1 in
-    rw (learn (check_says _) ((let says : check_says (c.args.row.now) c.check_queued-check.result ≡ read_row (queued c.args.version) (c.args.row.now) = check-says (c.args.row.now) (typed (c.args.row.now) c.shared_slice_known-1.given) c.args.version c.check_queued-check.ensures in says)) told, c.refusal.ensures ∙ ap check_refusal told, c.zero.ensures)
-    (simp sub-zero)
-
 pub queued_from-requires : goal.queued_from-requires
 queued_from-requires c =
-    subst (Placed _) c.check-1.given.1 ((let placed : Placed (c.args.row.now) c.check_queued-check.result = check-placed (c.args.row.now) (typed (c.args.row.now) c.shared_slice_known-1.given) c.args.version c.check_queued-check.ensures in placed))
+    let placed : Placed (c.args.row.now) c.check_queued-check.result = check-placed (c.args.row.now) (typed (c.args.row.now) c.type_inv.row) c.args.version c.check_queued-check.ensures in
+    subst (Placed _) c.in-Fields.is placed
 
 pub returns : goal.returns
 returns c =
+    let placed : Placed (c.args.row.now) c.check_queued-check.result = check-placed (c.args.row.now) (typed (c.args.row.now) c.type_inv.row) c.args.version c.check_queued-check.ensures in
+    let says : check_says (c.args.row.now) c.check_queued-check.result ≡ read_row (queued c.args.version) (c.args.row.now) = check-says (c.args.row.now) (typed (c.args.row.now) c.type_inv.row) c.args.version c.check_queued-check.ensures in
     let its = c.args.row.now in
-    let sealed = c.check-1.given.0.0.sealed in
-    let inside : sealed ≤ length its = (subst (Placed its) c.check-1.given.1 ((let placed : Placed (c.args.row.now) c.check_queued-check.result = check-placed (c.args.row.now) (typed (c.args.row.now) c.shared_slice_known-1.given) c.args.version c.check_queued-check.ensures in placed))).sealed in
+    let sealed = c.in-Fields.at.sealed in
+    let inside : sealed ≤ length its = (subst (Placed its) c.in-Fields.is placed).sealed in
     let place : length its - length (drop sealed its) ≡ sealed = simp length-drop (omega arith) in
-    rw (learn (check_says _) ((let says : check_says (c.args.row.now) c.check_queued-check.result ≡ read_row (queued c.args.version) (c.args.row.now) = check-says (c.args.row.now) (typed (c.args.row.now) c.shared_slice_known-1.given) c.args.version c.check_queued-check.ensures in says)) c.check-1.given.1, c.queued_from.ensures, place)
+    rw (learn (check_says _) says c.in-Fields.is, c.queued_from.ensures, place)

@@ -1,26 +1,28 @@
 -- `rewrite::rewrite_contact` meets its contract: without room nothing is read; with room, reading says whether the row is written, and writing stores it.
 -- Assumes nothing.
 use Prim.Native.Nat.{ℕ}
+use mathlib.Core.List.{List}
 use mathlib.Core.Path.{ap, ◌∙◌}
 use Rattle.layout.specs.RowLaws.{Bytes}
 use Rattle.layout.specs.Write.{refuses}
 use Rattle.layout.proofs.At.{typed}
-use Rattle.contact.specs.Contact.{lists}
+use Rattle.contact.specs.Contact.{Lists, lists}
 use Rattle.rewrite.specs.Rewrite.{leaves}
 use Rattle.rewrite.proofs.Contact.{no_room, refused, granted}
 use Rattle.rewrite.proofs.rewrite_contact.Goals as goal
 
 pub returns-then-out-row : goal.returns-then-out-row
 returns-then-out-row c =
-    ap (λ (q : ℕ). leaves (refuses q) ((lists (k.before.before.before.before.before.before.before).args.chains.now (k.before.before.before.before.before.before.before).args.skipped.now (k.before.before.before.before.before.before.before).args.above.now (k.before.before.before.before.before.before.before).args.unacked.now (k.before.before.before.before.before.before.before).args.expired.now)) (k.before.before.before.before.before.before.before).args.out.now) c.without_room.ensures
-    ∙ no_room (k.before.before.before.before.before.before.before).args.version ((k.before.before.before.before.before.before.before).args.row.now) ((lists (k.before.before.before.before.before.before.before).args.chains.now (k.before.before.before.before.before.before.before).args.skipped.now (k.before.before.before.before.before.before.before).args.above.now (k.before.before.before.before.before.before.before).args.unacked.now (k.before.before.before.before.before.before.before).args.expired.now)) (k.before.before.before.before.before.before.before).args.out.now c.if1.true
+    let lent : Lists = lists c.args.chains.now c.args.skipped.now c.args.above.now c.args.unacked.now c.args.expired.now in
+    ap (λ (q : ℕ). leaves (refuses q) lent c.args.out.now) c.without_room.ensures
+    ∙ no_room c.args.version c.args.row.now lent c.args.out.now c.if1.true
 
 pub returns-in-Refused : goal.returns-in-Refused
 returns-in-Refused c =
-    let k = (c).before in
-    refused (k.before.before.before.before.before.before.before).args.version ((k.before.before.before.before.before.before.before).args.row.now) ((lists (k.before.before.before.before.before.before.before).args.chains.now (k.before.before.before.before.before.before.before).args.skipped.now (k.before.before.before.before.before.before.before).args.above.now (k.before.before.before.before.before.before.before).args.unacked.now (k.before.before.before.before.before.before.before).args.expired.now)) (k.before.before.before.before.before.before.before).args.out.now c.if-out-row.left c.decode-read.ensures c.verdict-1.given.1
+    let k = c.before in
+    refused k.before.before.before.before.before.before.before.args.version ((let row : List ℕ = k.before.before.before.before.before.before.before.args.row.now in row)) ((let lent : Lists = lists k.before.before.before.before.before.before.before.args.chains.now k.before.before.before.before.before.before.before.args.skipped.now k.before.before.before.before.before.before.before.args.above.now k.before.before.before.before.before.before.before.args.unacked.now k.before.before.before.before.before.before.before.args.expired.now in lent)) k.before.before.before.before.before.before.before.args.out.now c.if-out-row.left c.decode-read.ensures c.in-Refused.is
 
 pub returns : goal.returns
 returns c =
-    let k = (c).before in
-    granted (k.before.before.before.before.before.before.before).args.version ((k.before.before.before.before.before.before.before).args.row.now) ((lists (k.before.before.before.before.before.before.before).args.chains.now (k.before.before.before.before.before.before.before).args.skipped.now (k.before.before.before.before.before.before.before).args.above.now (k.before.before.before.before.before.before.before).args.unacked.now (k.before.before.before.before.before.before.before).args.expired.now)) (k.before.before.before.before.before.before.before).args.out.now c.if1.left c.decode.ensures ((let by : Bytes ((k.before.before.before.before.before.before.before).args.row.now) = typed ((k.before.before.before.before.before.before.before).args.row.now) k.before.before.before.before.before.before.shared-slice-known.given in by)) c.enum_told.given.1 c.write_contact.ensures
+    let k = c.before in
+    granted k.before.before.before.before.before.before.before.args.version ((let row : List ℕ = k.before.before.before.before.before.before.before.args.row.now in row)) ((let lent : Lists = lists k.before.before.before.before.before.before.before.args.chains.now k.before.before.before.before.before.before.before.args.skipped.now k.before.before.before.before.before.before.before.args.above.now k.before.before.before.before.before.before.before.args.unacked.now k.before.before.before.before.before.before.before.args.expired.now in lent)) k.before.before.before.before.before.before.before.args.out.now c.if1.left c.decode.ensures ((let by : Bytes ((let row : List ℕ = k.before.before.before.before.before.before.before.args.row.now in row)) = typed ((let row : List ℕ = k.before.before.before.before.before.before.before.args.row.now in row)) k.before.before.before.before.before.before.shared-slice-known.given in by)) c.enum_told.given.1 c.write_contact.ensures

@@ -15,15 +15,15 @@ use Rattle.rewrite.proofs.rewrite_courier.Goals as goal
 pub returns-in-Refused : goal.returns-in-Refused
 returns-in-Refused c =
     refused-row (courier c.args.version) c.args.row.now c.args.out.now
-    (ap (λ (x : HeldRead). x.verdict) (sym c.read_courier-read.ensures) ∙ c.verdict-1.given.1)
+    (ap (λ (x : HeldRead). x.verdict) (sym c.read_courier-read.ensures) ∙ c.in-Refused.is)
 
 pub returns : goal.returns
 returns c =
     let row = c.args.row.now in
     let out = c.args.out.now in
-    let by = typed row c.shared_slice_known-1.given in
+    let by = typed row c.type_inv.row in
     let is = c.read_courier-read.ensures in
-    let accepted = c.enum_told-1.given.1 in
+    let accepted = c.in_default.is in
     granted-row (courier c.args.version) row out (ap (λ (x : HeldRead). x.verdict) (sym is) ∙ accepted)
     (c.row.ensures
     ∙ ap (λ (t : List ℕ). writes (courier 3) (image c.read_courier-read.result.held t) out) c.sealed_text-sealed.ensures

@@ -10,14 +10,14 @@ use Rattle.rewrite.proofs.rewrite_device.Goals as goal
 pub returns-in-Refused : goal.returns-in-Refused
 returns-in-Refused c =
     refused-row (device c.args.version) c.args.row.now c.args.out.now
-    (ap (λ (x : DeviceRead). x.verdict) (sym c.read_device-read.ensures) ∙ c.verdict-1.given.1)
+    (ap (λ (x : DeviceRead). x.verdict) (sym c.read_device-read.ensures) ∙ c.in-Refused.is)
 
 pub returns : goal.returns
 returns c =
     let row = c.args.row.now in
     let out = c.args.out.now in
-    let by = typed row c.shared_slice_known-1.given in
+    let by = typed row c.type_inv.row in
     let is = c.read_device-read.ensures in
     granted-row (device c.args.version) row out
-    (ap (λ (x : DeviceRead). x.verdict) (sym is) ∙ c.enum_told-1.given.1)
-    (c.row.ensures ∙ device-read-write c.args.version row by c.read_device-read.result is c.enum_told-1.given.1 out)
+    (ap (λ (x : DeviceRead). x.verdict) (sym is) ∙ c.in_default.is)
+    (c.row.ensures ∙ device-read-write c.args.version row by c.read_device-read.result is c.in_default.is out)

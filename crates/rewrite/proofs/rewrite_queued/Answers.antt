@@ -15,15 +15,15 @@ use Rattle.rewrite.proofs.rewrite_queued.Goals as goal
 pub returns-in-Refused : goal.returns-in-Refused
 returns-in-Refused c =
     refused-row (queued c.args.version) c.args.row.now c.args.out.now
-    (ap (λ (x : QueuedRead). x.verdict) (sym c.read_queued-read.ensures) ∙ c.verdict-1.given.1)
+    (ap (λ (x : QueuedRead). x.verdict) (sym c.read_queued-read.ensures) ∙ c.in-Refused.is)
 
 pub returns : goal.returns
 returns c =
     let row = c.args.row.now in
     let out = c.args.out.now in
-    let by = typed row c.shared_slice_known-1.given in
+    let by = typed row c.type_inv.row in
     let is = c.read_queued-read.ensures in
-    let accepted = c.enum_told-1.given.1 in
+    let accepted = c.in_default.is in
     granted-row (queued c.args.version) row out (ap (λ (x : QueuedRead). x.verdict) (sym is) ∙ accepted)
     (c.row.ensures
     ∙ ap (λ (t : List ℕ). writes (queued 3) (image c.read_queued-read.result.queued t) out) c.sealed_text-sealed.ensures

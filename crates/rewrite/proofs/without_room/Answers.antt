@@ -10,7 +10,7 @@ use Rattle.layout.proofs.At.{learn, typed}
 use Rattle.rows.specs.Values as value
 use Rattle.rows.specs.Rows.{contact}
 use Rattle.contact.specs.Check.{contact_from, Offsets, check_refusal}
-use Rattle.contact.specs.Contact.{lists, long_enough}
+use Rattle.contact.specs.Contact.{Lists, lists, long_enough}
 use Rattle.contact.proofs.Placed.{check_says, Placed, check-says, check-placed}
 use Rattle.contact.proofs.Read.{counts-are}
 use Rattle.rewrite.specs.Rewrite.{without_room}
@@ -18,19 +18,32 @@ use Rattle.rewrite.proofs.without_room.Goals as goal
 
 pub returns-in_default : goal.returns-in_default
 returns-in_default c =
-    let told = c.enum_told-1.given.1 in
+    let lent : Lists = lists c.args.chains.now c.args.skipped.now c.args.above.now c.args.unacked.now c.args.expired.now in
+    let by : Bytes c.args.row.now = typed c.args.row.now c.type_inv.row in
+    let says : check_says c.args.row.now c.check_contact-check.result ≡ read_row (contact c.args.version) c.args.row.now = check-says c.args.row.now by c.args.version c.check_contact-check.ensures in
+    let told = c.in_default.is in
     c.refusal.ensures
     ∙ ap check_refusal told
-    ∙ ap (λ (a : Answer value.Contact). without_room a ((lists c.args.chains.now c.args.skipped.now c.args.above.now c.args.unacked.now c.args.expired.now))) (sym (learn (check_says (c.args.row.now)) ((let says : check_says (c.args.row.now) c.check_contact-check.result ≡ read_row (contact c.args.version) (c.args.row.now) = check-says (c.args.row.now) ((let by : Bytes (c.args.row.now) = typed (c.args.row.now) c.shared_slice_known-1.given in by)) c.args.version c.check_contact-check.ensures in says)) told))
+    ∙ ap (λ (a : Answer value.Contact). without_room a lent) (sym (learn (check_says c.args.row.now) says told))
 
 pub returns-then-not-long_enough : goal.returns-then-not-long_enough
 returns-then-not-long_enough c =
-    (ap (λ (t : Bool). cond t OUTPUT LISTS) (sym ((let enough : long_enough (contact_from (c.args.row.now) (c.check-1.given.0.0)) ((lists c.args.chains.now c.args.skipped.now c.args.above.now c.args.unacked.now c.args.expired.now)) ≡ c.long_enough.result = let places : Offsets (c.args.row.now) (c.check-1.given.0.0) = subst (Placed (c.args.row.now)) c.check-1.given.1 (check-placed (c.args.row.now) ((let by : Bytes (c.args.row.now) = typed (c.args.row.now) c.shared_slice_known-1.given in by)) c.args.version c.check_contact-check.ensures) in
-    counts-are (c.args.row.now) ((let by : Bytes (c.args.row.now) = typed (c.args.row.now) c.shared_slice_known-1.given in by)) (c.check-1.given.0.0) places ((lists c.args.chains.now c.args.skipped.now c.args.above.now c.args.unacked.now c.args.expired.now)) ∙ sym c.long_enough.ensures in enough) ∙ (not-true _ c.if-not-long_enough.true)))
-    ∙ ap (λ (a : Answer value.Contact). without_room a ((lists c.args.chains.now c.args.skipped.now c.args.above.now c.args.unacked.now c.args.expired.now))) (sym ((let read : read_row (contact c.args.version) (c.args.row.now) ≡ accepted (contact_from (c.args.row.now) (c.check-1.given.0.0)) = learn (check_says (c.args.row.now)) ((let says : check_says (c.args.row.now) c.check_contact-check.result ≡ read_row (contact c.args.version) (c.args.row.now) = check-says (c.args.row.now) ((let by : Bytes (c.args.row.now) = typed (c.args.row.now) c.shared_slice_known-1.given in by)) c.args.version c.check_contact-check.ensures in says)) c.check-1.given.1 in read))))
+    let by : Bytes c.args.row.now = typed c.args.row.now c.type_inv.row in
+    let lent : Lists = lists c.args.chains.now c.args.skipped.now c.args.above.now c.args.unacked.now c.args.expired.now in
+    let enough : long_enough (contact_from c.args.row.now c.in-Fields.at) lent ≡ c.long_enough.result = let places : Offsets c.args.row.now c.in-Fields.at = subst (Placed c.args.row.now) c.in-Fields.is (check-placed c.args.row.now by c.args.version c.check_contact-check.ensures) in
+    counts-are c.args.row.now by c.in-Fields.at places lent ∙ sym c.long_enough.ensures in
+    let says : check_says c.args.row.now c.check_contact-check.result ≡ read_row (contact c.args.version) c.args.row.now = check-says c.args.row.now by c.args.version c.check_contact-check.ensures in
+    let read : read_row (contact c.args.version) c.args.row.now ≡ accepted (contact_from c.args.row.now c.in-Fields.at) = learn (check_says c.args.row.now) says c.in-Fields.is in
+    (ap (λ (t : Bool). cond t OUTPUT LISTS) (sym (enough ∙ (not-true _ c.if-not-long_enough.true)))
+    ∙ ap (λ (a : Answer value.Contact). without_room a lent) (sym read))
 
 pub returns : goal.returns
 returns c =
-    (ap (λ (t : Bool). cond t OUTPUT LISTS) (sym ((let enough : long_enough (contact_from (c.args.row.now) (c.check-1.given.0.0)) ((lists c.args.chains.now c.args.skipped.now c.args.above.now c.args.unacked.now c.args.expired.now)) ≡ c.long_enough.result = let places : Offsets (c.args.row.now) (c.check-1.given.0.0) = subst (Placed (c.args.row.now)) c.check-1.given.1 (check-placed (c.args.row.now) ((let by : Bytes (c.args.row.now) = typed (c.args.row.now) c.shared_slice_known-1.given in by)) c.args.version c.check_contact-check.ensures) in
-    counts-are (c.args.row.now) ((let by : Bytes (c.args.row.now) = typed (c.args.row.now) c.shared_slice_known-1.given in by)) (c.check-1.given.0.0) places ((lists c.args.chains.now c.args.skipped.now c.args.above.now c.args.unacked.now c.args.expired.now)) ∙ sym c.long_enough.ensures in enough) ∙ (not-false _ c.if-not-long_enough.false)))
-    ∙ ap (λ (a : Answer value.Contact). without_room a ((lists c.args.chains.now c.args.skipped.now c.args.above.now c.args.unacked.now c.args.expired.now))) (sym ((let read : read_row (contact c.args.version) (c.args.row.now) ≡ accepted (contact_from (c.args.row.now) (c.check-1.given.0.0)) = learn (check_says (c.args.row.now)) ((let says : check_says (c.args.row.now) c.check_contact-check.result ≡ read_row (contact c.args.version) (c.args.row.now) = check-says (c.args.row.now) ((let by : Bytes (c.args.row.now) = typed (c.args.row.now) c.shared_slice_known-1.given in by)) c.args.version c.check_contact-check.ensures in says)) c.check-1.given.1 in read))))
+    let by : Bytes c.args.row.now = typed c.args.row.now c.type_inv.row in
+    let lent : Lists = lists c.args.chains.now c.args.skipped.now c.args.above.now c.args.unacked.now c.args.expired.now in
+    let enough : long_enough (contact_from c.args.row.now c.in-Fields.at) lent ≡ c.long_enough.result = let places : Offsets c.args.row.now c.in-Fields.at = subst (Placed c.args.row.now) c.in-Fields.is (check-placed c.args.row.now by c.args.version c.check_contact-check.ensures) in
+    counts-are c.args.row.now by c.in-Fields.at places lent ∙ sym c.long_enough.ensures in
+    let says : check_says c.args.row.now c.check_contact-check.result ≡ read_row (contact c.args.version) c.args.row.now = check-says c.args.row.now by c.args.version c.check_contact-check.ensures in
+    let read : read_row (contact c.args.version) c.args.row.now ≡ accepted (contact_from c.args.row.now c.in-Fields.at) = learn (check_says c.args.row.now) says c.in-Fields.is in
+    (ap (λ (t : Bool). cond t OUTPUT LISTS) (sym (enough ∙ (not-false _ c.if-not-long_enough.false)))
+    ∙ ap (λ (a : Answer value.Contact). without_room a lent) (sym read))

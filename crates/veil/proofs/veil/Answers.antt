@@ -4,16 +4,16 @@ use Rattle.veil.proofs.ByKind.{of-device, of-contact, of-queued, of-courier, of_
 use Rattle.veil.proofs.veil.Goals as goal
 
 pub returns-in-0 : goal.returns-in-0
-returns-in-0 c = c.veil_device.ensures ∙ sym (of-device _ _ _ c.in-0.keys1)
+returns-in-0 c = c.veil_device.ensures ∙ sym (of-device _ _ _ c.in-0.is)
 
 pub returns-in-1 : goal.returns-in-1
-returns-in-1 c = c.veil_contact.ensures ∙ sym (of-contact _ _ _ c.in-1.keys2)
+returns-in-1 c = c.veil_contact.ensures ∙ sym (of-contact _ _ _ c.in-1.is)
 
 pub returns-in-2 : goal.returns-in-2
-returns-in-2 c = c.veil_queued.ensures ∙ sym (of-queued _ _ _ c.in-2.keys3)
+returns-in-2 c = c.veil_queued.ensures ∙ sym (of-queued _ _ _ c.in-2.is)
 
 pub returns-in-3 : goal.returns-in-3
-returns-in-3 c = c.veil_courier.ensures ∙ sym (of-courier _ _ _ c.in-3.keys4)
+returns-in-3 c = c.veil_courier.ensures ∙ sym (of-courier _ _ _ c.in-3.is)
 
 pub returns-in_default : goal.returns-in_default
 returns-in_default c = let r = c.in_default.rest in sym (of_none _ _ _ r.0.0.0.1 r.0.0.1 r.0.1 r.1)

@@ -13,6 +13,7 @@ use Rattle.contact_parts.specs.Parts.{paired, keys, chained, numbers}
 use Rattle.contact_parts.specs.Offsets.{paired_from, numbers_from}
 use Rattle.contact.specs.Check.{contact_from, Offsets, check_refusal}
 use Rattle.contact.proofs.Placed.{Placed, check_says, check-says, check-placed}
+use Rattle.contact.specs.declared.ContactAt.{ContactAt}
 use Rattle.veil_contact.specs.Veiled.{Stands, veiled_keys, veiled_chained}
 use Rattle.veil_contact.proofs.Whole.{paired-stands, veiled-copy, copy-long, numbers-run}
 use Rattle.veil.proofs.Copied.{copy-refused, copy-short, copy_stored}
@@ -20,39 +21,69 @@ use Rattle.veil.proofs.veil_contact.Goals as goal
 
 pub returns-in_default : goal.returns-in_default
 returns-in_default c =
+    let says : let a = c.args in check_says a.row.now c.check_contact-check.result ≡ read_row (contact a.version) a.row.now = let a = c.args in check-says a.row.now (typed a.row.now c.type_inv.row) a.version c.check_contact-check.ensures in
     let a = c.args in
-    let told = c.enum_told-1.given.1 in
-    rw (c.refusal.ensures ∙ ap check_refusal told) (copy-refused (contact a.version) a.row.now a.out.now (learn (check_says a.row.now) ((let says : let a = c.args in check_says a.row.now c.check_contact-check.result ≡ read_row (contact a.version) a.row.now = let a = c.args in check-says a.row.now (typed a.row.now c.shared_slice_known-1.given) a.version c.check_contact-check.ensures in says)) told))
+    let told = c.in_default.is in
+    rw (c.refusal.ensures ∙ ap check_refusal told) (copy-refused (contact a.version) a.row.now a.out.now (learn (check_says a.row.now) says told))
 
 pub returns-then-out-n : goal.returns-then-out-n
 returns-then-out-n c =
-    let a = ((c).before.before.before).args in
-    copy-short (contact a.version) a.row.now a.out.now ((let read : read_row (contact ((c).before.before.before).args.version) (((c).before.before.before).args.row.now) ≡ accepted (contact_from (((c).before.before.before).args.row.now) (c.check-1.given.0.0)) = learn (check_says (((c).before.before.before).args.row.now)) ((let says : let a = c.args in check_says a.row.now c.check_contact-check.result ≡ read_row (contact a.version) a.row.now = let a = c.args in check-says a.row.now (typed a.row.now c.shared_slice_known-1.given) a.version c.check_contact-check.ensures in says)) c.check-1.given.1 in read)) c.if-out-n.true
+    let says : let a = c.args in check_says a.row.now c.check_contact-check.result ≡ read_row (contact a.version) a.row.now = let a = c.args in check-says a.row.now (typed a.row.now c.type_inv.row) a.version c.check_contact-check.ensures in
+    let read : read_row (contact c.before.before.before.args.version) c.before.before.before.args.row.now ≡ accepted (contact_from c.before.before.before.args.row.now c.in-Fields.at) = learn (check_says c.before.before.before.args.row.now) says c.in-Fields.is in
+    let a = c.before.before.before.args in
+    copy-short (contact a.version) a.row.now a.out.now read c.if-out-n.true
 
 pub veil_paired-keys_at-requires : goal.veil_paired-keys_at-requires
 veil_paired-keys_at-requires c =
-    (((let places : Offsets (((c).before.before.before).args.row.now) (c.check-1.given.0.0) = subst (Placed (((c).before.before.before).args.row.now)) c.check-1.given.1 (check-placed (((c).before.before.before).args.row.now) ((let by : Bytes (((c).before.before.before).args.row.now) = typed (((c).before.before.before).args.row.now) c.shared_slice_known-1.given in by)) ((c).before.before.before).args.version c.check_contact-check.ensures) in places)).card, (let stands : Stands paired (((c).before.before.before).args.row.now) 0 (paired_from (((c).before.before.before).args.row.now) (c.check-1.given.0.0).paired) = paired-stands ((c).before.before.before).args.version (((c).before.before.before).args.row.now) ((let by : Bytes (((c).before.before.before).args.row.now) = typed (((c).before.before.before).args.row.now) c.shared_slice_known-1.given in by)) (c.check-1.given.0.0).paired (c.check-1.given.0.0).keys (c.check-1.given.0.0).chained (c.check-1.given.0.0).numbers ((let read : read_row (contact ((c).before.before.before).args.version) (((c).before.before.before).args.row.now) ≡ accepted (contact_from (((c).before.before.before).args.row.now) (c.check-1.given.0.0)) = learn (check_says (((c).before.before.before).args.row.now)) ((let says : let a = c.args in check_says a.row.now c.check_contact-check.result ≡ read_row (contact a.version) a.row.now = let a = c.args in check-says a.row.now (typed a.row.now c.shared_slice_known-1.given) a.version c.check_contact-check.ensures in says)) c.check-1.given.1 in read)) in stands), omega (arith, (let long : length (print paired (blank_of paired veil (paired_from (((c).before.before.before).args.row.now) (c.check-1.given.0.0).paired))) + (length (print keys (veiled_keys (c.check-1.given.0.0).keys)) + (length (print chained (veiled_chained (((c).before.before.before).args.row.now) (c.check-1.given.0.0).chained)) + length (print numbers (numbers_from (((c).before.before.before).args.row.now) (c.check-1.given.0.0).numbers)))) ≡ length (((c).before.before.before).args.row.now) = copy-long ((c).before.before.before).args.version (((c).before.before.before).args.row.now) ((let by : Bytes (((c).before.before.before).args.row.now) = typed (((c).before.before.before).args.row.now) c.shared_slice_known-1.given in by)) (c.check-1.given.0.0).paired (c.check-1.given.0.0).keys (c.check-1.given.0.0).chained (c.check-1.given.0.0).numbers ((let read : read_row (contact ((c).before.before.before).args.version) (((c).before.before.before).args.row.now) ≡ accepted (contact_from (((c).before.before.before).args.row.now) (c.check-1.given.0.0)) = learn (check_says (((c).before.before.before).args.row.now)) ((let says : let a = c.args in check_says a.row.now c.check_contact-check.result ≡ read_row (contact a.version) a.row.now = let a = c.args in check-says a.row.now (typed a.row.now c.shared_slice_known-1.given) a.version c.check_contact-check.ensures in says)) c.check-1.given.1 in read)) in long)))
+    let by : Bytes c.before.before.before.args.row.now = typed c.before.before.before.args.row.now c.type_inv.row in
+    let places : Offsets c.before.before.before.args.row.now c.in-Fields.at = subst (Placed c.before.before.before.args.row.now) c.in-Fields.is (check-placed c.before.before.before.args.row.now by c.before.before.before.args.version c.check_contact-check.ensures) in
+    let says : let a = c.args in check_says a.row.now c.check_contact-check.result ≡ read_row (contact a.version) a.row.now = let a = c.args in check-says a.row.now (typed a.row.now c.type_inv.row) a.version c.check_contact-check.ensures in
+    let read : read_row (contact c.before.before.before.args.version) c.before.before.before.args.row.now ≡ accepted (contact_from c.before.before.before.args.row.now c.in-Fields.at) = learn (check_says c.before.before.before.args.row.now) says c.in-Fields.is in
+    let stands : Stands paired c.before.before.before.args.row.now 0 (paired_from c.before.before.before.args.row.now c.in-Fields.at.paired) = paired-stands c.before.before.before.args.version c.before.before.before.args.row.now by c.in-Fields.at.paired c.in-Fields.at.keys c.in-Fields.at.chained c.in-Fields.at.numbers read in
+    let long : length (print paired (blank_of paired veil (paired_from c.before.before.before.args.row.now c.in-Fields.at.paired))) + (length (print keys (veiled_keys c.in-Fields.at.keys)) + (length (print chained (veiled_chained c.before.before.before.args.row.now c.in-Fields.at.chained)) + length (print numbers (numbers_from c.before.before.before.args.row.now c.in-Fields.at.numbers)))) ≡ length c.before.before.before.args.row.now = copy-long c.before.before.before.args.version c.before.before.before.args.row.now by c.in-Fields.at.paired c.in-Fields.at.keys c.in-Fields.at.chained c.in-Fields.at.numbers read in
+    (places.card, stands, omega (arith, long))
 
 pub veil_keys-chained_at-requires : goal.veil_keys-chained_at-requires
 veil_keys-chained_at-requires c =
-    omega (arith, (let long : length (print paired (blank_of paired veil (paired_from (((c).before.before.before).args.row.now) (c.check-1.given.0.0).paired))) + (length (print keys (veiled_keys (c.check-1.given.0.0).keys)) + (length (print chained (veiled_chained (((c).before.before.before).args.row.now) (c.check-1.given.0.0).chained)) + length (print numbers (numbers_from (((c).before.before.before).args.row.now) (c.check-1.given.0.0).numbers)))) ≡ length (((c).before.before.before).args.row.now) = copy-long ((c).before.before.before).args.version (((c).before.before.before).args.row.now) ((let by : Bytes (((c).before.before.before).args.row.now) = typed (((c).before.before.before).args.row.now) c.shared_slice_known-1.given in by)) (c.check-1.given.0.0).paired (c.check-1.given.0.0).keys (c.check-1.given.0.0).chained (c.check-1.given.0.0).numbers ((let read : read_row (contact ((c).before.before.before).args.version) (((c).before.before.before).args.row.now) ≡ accepted (contact_from (((c).before.before.before).args.row.now) (c.check-1.given.0.0)) = learn (check_says (((c).before.before.before).args.row.now)) ((let says : let a = c.args in check_says a.row.now c.check_contact-check.result ≡ read_row (contact a.version) a.row.now = let a = c.args in check-says a.row.now (typed a.row.now c.shared_slice_known-1.given) a.version c.check_contact-check.ensures in says)) c.check-1.given.1 in read)) in long))
+    let by : Bytes c.before.before.before.args.row.now = typed c.before.before.before.args.row.now c.type_inv.row in
+    let says : let a = c.args in check_says a.row.now c.check_contact-check.result ≡ read_row (contact a.version) a.row.now = let a = c.args in check-says a.row.now (typed a.row.now c.type_inv.row) a.version c.check_contact-check.ensures in
+    let read : read_row (contact c.before.before.before.args.version) c.before.before.before.args.row.now ≡ accepted (contact_from c.before.before.before.args.row.now c.in-Fields.at) = learn (check_says c.before.before.before.args.row.now) says c.in-Fields.is in
+    let long : length (print paired (blank_of paired veil (paired_from c.before.before.before.args.row.now c.in-Fields.at.paired))) + (length (print keys (veiled_keys c.in-Fields.at.keys)) + (length (print chained (veiled_chained c.before.before.before.args.row.now c.in-Fields.at.chained)) + length (print numbers (numbers_from c.before.before.before.args.row.now c.in-Fields.at.numbers)))) ≡ length c.before.before.before.args.row.now = copy-long c.before.before.before.args.version c.before.before.before.args.row.now by c.in-Fields.at.paired c.in-Fields.at.keys c.in-Fields.at.chained c.in-Fields.at.numbers read in
+    omega (arith, long)
 
 pub veil_chained-numbers_at-requires : goal.veil_chained-numbers_at-requires
 veil_chained-numbers_at-requires c =
-    (((let places : Offsets (((c).before.before.before).args.row.now) (c.check-1.given.0.0) = subst (Placed (((c).before.before.before).args.row.now)) c.check-1.given.1 (check-placed (((c).before.before.before).args.row.now) ((let by : Bytes (((c).before.before.before).args.row.now) = typed (((c).before.before.before).args.row.now) c.shared_slice_known-1.given in by)) ((c).before.before.before).args.version c.check_contact-check.ensures) in places)).chained, omega (arith, (let long : length (print paired (blank_of paired veil (paired_from (((c).before.before.before).args.row.now) (c.check-1.given.0.0).paired))) + (length (print keys (veiled_keys (c.check-1.given.0.0).keys)) + (length (print chained (veiled_chained (((c).before.before.before).args.row.now) (c.check-1.given.0.0).chained)) + length (print numbers (numbers_from (((c).before.before.before).args.row.now) (c.check-1.given.0.0).numbers)))) ≡ length (((c).before.before.before).args.row.now) = copy-long ((c).before.before.before).args.version (((c).before.before.before).args.row.now) ((let by : Bytes (((c).before.before.before).args.row.now) = typed (((c).before.before.before).args.row.now) c.shared_slice_known-1.given in by)) (c.check-1.given.0.0).paired (c.check-1.given.0.0).keys (c.check-1.given.0.0).chained (c.check-1.given.0.0).numbers ((let read : read_row (contact ((c).before.before.before).args.version) (((c).before.before.before).args.row.now) ≡ accepted (contact_from (((c).before.before.before).args.row.now) (c.check-1.given.0.0)) = learn (check_says (((c).before.before.before).args.row.now)) ((let says : let a = c.args in check_says a.row.now c.check_contact-check.result ≡ read_row (contact a.version) a.row.now = let a = c.args in check-says a.row.now (typed a.row.now c.shared_slice_known-1.given) a.version c.check_contact-check.ensures in says)) c.check-1.given.1 in read)) in long), c.if-out-n.false, c.veil_paired-keys_at.ensures.0, c.veil_keys-chained_at.ensures.0, wrote-long c.veil_paired-keys_at.ensures.1, wrote-long c.veil_keys-chained_at.ensures.1))
+    let by : Bytes c.before.before.before.args.row.now = typed c.before.before.before.args.row.now c.type_inv.row in
+    let places : Offsets c.before.before.before.args.row.now c.in-Fields.at = subst (Placed c.before.before.before.args.row.now) c.in-Fields.is (check-placed c.before.before.before.args.row.now by c.before.before.before.args.version c.check_contact-check.ensures) in
+    let says : let a = c.args in check_says a.row.now c.check_contact-check.result ≡ read_row (contact a.version) a.row.now = let a = c.args in check-says a.row.now (typed a.row.now c.type_inv.row) a.version c.check_contact-check.ensures in
+    let read : read_row (contact c.before.before.before.args.version) c.before.before.before.args.row.now ≡ accepted (contact_from c.before.before.before.args.row.now c.in-Fields.at) = learn (check_says c.before.before.before.args.row.now) says c.in-Fields.is in
+    let long : length (print paired (blank_of paired veil (paired_from c.before.before.before.args.row.now c.in-Fields.at.paired))) + (length (print keys (veiled_keys c.in-Fields.at.keys)) + (length (print chained (veiled_chained c.before.before.before.args.row.now c.in-Fields.at.chained)) + length (print numbers (numbers_from c.before.before.before.args.row.now c.in-Fields.at.numbers)))) ≡ length c.before.before.before.args.row.now = copy-long c.before.before.before.args.version c.before.before.before.args.row.now by c.in-Fields.at.paired c.in-Fields.at.keys c.in-Fields.at.chained c.in-Fields.at.numbers read in
+    (places.chained, omega (arith, long, c.if-out-n.false, c.veil_paired-keys_at.ensures.0, c.veil_keys-chained_at.ensures.0, wrote-long c.veil_paired-keys_at.ensures.1, wrote-long c.veil_keys-chained_at.ensures.1))
 
 pub overflow_sub-n : goal.overflow_sub-n
 overflow_sub-n c =
-    omega (arith, (let long : length (print paired (blank_of paired veil (paired_from (((c).before.before.before).args.row.now) (c.check-1.given.0.0).paired))) + (length (print keys (veiled_keys (c.check-1.given.0.0).keys)) + (length (print chained (veiled_chained (((c).before.before.before).args.row.now) (c.check-1.given.0.0).chained)) + length (print numbers (numbers_from (((c).before.before.before).args.row.now) (c.check-1.given.0.0).numbers)))) ≡ length (((c).before.before.before).args.row.now) = copy-long ((c).before.before.before).args.version (((c).before.before.before).args.row.now) ((let by : Bytes (((c).before.before.before).args.row.now) = typed (((c).before.before.before).args.row.now) c.shared_slice_known-1.given in by)) (c.check-1.given.0.0).paired (c.check-1.given.0.0).keys (c.check-1.given.0.0).chained (c.check-1.given.0.0).numbers ((let read : read_row (contact ((c).before.before.before).args.version) (((c).before.before.before).args.row.now) ≡ accepted (contact_from (((c).before.before.before).args.row.now) (c.check-1.given.0.0)) = learn (check_says (((c).before.before.before).args.row.now)) ((let says : let a = c.args in check_says a.row.now c.check_contact-check.result ≡ read_row (contact a.version) a.row.now = let a = c.args in check-says a.row.now (typed a.row.now c.shared_slice_known-1.given) a.version c.check_contact-check.ensures in says)) c.check-1.given.1 in read)) in long), c.if-out-n.false, c.veil_paired-keys_at.ensures.0, c.veil_keys-chained_at.ensures.0, c.veil_chained-numbers_at.ensures.0, wrote-long c.veil_paired-keys_at.ensures.1, wrote-long c.veil_keys-chained_at.ensures.1, wrote-long c.veil_chained-numbers_at.ensures.1)
+    let by : Bytes c.before.before.before.args.row.now = typed c.before.before.before.args.row.now c.type_inv.row in
+    let says : let a = c.args in check_says a.row.now c.check_contact-check.result ≡ read_row (contact a.version) a.row.now = let a = c.args in check-says a.row.now (typed a.row.now c.type_inv.row) a.version c.check_contact-check.ensures in
+    let read : read_row (contact c.before.before.before.args.version) c.before.before.before.args.row.now ≡ accepted (contact_from c.before.before.before.args.row.now c.in-Fields.at) = learn (check_says c.before.before.before.args.row.now) says c.in-Fields.is in
+    let long : length (print paired (blank_of paired veil (paired_from c.before.before.before.args.row.now c.in-Fields.at.paired))) + (length (print keys (veiled_keys c.in-Fields.at.keys)) + (length (print chained (veiled_chained c.before.before.before.args.row.now c.in-Fields.at.chained)) + length (print numbers (numbers_from c.before.before.before.args.row.now c.in-Fields.at.numbers)))) ≡ length c.before.before.before.args.row.now = copy-long c.before.before.before.args.version c.before.before.before.args.row.now by c.in-Fields.at.paired c.in-Fields.at.keys c.in-Fields.at.chained c.in-Fields.at.numbers read in
+    omega (arith, long, c.if-out-n.false, c.veil_paired-keys_at.ensures.0, c.veil_keys-chained_at.ensures.0, c.veil_chained-numbers_at.ensures.0, wrote-long c.veil_paired-keys_at.ensures.1, wrote-long c.veil_keys-chained_at.ensures.1, wrote-long c.veil_chained-numbers_at.ensures.1)
 
 pub put_run-requires : goal.put_run-requires
 put_run-requires c =
-    (omega (arith, (let long : length (print paired (blank_of paired veil (paired_from (((c).before.before.before).args.row.now) (c.check-1.given.0.0).paired))) + (length (print keys (veiled_keys (c.check-1.given.0.0).keys)) + (length (print chained (veiled_chained (((c).before.before.before).args.row.now) (c.check-1.given.0.0).chained)) + length (print numbers (numbers_from (((c).before.before.before).args.row.now) (c.check-1.given.0.0).numbers)))) ≡ length (((c).before.before.before).args.row.now) = copy-long ((c).before.before.before).args.version (((c).before.before.before).args.row.now) ((let by : Bytes (((c).before.before.before).args.row.now) = typed (((c).before.before.before).args.row.now) c.shared_slice_known-1.given in by)) (c.check-1.given.0.0).paired (c.check-1.given.0.0).keys (c.check-1.given.0.0).chained (c.check-1.given.0.0).numbers ((let read : read_row (contact ((c).before.before.before).args.version) (((c).before.before.before).args.row.now) ≡ accepted (contact_from (((c).before.before.before).args.row.now) (c.check-1.given.0.0)) = learn (check_says (((c).before.before.before).args.row.now)) ((let says : let a = c.args in check_says a.row.now c.check_contact-check.result ≡ read_row (contact a.version) a.row.now = let a = c.args in check-says a.row.now (typed a.row.now c.shared_slice_known-1.given) a.version c.check_contact-check.ensures in says)) c.check-1.given.1 in read)) in long), c.if-out-n.false, c.veil_paired-keys_at.ensures.0, c.veil_keys-chained_at.ensures.0, c.veil_chained-numbers_at.ensures.0, wrote-long c.veil_paired-keys_at.ensures.1, wrote-long c.veil_keys-chained_at.ensures.1, wrote-long c.veil_chained-numbers_at.ensures.1), omega (arith, (let long : length (print paired (blank_of paired veil (paired_from (((c).before.before.before).args.row.now) (c.check-1.given.0.0).paired))) + (length (print keys (veiled_keys (c.check-1.given.0.0).keys)) + (length (print chained (veiled_chained (((c).before.before.before).args.row.now) (c.check-1.given.0.0).chained)) + length (print numbers (numbers_from (((c).before.before.before).args.row.now) (c.check-1.given.0.0).numbers)))) ≡ length (((c).before.before.before).args.row.now) = copy-long ((c).before.before.before).args.version (((c).before.before.before).args.row.now) ((let by : Bytes (((c).before.before.before).args.row.now) = typed (((c).before.before.before).args.row.now) c.shared_slice_known-1.given in by)) (c.check-1.given.0.0).paired (c.check-1.given.0.0).keys (c.check-1.given.0.0).chained (c.check-1.given.0.0).numbers ((let read : read_row (contact ((c).before.before.before).args.version) (((c).before.before.before).args.row.now) ≡ accepted (contact_from (((c).before.before.before).args.row.now) (c.check-1.given.0.0)) = learn (check_says (((c).before.before.before).args.row.now)) ((let says : let a = c.args in check_says a.row.now c.check_contact-check.result ≡ read_row (contact a.version) a.row.now = let a = c.args in check-says a.row.now (typed a.row.now c.shared_slice_known-1.given) a.version c.check_contact-check.ensures in says)) c.check-1.given.1 in read)) in long), c.if-out-n.false, c.veil_paired-keys_at.ensures.0, c.veil_keys-chained_at.ensures.0, c.veil_chained-numbers_at.ensures.0, wrote-long c.veil_paired-keys_at.ensures.1, wrote-long c.veil_keys-chained_at.ensures.1, wrote-long c.veil_chained-numbers_at.ensures.1))
+    let by : Bytes c.before.before.before.args.row.now = typed c.before.before.before.args.row.now c.type_inv.row in
+    let says : let a = c.args in check_says a.row.now c.check_contact-check.result ≡ read_row (contact a.version) a.row.now = let a = c.args in check-says a.row.now (typed a.row.now c.type_inv.row) a.version c.check_contact-check.ensures in
+    let read : read_row (contact c.before.before.before.args.version) c.before.before.before.args.row.now ≡ accepted (contact_from c.before.before.before.args.row.now c.in-Fields.at) = learn (check_says c.before.before.before.args.row.now) says c.in-Fields.is in
+    let long : length (print paired (blank_of paired veil (paired_from c.before.before.before.args.row.now c.in-Fields.at.paired))) + (length (print keys (veiled_keys c.in-Fields.at.keys)) + (length (print chained (veiled_chained c.before.before.before.args.row.now c.in-Fields.at.chained)) + length (print numbers (numbers_from c.before.before.before.args.row.now c.in-Fields.at.numbers)))) ≡ length c.before.before.before.args.row.now = copy-long c.before.before.before.args.version c.before.before.before.args.row.now by c.in-Fields.at.paired c.in-Fields.at.keys c.in-Fields.at.chained c.in-Fields.at.numbers read in
+    (omega (arith, long, c.if-out-n.false, c.veil_paired-keys_at.ensures.0, c.veil_keys-chained_at.ensures.0, c.veil_chained-numbers_at.ensures.0, wrote-long c.veil_paired-keys_at.ensures.1, wrote-long c.veil_keys-chained_at.ensures.1, wrote-long c.veil_chained-numbers_at.ensures.1), omega (arith, long, c.if-out-n.false, c.veil_paired-keys_at.ensures.0, c.veil_keys-chained_at.ensures.0, c.veil_chained-numbers_at.ensures.0, wrote-long c.veil_paired-keys_at.ensures.1, wrote-long c.veil_keys-chained_at.ensures.1, wrote-long c.veil_chained-numbers_at.ensures.1))
 
 pub returns : goal.returns
 returns c =
-    let a = ((c).before.before.before).args in
-    let here : c.veil_chained-numbers_at.result + length (print numbers (numbers_from a.row.now (c.check-1.given.0.0).numbers)) ≡ length a.row.now = omega (arith, (let long : length (print paired (blank_of paired veil (paired_from (((c).before.before.before).args.row.now) (c.check-1.given.0.0).paired))) + (length (print keys (veiled_keys (c.check-1.given.0.0).keys)) + (length (print chained (veiled_chained (((c).before.before.before).args.row.now) (c.check-1.given.0.0).chained)) + length (print numbers (numbers_from (((c).before.before.before).args.row.now) (c.check-1.given.0.0).numbers)))) ≡ length (((c).before.before.before).args.row.now) = copy-long ((c).before.before.before).args.version (((c).before.before.before).args.row.now) ((let by : Bytes (((c).before.before.before).args.row.now) = typed (((c).before.before.before).args.row.now) c.shared_slice_known-1.given in by)) (c.check-1.given.0.0).paired (c.check-1.given.0.0).keys (c.check-1.given.0.0).chained (c.check-1.given.0.0).numbers ((let read : read_row (contact ((c).before.before.before).args.version) (((c).before.before.before).args.row.now) ≡ accepted (contact_from (((c).before.before.before).args.row.now) (c.check-1.given.0.0)) = learn (check_says (((c).before.before.before).args.row.now)) ((let says : let a = c.args in check_says a.row.now c.check_contact-check.result ≡ read_row (contact a.version) a.row.now = let a = c.args in check-says a.row.now (typed a.row.now c.shared_slice_known-1.given) a.version c.check_contact-check.ensures in says)) c.check-1.given.1 in read)) in long), c.veil_paired-keys_at.ensures.0, c.veil_keys-chained_at.ensures.0, c.veil_chained-numbers_at.ensures.0) in
-    let w = c.veil_paired-keys_at.ensures.1 then (c.veil_keys-chained_at.ensures.1 then (c.veil_chained-numbers_at.ensures.1 then rw (numbers-run a.version a.row.now ((let by : Bytes (((c).before.before.before).args.row.now) = typed (((c).before.before.before).args.row.now) c.shared_slice_known-1.given in by)) (c.check-1.given.0.0).paired (c.check-1.given.0.0).keys (c.check-1.given.0.0).chained (c.check-1.given.0.0).numbers ((let read : read_row (contact ((c).before.before.before).args.version) (((c).before.before.before).args.row.now) ≡ accepted (contact_from (((c).before.before.before).args.row.now) (c.check-1.given.0.0)) = learn (check_says (((c).before.before.before).args.row.now)) ((let says : let a = c.args in check_says a.row.now c.check_contact-check.result ≡ read_row (contact a.version) a.row.now = let a = c.args in check-says a.row.now (typed a.row.now c.shared_slice_known-1.given) a.version c.check_contact-check.ensures in says)) c.check-1.given.1 in read)) _ here) c.put_run.ensures.1.before.check.given.0.0)) in
-    copy_stored (contact a.version) a.row.now a.out.now ((let read : read_row (contact ((c).before.before.before).args.version) (((c).before.before.before).args.row.now) ≡ accepted (contact_from (((c).before.before.before).args.row.now) (c.check-1.given.0.0)) = learn (check_says (((c).before.before.before).args.row.now)) ((let says : let a = c.args in check_says a.row.now c.check_contact-check.result ≡ read_row (contact a.version) a.row.now = let a = c.args in check-says a.row.now (typed a.row.now c.shared_slice_known-1.given) a.version c.check_contact-check.ensures in says)) c.check-1.given.1 in read)) c.if-out-n.false
-    (rw (← veiled-copy a.version a.row.now ((let by : Bytes (((c).before.before.before).args.row.now) = typed (((c).before.before.before).args.row.now) c.shared_slice_known-1.given in by)) (c.check-1.given.0.0).paired (c.check-1.given.0.0).keys (c.check-1.given.0.0).chained (c.check-1.given.0.0).numbers ((let read : read_row (contact ((c).before.before.before).args.version) (((c).before.before.before).args.row.now) ≡ accepted (contact_from (((c).before.before.before).args.row.now) (c.check-1.given.0.0)) = learn (check_says (((c).before.before.before).args.row.now)) ((let says : let a = c.args in check_says a.row.now c.check_contact-check.result ≡ read_row (contact a.version) a.row.now = let a = c.args in check-says a.row.now (typed a.row.now c.shared_slice_known-1.given) a.version c.check_contact-check.ensures in says)) c.check-1.given.1 in read))) w.before.check.given.0.0)
+    let by : Bytes c.before.before.before.args.row.now = typed c.before.before.before.args.row.now c.type_inv.row in
+    let says : let a = c.args in check_says a.row.now c.check_contact-check.result ≡ read_row (contact a.version) a.row.now = let a = c.args in check-says a.row.now (typed a.row.now c.type_inv.row) a.version c.check_contact-check.ensures in
+    let read : read_row (contact c.before.before.before.args.version) c.before.before.before.args.row.now ≡ accepted (contact_from c.before.before.before.args.row.now c.in-Fields.at) = learn (check_says c.before.before.before.args.row.now) says c.in-Fields.is in
+    let long : length (print paired (blank_of paired veil (paired_from c.before.before.before.args.row.now c.in-Fields.at.paired))) + (length (print keys (veiled_keys c.in-Fields.at.keys)) + (length (print chained (veiled_chained c.before.before.before.args.row.now c.in-Fields.at.chained)) + length (print numbers (numbers_from c.before.before.before.args.row.now c.in-Fields.at.numbers)))) ≡ length c.before.before.before.args.row.now = copy-long c.before.before.before.args.version c.before.before.before.args.row.now by c.in-Fields.at.paired c.in-Fields.at.keys c.in-Fields.at.chained c.in-Fields.at.numbers read in
+    let a = c.before.before.before.args in
+    let here : c.veil_chained-numbers_at.result + length (print numbers (numbers_from a.row.now c.in-Fields.at.numbers)) ≡ length a.row.now = omega (arith, long, c.veil_paired-keys_at.ensures.0, c.veil_keys-chained_at.ensures.0, c.veil_chained-numbers_at.ensures.0) in
+    let w = c.veil_paired-keys_at.ensures.1 then (c.veil_keys-chained_at.ensures.1 then (c.veil_chained-numbers_at.ensures.1 then rw (numbers-run a.version a.row.now by c.in-Fields.at.paired c.in-Fields.at.keys c.in-Fields.at.chained c.in-Fields.at.numbers read _ here) (let at : ContactAt = c.put_run.ensures.1.before.check.given.0.0 in at))) in
+    copy_stored (contact a.version) a.row.now a.out.now read c.if-out-n.false
+    (rw (← veiled-copy a.version a.row.now by c.in-Fields.at.paired c.in-Fields.at.keys c.in-Fields.at.chained c.in-Fields.at.numbers read) (let at : ContactAt = w.before.check.given.0.0 in at))

@@ -17,24 +17,28 @@ pub returns-in_default : goal.returns-in_default
 returns-in_default c =
     let a = c.args in
     let read = ap (λ (x : HeldRead). x.verdict) c.read_courier-read.ensures in
-    not-copied (courier a.version) (c.args.row.now) read c.enum_told-in_default-1.given.1 c.refusal.ensures a.out.now
+    not-copied (courier a.version) c.args.row.now read c.in_default.is c.refusal.ensures a.out.now
 
 pub overflow_sub-len : goal.overflow_sub-len
 overflow_sub-len c =
-    ((let found : Tail (c.args.row.now) c.read_courier-read.result.sealed_at = courier-tail c.args.version (c.args.row.now) (typed (c.args.row.now) c.shared_slice_known-1.given) c.read_courier-read.ensures c.enum_told-1.given.1 in found)).inside
+    let found : Tail c.args.row.now c.read_courier-read.result.sealed_at = courier-tail c.args.version c.args.row.now (typed c.args.row.now c.type_inv.row) c.read_courier-read.ensures c.in-Accepted.is in
+    found.inside
 
 pub slice_bounds-zeros-end : goal.slice_bounds-zeros-end
 slice_bounds-zeros-end c =
-    ((let found : Tail (c.args.row.now) c.read_courier-read.result.sealed_at = courier-tail c.args.version (c.args.row.now) (typed (c.args.row.now) c.shared_slice_known-1.given) c.read_courier-read.ensures c.enum_told-1.given.1 in found)).few
+    let found : Tail c.args.row.now c.read_courier-read.result.sealed_at = courier-tail c.args.version c.args.row.now (typed c.args.row.now c.type_inv.row) c.read_courier-read.ensures c.in-Accepted.is in
+    found.few
 
 pub slice_bounds-row-end : goal.slice_bounds-row-end
 slice_bounds-row-end c =
-    prefix-long ((let found : Tail (c.args.row.now) c.read_courier-read.result.sealed_at = courier-tail c.args.version (c.args.row.now) (typed (c.args.row.now) c.shared_slice_known-1.given) c.read_courier-read.ensures c.enum_told-1.given.1 in found))
+    let found : Tail c.args.row.now c.read_courier-read.result.sealed_at = courier-tail c.args.version c.args.row.now (typed c.args.row.now c.type_inv.row) c.read_courier-read.ensures c.in-Accepted.is in
+    prefix-long found
 
 pub returns : goal.returns
 returns c =
+    let found : Tail c.args.row.now c.read_courier-read.result.sealed_at = courier-tail c.args.version c.args.row.now (typed c.args.row.now c.type_inv.row) c.read_courier-read.ensures c.in-Accepted.is in
     let a = c.args in
-    let n = length (c.args.row.now) - c.read_courier-read.result.sealed_at in
+    let n = length c.args.row.now - c.read_courier-read.result.sealed_at in
     c.row.ensures
-    ∙ ap (λ (l : List ℕ). writes (courier 3) (image (blanked c.read_courier-read.result.held) l) a.out.now) (take-zeros n 4064 ((let found : Tail (c.args.row.now) c.read_courier-read.result.sealed_at = courier-tail c.args.version (c.args.row.now) (typed (c.args.row.now) c.shared_slice_known-1.given) c.read_courier-read.ensures c.enum_told-1.given.1 in found)).few)
-    ∙ courier-copied a.version (c.args.row.now) (typed (c.args.row.now) c.shared_slice_known-1.given) c.read_courier-read.ensures c.enum_told-1.given.1 a.out.now
+    ∙ ap (λ (l : List ℕ). writes (courier 3) (image (blanked c.read_courier-read.result.held) l) a.out.now) (take-zeros n 4064 found.few)
+    ∙ courier-copied a.version c.args.row.now (typed c.args.row.now c.type_inv.row) c.read_courier-read.ensures c.in-Accepted.is a.out.now

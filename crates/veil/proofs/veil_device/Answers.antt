@@ -11,10 +11,10 @@ pub returns-in_default : goal.returns-in_default
 returns-in_default c =
     let a = c.args in
     let read = ap (λ (x : DeviceRead). x.verdict) c.read_device-read.ensures in
-    not-copied (device a.version) a.row.now read c.enum_told-in_default-1.given.1 c.refusal.ensures a.out.now
+    not-copied (device a.version) a.row.now read c.in_default.is c.refusal.ensures a.out.now
 
 pub returns : goal.returns
 returns c =
     let a = c.args in
-    let by = typed a.row.now c.shared_slice_known-1.given in
-    c.row.ensures ∙ device-copied a.version a.row.now by c.read_device-read.ensures c.enum_told-1.given.1 a.out.now
+    let by = typed a.row.now c.type_inv.row in
+    c.row.ensures ∙ device-copied a.version a.row.now by c.read_device-read.ensures c.in-Accepted.is a.out.now

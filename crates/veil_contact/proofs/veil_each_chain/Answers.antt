@@ -11,7 +11,7 @@ use Rattle.veil_contact.proofs.veil_each_chain.Goals as goal
 
 pub loop-i-init : goal.loop-i-init
 loop-i-init c =
-    copying-start (group chain) chain-lawful c.args.row.now (typed c.args.row.now c.shared_slice_known-1.given) c.requires.0 c.args.out.now c.args.at
+    copying-start (group chain) chain-lawful c.args.row.now (typed c.args.row.now c.type_inv.row) c.requires.0 c.args.out.now c.args.at
 
 pub overflow_add-p : goal.overflow_add-p
 overflow_add-p c =

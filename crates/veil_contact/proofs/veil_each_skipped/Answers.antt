@@ -11,7 +11,7 @@ use Rattle.veil_contact.proofs.veil_each_skipped.Goals as goal
 
 pub loop-i-init : goal.loop-i-init
 loop-i-init c =
-    copying-start (group skipped) skipped-lawful c.args.row.now (typed c.args.row.now c.shared_slice_known-1.given) c.requires.0 c.args.out.now c.args.at
+    copying-start (group skipped) skipped-lawful c.args.row.now (typed c.args.row.now c.type_inv.row) c.requires.0 c.args.out.now c.args.at
 
 pub veil_key-q-requires : goal.veil_key-q-requires
 veil_key-q-requires c =

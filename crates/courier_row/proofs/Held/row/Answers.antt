@@ -16,22 +16,29 @@ use Rattle.courier_row.proofs.Held.row.Goals as goal
 
 pub returns-in_default : goal.returns-in_default
 returns-in_default c =
-    let told = c.enum_told-1.given.1 in
+    let row : List ℕ = image c.args.self c.args.sealed.now in
+    let told = c.in_default.is in
     ap (λ (r : Written). leaves r c.args.out.now) told
-    ∙ sym (writes-refused (courier 3) ((image c.args.self c.args.sealed.now)) c.args.out.now (learn written_says c.courier_size-size.ensures told))
+    ∙ sym (writes-refused (courier 3) row c.args.out.now (learn written_says c.courier_size-size.ensures told))
 
 pub returns-then-out-n : goal.returns-then-out-n
 returns-then-out-n c =
-    sym (writes_short (courier 3) ((image c.args.self c.args.sealed.now)) _ ((let size : asked (courier 3) ((image c.args.self c.args.sealed.now)) ≡ wrote c.size-1.given.0.0 = learn written_says c.courier_size-size.ensures c.size-1.given.1 in size)) c.if-out-n.true)
+    let row : List ℕ = image c.args.self c.args.sealed.now in
+    let size : asked (courier 3) row ≡ wrote c.in-Length.n = learn written_says c.courier_size-size.ensures c.in-Length.is in
+    sym (writes_short (courier 3) row _ size c.if-out-n.true)
 
 pub put_courier-requires : goal.put_courier-requires
 put_courier-requires c =
-    omega (arith, asked-length (courier 3) ((image c.args.self c.args.sealed.now)) ((let size : asked (courier 3) ((image c.args.self c.args.sealed.now)) ≡ wrote c.size-1.given.0.0 = learn written_says c.courier_size-size.ensures c.size-1.given.1 in size)))
+    let row : List ℕ = image c.args.self c.args.sealed.now in
+    let size : asked (courier 3) row ≡ wrote c.in-Length.n = learn written_says c.courier_size-size.ensures c.in-Length.is in
+    omega (arith, asked-length (courier 3) row size)
 
 pub returns : goal.returns
 returns c =
+    let row : List ℕ = image c.args.self c.args.sealed.now in
+    let size : asked (courier 3) row ≡ wrote c.in-Length.n = learn written_says c.courier_size-size.ensures c.in-Length.is in
     let out = c.args.out.now in
-    let n = asked-length (courier 3) ((image c.args.self c.args.sealed.now)) ((let size : asked (courier 3) ((image c.args.self c.args.sealed.now)) ≡ wrote c.size-1.given.0.0 = learn written_says c.courier_size-size.ensures c.size-1.given.1 in size)) in
-    let now-is = c.put_courier.ensures.1.now-is ∙ put_front out ((image c.args.self c.args.sealed.now)) (omega arith) in
-    ap (λ (l : List ℕ). leaves (Length c.size-1.given.0.0) l) now-is
-    ∙ sym (writes-row (courier 3) ((image c.args.self c.args.sealed.now)) out ((let size : asked (courier 3) ((image c.args.self c.args.sealed.now)) ≡ wrote c.size-1.given.0.0 = learn written_says c.courier_size-size.ensures c.size-1.given.1 in size)) c.if-out-n.false)
+    let n = asked-length (courier 3) row size in
+    let now-is = c.put_courier.ensures.1.now-is ∙ put_front out row (omega arith) in
+    ap (λ (l : List ℕ). leaves (Length c.in-Length.n) l) now-is
+    ∙ sym (writes-row (courier 3) row out size c.if-out-n.false)

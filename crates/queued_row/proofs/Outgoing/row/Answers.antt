@@ -16,22 +16,25 @@ use Rattle.queued_row.proofs.Outgoing.row.Goals as goal
 
 pub returns-in_default : goal.returns-in_default
 returns-in_default c =
-    let told = c.enum_told-1.given.1 in
+    let told = c.in_default.is in
     ap (λ (r : Written). leaves r c.args.out.now) told
     ∙ sym (writes-refused (queued 3) ((image c.args.self c.args.sealed.now)) c.args.out.now (learn written_says c.queued_size-size.ensures told))
 
 pub returns-then-out-n : goal.returns-then-out-n
 returns-then-out-n c =
-    sym (writes_short (queued 3) ((image c.args.self c.args.sealed.now)) _ ((let size : asked (queued 3) ((image c.args.self c.args.sealed.now)) ≡ wrote c.size-1.given.0.0 = learn written_says c.queued_size-size.ensures c.size-1.given.1 in size)) c.if-out-n.true)
+    let size : asked (queued 3) ((image c.args.self c.args.sealed.now)) ≡ wrote c.in-Length.n = learn written_says c.queued_size-size.ensures c.in-Length.is in
+    sym (writes_short (queued 3) ((image c.args.self c.args.sealed.now)) _ size c.if-out-n.true)
 
 pub put_queued-requires : goal.put_queued-requires
 put_queued-requires c =
-    omega (arith, asked-length (queued 3) ((image c.args.self c.args.sealed.now)) ((let size : asked (queued 3) ((image c.args.self c.args.sealed.now)) ≡ wrote c.size-1.given.0.0 = learn written_says c.queued_size-size.ensures c.size-1.given.1 in size)))
+    let size : asked (queued 3) ((image c.args.self c.args.sealed.now)) ≡ wrote c.in-Length.n = learn written_says c.queued_size-size.ensures c.in-Length.is in
+    omega (arith, asked-length (queued 3) ((image c.args.self c.args.sealed.now)) size)
 
 pub returns : goal.returns
 returns c =
+    let size : asked (queued 3) ((image c.args.self c.args.sealed.now)) ≡ wrote c.in-Length.n = learn written_says c.queued_size-size.ensures c.in-Length.is in
     let out = c.args.out.now in
-    let n = asked-length (queued 3) ((image c.args.self c.args.sealed.now)) ((let size : asked (queued 3) ((image c.args.self c.args.sealed.now)) ≡ wrote c.size-1.given.0.0 = learn written_says c.queued_size-size.ensures c.size-1.given.1 in size)) in
+    let n = asked-length (queued 3) ((image c.args.self c.args.sealed.now)) size in
     let now-is = c.put_queued.ensures.1.now-is ∙ put_front out ((image c.args.self c.args.sealed.now)) (omega arith) in
-    ap (λ (l : List ℕ). leaves (Length c.size-1.given.0.0) l) now-is
-    ∙ sym (writes-row (queued 3) ((image c.args.self c.args.sealed.now)) out ((let size : asked (queued 3) ((image c.args.self c.args.sealed.now)) ≡ wrote c.size-1.given.0.0 = learn written_says c.queued_size-size.ensures c.size-1.given.1 in size)) c.if-out-n.false)
+    ap (λ (l : List ℕ). leaves (Length c.in-Length.n) l) now-is
+    ∙ sym (writes-row (queued 3) ((image c.args.self c.args.sealed.now)) out size c.if-out-n.false)
