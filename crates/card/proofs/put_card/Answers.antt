@@ -37,21 +37,21 @@ pub returns-then-len-at : goal.returns-then-len-at
 returns-then-len-at c =
     let a = c.args in
     let room = length a.out.now - a.at in
-    not-stored a.card c.type-inv.ensures room a.out.now a.at (none-fits a.card c.type-inv.ensures room (omega arith))
+    not-stored a.card c.typed.ensures room a.out.now a.at (none-fits a.card c.typed.ensures room (omega arith))
 
 pub returns-then-not-card_fits : goal.returns-then-not-card_fits
 returns-then-not-card_fits c =
     let a = c.args in
-    not-stored a.card c.type-inv.ensures (length a.out.now - a.at) a.out.now a.at (sym c.card_fits.ensures ∙ not-true _ c.if-not-card_fits.true)
+    not-stored a.card c.typed.ensures (length a.out.now - a.at) a.out.now a.at (sym c.card_fits.ensures ∙ c.if-not-card_fits.true)
 
 pub put_row-requires : goal.put_row-requires
 put_row-requires c =
     let a = c.args in
-    let both = and_both _ _ (sym c.card_fits.ensures ∙ not-false _ c.if-not-card_fits.false) in
+    let both = and_both _ _ (sym c.card_fits.ensures ∙ c.if-not-card_fits.false) in
     let room : length_of a.card.caps a.card.name_len ≤ length a.out.now - a.at = leb-true _ _ both.1 in
-    (leb-true _ _ both.0, omega (arith, length-image a.card c.type-inv.ensures, c.if-len-at.false))
+    (leb-true _ _ both.0, omega (arith, length-image a.card c.typed.ensures, c.if-len-at.false))
 
 pub returns : goal.returns
 returns c =
     let a = c.args in
-    whole-stored a.card c.type-inv.ensures (length a.out.now - a.at) (sym c.card_fits.ensures ∙ not-false _ c.if-not-card_fits.false) c.put_row.ensures.1
+    whole-stored a.card c.typed.ensures (length a.out.now - a.at) (sym c.card_fits.ensures ∙ c.if-not-card_fits.false) c.put_row.ensures.1

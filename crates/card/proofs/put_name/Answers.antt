@@ -1,4 +1,5 @@
 -- `card::put_name` meets its contract: one writer behind another.
+use Rattle.std.proofs.Common.{[]}
 use Prim.Native.Nat.{ℕ, ◌+◌}
 use mathlib.Core.List.{List, ◌∷◌, ◌++◌, append-nil}
 use mathlib.Core.Path.{◌≡◌}
@@ -31,22 +32,22 @@ module _ (c : Card) {out m : List ℕ} {at p : ℕ} where
   without-key clear w = rw (clear, append-nil) (w.next-is, w)
 
 pub put_byte-name_at-requires : goal.put_byte-name_at-requires
-put_byte-name_at-requires c = omega (arith, length-name-part c.args.card c.type-inv.ensures c.requires.0)
+put_byte-name_at-requires c = omega (arith, length-name-part c.args.card c.typed.ensures c.requires.0)
 
 pub put_run-key_at-requires : goal.put_run-key_at-requires
 put_run-key_at-requires c =
-    let long = length-name-part c.args.card c.type-inv.ensures c.requires.0 in
-    (omega arith, omega (arith, c.type-inv.ensures.name))
+    let long = length-name-part c.args.card c.typed.ensures c.requires.0 in
+    (omega arith, omega (arith, c.typed.ensures.name))
 
 pub put_run-requires : goal.put_run-requires
 put_run-requires c =
-    let long = length-name-part c.args.card c.type-inv.ensures c.requires.0 in
-    let key : length (cond (kci c.args.card.caps) c.args.card.static_ek []) ≡ 1184 = rw (eq-eqb _ _ c.if-card-eq1.true) c.type-inv.ensures.static_ek in
-    (omega (arith, wrote-long c.put_byte-name_at.ensures.1, wrote-long c.put_run-key_at.ensures.1, c.put_byte-name_at.ensures.0, c.put_run-key_at.ensures.0, c.requires.1), omega (arith, c.type-inv.ensures.static_ek))
+    let long = length-name-part c.args.card c.typed.ensures c.requires.0 in
+    let key : length (cond (kci c.args.card.caps) c.args.card.static_ek []) ≡ 1184 = rw (eq-eqb _ _ c.if-card-eq1.true) c.typed.ensures.static_ek in
+    (omega (arith, wrote-long c.put_byte-name_at.ensures.1, wrote-long c.put_run-key_at.ensures.1, c.put_byte-name_at.ensures.0, c.put_run-key_at.ensures.0, c.requires.1), omega (arith, c.typed.ensures.static_ek))
 
 pub returns-then-card-eq1 : goal.returns-then-card-eq1
 returns-then-card-eq1 c =
-    with-key c.args.card c.type-inv.ensures (eq-eqb _ _ c.if-card-eq1.true) (c.put_byte-name_at.ensures.1 then (c.put_run-key_at.ensures.1 then c.put_run.ensures.1))
+    with-key c.args.card c.typed.ensures (eq-eqb _ _ c.if-card-eq1.true) (c.put_byte-name_at.ensures.1 then (c.put_run-key_at.ensures.1 then c.put_run.ensures.1))
 
 pub returns : goal.returns
 returns c =

@@ -48,7 +48,7 @@ absent caps input at clear inside =
 pub returns-then-caps-eq1 : goal.returns-then-caps-eq1
 returns-then-caps-eq1 c =
     let a = c.args in
-    there a.caps a.input.now a.at (eq-eqb _ _ c.if-caps-eq1.true) (typed a.input.now c.shared_slice_known-1.given) c.requires c.run_at.result c.run_at.ensures.0 c.run_at.ensures.1
+    there a.caps a.input.now a.at (eq-eqb _ _ c.if-caps-eq1.true) (typed a.input.now c.type_inv.input) c.requires c.run_at.result c.run_at.ensures.0 c.run_at.ensures.1
 
 pub returns : goal.returns
 returns c = let a = c.args in absent a.caps a.input.now a.at (ne_eqb _ _ c.if-caps-eq1.false) c.requires

@@ -7,11 +7,11 @@ use Rattle.card.proofs.Card.decode.Goals as goal
 
 pub returns-in_default : goal.returns-in_default
 returns-in_default c =
-    let told = c.enum_told-1.given.1 in
-    rw (learn (check_says _) c.check_card-check.ensures.0 told, c.refusal.ensures ∙ ap check_refusal told, c.zero.ensures)
+    let told = c.in_default.is in
+    rw (learn (check_says c.args.input.now) c.check_card-check.ensures.0 told, c.refusal.ensures ∙ ap check_refusal told, c.zero.ensures)
 
 pub returns : goal.returns
 returns c =
     let found = c.check_card-check.ensures in
-    let placed = subst (Placed _) c.check-1.given.1 found.1 in
-    rw (learn (check_says _) found.0 c.check-1.given.1, c.card_from.ensures, card-placed _ _ placed)
+    let placed = subst (Placed c.args.input.now) c.in-Fields.is found.1 in
+    rw (learn (check_says c.args.input.now) found.0 c.in-Fields.is, c.card_from.ensures, card-placed c.args.input.now c.in-Fields.at placed)

@@ -17,20 +17,20 @@ use Rattle.card.proofs.Card.encode.Goals as goal
 
 pub returns-in_default : goal.returns-in_default
 returns-in_default c =
-    let told = c.enum_told-1.given.1 in
+    let told = c.in_default.is in
     ap (λ (r : Written). leaves r c.args.out.now) told ∙ sym (writes-refused card_row (image c.args.self) c.args.out.now (learn written_says c.card_size-size.ensures told))
 
 pub returns-then-out-n : goal.returns-then-out-n
 returns-then-out-n c =
-    sym (writes_short card_row (image (c.args.self)) _ ((let size : asked card_row (image (c.args.self)) ≡ wrote c.size-1.given.0.0 = learn written_says c.card_size-size.ensures c.size-1.given.1 in size)) c.if-out-n.true)
+    sym (writes_short card_row (image (c.args.self)) _ ((let size : asked card_row (image (c.args.self)) ≡ wrote c.in-Length.n = learn written_says c.card_size-size.ensures c.in-Length.is in size)) c.if-out-n.true)
 
 pub put_row-requires : goal.put_row-requires
 put_row-requires c =
-    (asked-few (c.args.self) c.type-inv.ensures ((let size : asked card_row (image (c.args.self)) ≡ wrote c.size-1.given.0.0 = learn written_says c.card_size-size.ensures c.size-1.given.1 in size)), omega (arith, asked-length card_row (image (c.args.self)) ((let size : asked card_row (image (c.args.self)) ≡ wrote c.size-1.given.0.0 = learn written_says c.card_size-size.ensures c.size-1.given.1 in size))))
+    (asked-few (c.args.self) c.typed.ensures ((let size : asked card_row (image (c.args.self)) ≡ wrote c.in-Length.n = learn written_says c.card_size-size.ensures c.in-Length.is in size)), omega (arith, asked-length card_row (image (c.args.self)) ((let size : asked card_row (image (c.args.self)) ≡ wrote c.in-Length.n = learn written_says c.card_size-size.ensures c.in-Length.is in size))))
 
 pub returns : goal.returns
 returns c =
     let out = c.args.out.now in
-    let n = asked-length card_row (image (c.args.self)) ((let size : asked card_row (image (c.args.self)) ≡ wrote c.size-1.given.0.0 = learn written_says c.card_size-size.ensures c.size-1.given.1 in size)) in
+    let n = asked-length card_row (image (c.args.self)) ((let size : asked card_row (image (c.args.self)) ≡ wrote c.in-Length.n = learn written_says c.card_size-size.ensures c.in-Length.is in size)) in
     let now-is = c.put_row.ensures.1.now-is ∙ put_front out (image (c.args.self)) (omega arith) in
-    ap (λ (l : List ℕ). leaves (Length c.size-1.given.0.0) l) now-is ∙ sym (writes-row card_row (image (c.args.self)) out ((let size : asked card_row (image (c.args.self)) ≡ wrote c.size-1.given.0.0 = learn written_says c.card_size-size.ensures c.size-1.given.1 in size)) c.if-out-n.false)
+    ap (λ (l : List ℕ). leaves (Length c.in-Length.n) l) now-is ∙ sym (writes-row card_row (image (c.args.self)) out ((let size : asked card_row (image (c.args.self)) ≡ wrote c.in-Length.n = learn written_says c.card_size-size.ensures c.in-Length.is in size)) c.if-out-n.false)
