@@ -8,8 +8,8 @@ use Rattle.device_row.proofs.device_size.Goals as goal
 
 pub returns-in_default : goal.returns-in_default
 returns-in_default c =
-    sym (asked-no c.args.device c.type-inv.ensures (config-no _ _ _ (learn config_says c.new.ensures c.enum_told-in_default-1.given.1)))
+    sym (asked-no c.args.device c.typed.ensures (config-no _ _ _ (learn config_says c.new.ensures c.in_default.is)))
 
 pub returns : goal.returns
 returns c =
-    sym (asked-yes c.args.device c.type-inv.ensures (config-yes _ _ _ (learn config_says c.new.ensures c.enum_told-1.given.1)).0)
+    sym (asked-yes c.args.device c.typed.ensures (config-yes _ _ _ (learn config_says c.new.ensures c.in-Config.is)).0)

@@ -8,35 +8,39 @@ use Rattle.device_row.proofs.Image.{image-is, length-image}
 use Rattle.device_row.proofs.put_device.Goals as goal
 
 pub put_be-beacon_key_at-requires : goal.put_be-beacon_key_at-requires
-put_be-beacon_key_at-requires c = omega (arith, length-image c.args.device c.type-inv.ensures)
+put_be-beacon_key_at-requires c = omega (arith, length-image c.args.device c.typed.ensures)
 
 pub put_32-next_contact_at-requires : goal.put_32-next_contact_at-requires
 put_32-next_contact_at-requires c =
-    omega (arith, (let long : length (image (((c).before.before).args.device)) ≡ 49 = length-image (((c).before.before).args.device) c.type-inv.ensures in long), wrote-long c.put_be-beacon_key_at.ensures.1, c.put_be-beacon_key_at.ensures.0, ((c).before.before).requires)
+    let long : length (image c.args.device) ≡ 49 = length-image c.args.device c.typed.ensures in
+    omega (arith, long, wrote-long c.put_be-beacon_key_at.ensures.1, c.put_be-beacon_key_at.ensures.0, c.requires)
 
 pub put_be-read_receipts_at-requires : goal.put_be-read_receipts_at-requires
 put_be-read_receipts_at-requires c =
-    omega (arith, (let long : length (image (((c).before.before).args.device)) ≡ 49 = length-image (((c).before.before).args.device) c.type-inv.ensures in long), wrote-long c.put_be-beacon_key_at.ensures.1, wrote-long c.put_32-next_contact_at.ensures.1, c.put_be-beacon_key_at.ensures.0, c.put_32-next_contact_at.ensures.0, ((c).before.before).pre)
+    let long : length (image c.args.device) ≡ 49 = length-image c.args.device c.typed.ensures in
+    omega (arith, long, wrote-long c.put_be-beacon_key_at.ensures.1, wrote-long c.put_32-next_contact_at.ensures.1, c.put_be-beacon_key_at.ensures.0, c.put_32-next_contact_at.ensures.0, c.requires)
 
 pub put_byte-courier_at-requires : goal.put_byte-courier_at-requires
 put_byte-courier_at-requires c =
+    let long : length (image c.args.device) ≡ 49 = length-image c.args.device c.typed.ensures in
     omega (
       arith,
-      (let long : length (image (((c).before.before).args.device)) ≡ 49 = length-image (((c).before.before).args.device) c.type-inv.ensures in long),
+      long,
       wrote-long c.put_be-beacon_key_at.ensures.1,
       wrote-long c.put_32-next_contact_at.ensures.1,
       wrote-long c.put_be-read_receipts_at.ensures.1,
       c.put_be-beacon_key_at.ensures.0,
       c.put_32-next_contact_at.ensures.0,
       c.put_be-read_receipts_at.ensures.0,
-      ((c).before.before).pre,
+      c.requires,
     )
 
 pub put_courier-requires : goal.put_courier-requires
 put_courier-requires c =
+    let long : length (image c.args.device) ≡ 49 = length-image c.args.device c.typed.ensures in
     omega (
       arith,
-      (let long : length (image (((c).before.before).args.device)) ≡ 49 = length-image (((c).before.before).args.device) c.type-inv.ensures in long),
+      long,
       wrote-long c.put_be-beacon_key_at.ensures.1,
       wrote-long c.put_32-next_contact_at.ensures.1,
       wrote-long c.put_be-read_receipts_at.ensures.1,
@@ -45,10 +49,10 @@ put_courier-requires c =
       c.put_32-next_contact_at.ensures.0,
       c.put_be-read_receipts_at.ensures.0,
       c.put_byte-courier_at.ensures.0,
-      ((c).before.before).pre,
+      c.requires,
     )
 
 pub returns : goal.returns
 returns c =
     let w = c.put_be-beacon_key_at.ensures.1 then (c.put_32-next_contact_at.ensures.1 then (c.put_be-read_receipts_at.ensures.1 then (c.put_byte-courier_at.ensures.1 then c.put_courier.ensures.1))) in
-    rw (image-is (((c).before.before).args.device) c.typed.ensures, ← c.flag_byte.ensures) (w.next-is, w)
+    rw (image-is c.args.device c.typed.ensures, ← c.flag_byte.ensures) (w.next-is, w)

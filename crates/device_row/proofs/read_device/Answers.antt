@@ -6,11 +6,11 @@ use Rattle.device_row.proofs.read_device.Goals as goal
 
 pub returns-in_default : goal.returns-in_default
 returns-in_default c =
-    let told = c.enum_told-1.given.1 in
-    rw (learn (check_says _) c.check_device-check.ensures.0 told, c.refusal.ensures ∙ ap check_refusal told, c.zero.ensures)
+    let told = c.in_default.is in
+    rw (learn (check_says c.args.row.now) c.check_device-check.ensures.0 told, c.refusal.ensures ∙ ap check_refusal told, c.zero.ensures)
 
 pub device_from-requires : goal.device_from-requires
-device_from-requires c = subst (Placed _) c.check-1.given.1 c.check_device-check.ensures.1
+device_from-requires c = subst (Placed c.args.row.now) c.in-Fields.is c.check_device-check.ensures.1
 
 pub returns : goal.returns
-returns c = rw (learn (check_says _) c.check_device-check.ensures.0 c.check-1.given.1, c.device_from.ensures)
+returns c = rw (learn (check_says c.args.row.now) c.check_device-check.ensures.0 c.in-Fields.is, c.device_from.ensures)

@@ -16,23 +16,26 @@ use Rattle.device_row.proofs.Device.row.Goals as goal
 
 pub returns-in_default : goal.returns-in_default
 returns-in_default c =
-    let told = c.enum_told-1.given.1 in
+    let told = c.in_default.is in
     let out = c.args.out.now in
     let no = learn written_says c.device_size-size.ensures told in
     ap (λ (r : Written). leaves r out) told ∙ sym (writes-refused (device 3) (image c.args.self) out no)
 
 pub returns-then-out-n : goal.returns-then-out-n
 returns-then-out-n c =
-    sym (writes_short (device 3) (image (c.args.self)) _ ((let size : asked (device 3) (image (c.args.self)) ≡ wrote c.size-1.given.0.0 = learn written_says c.device_size-size.ensures c.size-1.given.1 in size)) c.if-out-n.true)
+    let size : asked (device 3) (image c.args.self) ≡ wrote c.in-Length.n = learn written_says c.device_size-size.ensures c.in-Length.is in
+    sym (writes_short (device 3) (image c.args.self) _ size c.if-out-n.true)
 
 pub put_device-requires : goal.put_device-requires
 put_device-requires c =
-    omega (arith, asked-length (device 3) (image (c.args.self)) ((let size : asked (device 3) (image (c.args.self)) ≡ wrote c.size-1.given.0.0 = learn written_says c.device_size-size.ensures c.size-1.given.1 in size)))
+    let size : asked (device 3) (image c.args.self) ≡ wrote c.in-Length.n = learn written_says c.device_size-size.ensures c.in-Length.is in
+    omega (arith, asked-length (device 3) (image c.args.self) size)
 
 pub returns : goal.returns
 returns c =
+    let size : asked (device 3) (image c.args.self) ≡ wrote c.in-Length.n = learn written_says c.device_size-size.ensures c.in-Length.is in
     let out = c.args.out.now in
-    let n = asked-length (device 3) (image (c.args.self)) ((let size : asked (device 3) (image (c.args.self)) ≡ wrote c.size-1.given.0.0 = learn written_says c.device_size-size.ensures c.size-1.given.1 in size)) in
-    let now-is = c.put_device.ensures.1.now-is ∙ put_front out (image (c.args.self)) (omega arith) in
-    ap (λ (l : List ℕ). leaves (Length c.size-1.given.0.0) l) now-is
-    ∙ sym (writes-row (device 3) (image (c.args.self)) out ((let size : asked (device 3) (image (c.args.self)) ≡ wrote c.size-1.given.0.0 = learn written_says c.device_size-size.ensures c.size-1.given.1 in size)) c.if-out-n.false)
+    let n = asked-length (device 3) (image c.args.self) size in
+    let now-is = c.put_device.ensures.1.now-is ∙ put_front out (image c.args.self) (omega arith) in
+    ap (λ (l : List ℕ). leaves (Length c.in-Length.n) l) now-is
+    ∙ sym (writes-row (device 3) (image c.args.self) out size c.if-out-n.false)
