@@ -11,7 +11,7 @@ use Prim.Native.Nat.{ℕ, ◌<◌, ◌^◌}
 use mathlib.Core.List.{List, [], ◌∷◌}
 use lib.Dec.{T as Holds}
 use seplogic.Ra.Ura.{Ura}
-use mir.Syntax.{Lifetime, named, w64}
+use mir.Syntax.{Lifetime, named, w8, w64}
 use mir.Val.{Val, WT, has_ty}
 use base.Fml.{Lft, Fml, fsep}
 use types.Logic.{Logic}
@@ -19,6 +19,7 @@ use types.Kit.{Item, ‵, ◌⊛◌, given, Goal, Step, step, ◌$◌, move, dro
 use denote.RattleType.{RattleType}
 use denote.Laws.{Is, Tells}
 use denote.Builtin.{u8}
+use denote.Plain.{uint_row_laws}
 use denote.Ref.{Bor, NamedLft}
 use denote.Slice.{ShrSlice, shr_slice_vals}
 use denote.Steps.{nothing}
@@ -71,4 +72,4 @@ module _ {M : Type 1} {𝓤 : Ura M} {𝓛 : Logic 𝓤} {K : Type 0} {Γ : List
   -- the entry n of the context is what the row owns
   pub lends-at : K → (n : ℕ) (κ : Lft) (row : Bor (List ℕ)) (at : ℕ) → at < 2 ^ 64 → nth 𝓛 n Γ ≡ ‵ ((ShrSlice (named 0) κ u8).own_val row (shr_slice_vals row)) → {P : Fml}
       → Step K 𝓛 (‵ (fsep ((Cursor κ).own_val (reader_at row at) (vals (reader_at row at))) P) ∷ Γ) G (‵ P ∷ Γ) G
-  lends-at t n κ row at fits e = step (λ s. lends t n (named 0) κ u8 row e $ fsplit t $ shuts t κ row at fits $ fjoin t $ s)
+  lends-at t n κ row at fits e = step (λ s. lends t n (named 0) κ u8 (uint_row_laws w8) row e $ fsplit t $ shuts t κ row at fits $ fjoin t $ s)

@@ -5,7 +5,7 @@ use mathlib.Core.Path.{◌≡◌, refl}
 use Prim.Native.Nat.{ℕ}
 use mathlib.Core.List.{List, [], ◌∷◌}
 use seplogic.Ra.Ura.{Ura}
-use mir.Syntax.{Name, Ty, Fn, named, erased, imm, w8, w64, ty_int, ty_ref, local as localᴹ, value_local, seq, assign, call, return, place, field, copy, rv_opd}
+use mir.Syntax.{Callee, Ty, Fn, named, erased, imm, w8, w64, ty_int, ty_ref, local as localᴹ, value_local, seq, assign, call, return, place, field, copy, rv_opd}
 use mir.Val.{vint}
 use base.Logic.{ent, emp, id⊢, via, fst∗}
 use base.Fml.{Lft, Share, ftrue, flft}
@@ -22,6 +22,7 @@ use sound.WpLaws.{FmC, fm_of, WpFn-mono}
 use denote.RattleType.{RattleType, owns}
 use denote.Laws.{Is}
 use denote.Builtin.{u8, usize, SliceRefOf}
+use denote.Plain.{uint_row_laws}
 use denote.Signature.{plain, named_lft}
 use denote.Slice.{slice_ty, ShrSlice, shr_slice_vals}
 use denote.Steps.{owned, nothing}
@@ -43,10 +44,12 @@ use Rattle.reader.proofs.Reader.TheLaws as laws
 use Rattle.reader.proofs.Owned.{Cursor, vals, tells, typed, opens}
 
 -- ---- the function's code: f called on the struct's two fields
-abbrev pub thin : Name → Ty → Fn
+abbrev pub thin : Callee → Ty → Fn
 thin f τ = record {
   lifetimes = 1;
   outlives = [];
+  ty_params = [];
+  givens = 0;
   params = 1;
   locals = localᴹ τ value_local ∷ localᴹ (laws.mir (named 0)) value_local ∷ localᴹ (slice_ty (ty_ref erased imm (ty_int w8))) value_local ∷ localᴹ (ty_int w64) value_local ∷ [];
   body =
@@ -77,7 +80,7 @@ module _ (R : RattleType) where
   stayed = drops method.signature.params method.kept
 
 -- ---- the walk, for an answer that is a declared enum and owns nothing
-module _ (T : enum.Declared) (L : enum_laws.Laws T) (P : Plainss (enum.variants T)) (few : Few (enum.shape T)) (f : Name) (Says : List ℕ → ℕ → T.D → Type 0) where
+module _ (T : enum.Declared) (L : enum_laws.Laws T) (P : Plainss (enum.variants T)) (few : Few (enum.shape T)) (f : Callee) (Says : List ℕ → ℕ → T.D → Type 0) where
   abbrev R : RattleType
   R = enum.row T
 
@@ -90,8 +93,8 @@ module _ (T : enum.Declared) (L : enum_laws.Laws T) (P : Plainss (enum.variants 
     abbrev held : Held 𝓛 R
     held = of-enum 𝓛 T L P few
 
-    abbrev Callee : Contract 𝓤
-    Callee = triple_of 𝓛 (callee R).signature (closing 𝓛 (callee R) (callee-clauses R Says 𝓤))
+    abbrev Its : Contract 𝓤
+    Its = triple_of 𝓛 (callee R).signature (closing 𝓛 (callee R) (callee-clauses R Says 𝓤))
 
     abbrev This : Contract 𝓤
     This = walk_of 𝓛 (method R) (stayed R) (method-clauses R Says 𝓤)
@@ -100,7 +103,7 @@ module _ (T : enum.Declared) (L : enum_laws.Laws T) (P : Plainss (enum.variants 
       abbrev bound : This.Ghost
       bound = (((κ, tt), (q, tt), tt, (d, tt), (vals d, tt)), tt)
 
-      abbrev to : Callee.Ghost
+      abbrev to : Its.Ghost
       to = (((κ, tt), (q, tt), tt, (d.row, (d.at, tt)), (shr_slice_vals d.row, (vint w64 d.at ∷ [], tt))), tt)
 
       -- what the callee says of its answer
@@ -113,7 +116,7 @@ module _ (T : enum.Declared) (L : enum_laws.Laws T) (P : Plainss (enum.variants 
           suffices ! _ (ends_at 𝓛 (method R) (stayed R) (method-clauses R Says 𝓤) bound (held.val r) r (tt, tt) (tt, tt)) $ says ! e $
           nothing ! $ move ! (1 ∷ 0 ∷ []) $ join ! $ frame ! $ drop ! $ nothing ! $ none ! $ frame ! $ owned ! R (Is R) held.makes r _ lies $ done !
 
-      walk : (C : Calls 𝓤 H) (Λ : Loops 𝓤 H) → FmC 𝓤 H 𝓛.laws C → Triple 𝓤 (C f) Callee
+      walk : (C : Calls 𝓤 H) (Λ : Loops 𝓤 H) → FmC 𝓤 H 𝓛.laws C → Triple 𝓤 (C f) Its
           → ent 𝓤 (on_entry 𝓛 (method R).signature (κ, tt) (q, tt) (d, tt) (vals d, tt)) (WpFn 𝓤 H C Λ code (vals d) (This.post bound))
       walk C Λ fm cites =
           let reader-typed = typed 𝓛 (named 0) κ d in-reader in
@@ -123,16 +126,16 @@ module _ (T : enum.Declared) (L : enum_laws.Laws T) (P : Plainss (enum.variants 
           assigns ! (of_opd ! (load ! (from ! (fld ! refl (stop !))) (look_in ! 4 (sub ! 0 refl (whole !))))) (into !) (init ! 2 refl (tt, reader-typed.1.0)) $
           assigns ! (of_opd ! (load ! (from ! (fld ! refl (stop !))) (look_in ! 4 (sub ! 1 refl (whole !))))) (into !) (init ! 0 refl (tt, reader-typed.1.1.0)) $
           -- [token; what the row owns; _3; …; _0; …]: _0 = f(_2, _3)
-          move ! (8 ∷ 9 ∷ []) $ move ! (1 ∷ []) $ opens ! κ d $ move ! (1 ∷ []) $ nothing ! $ plus ! (number 𝓛 w64) d.at (refl, reader-typed.1.1.0.fits) $ lends ! 1 (named 0) κ u8 d.row refl $ move ! (1 ∷ 0 ∷ []) $
+          move ! (8 ∷ 9 ∷ []) $ move ! (1 ∷ []) $ opens ! κ d $ move ! (1 ∷ []) $ nothing ! $ plus ! (number 𝓛 w64) d.at (refl, reader-typed.1.1.0.fits) $ lends ! 1 (named 0) κ u8 (uint_row_laws w8) d.row refl $ move ! (1 ∷ 0 ∷ []) $
           calls-held ! fm (callee R) (callee-clauses R Says 𝓤) cites to (id⊢ 𝓤 _) held {φ = Said} (λ r ws. id⊢ 𝓤 _) (and_then ! (local ! (look ! 4 refl)) (and_then ! (local ! (look ! 2 refl)) (no_more !))) (λ r e lies.
           land ! (into !) (init ! 8 refl (held.lawful.typed r _ lies).0) $
           returns ! (look ! 8 refl) $ gone ! 8 refl refl $ gone ! 6 refl refl $ gone ! 4 refl refl $ gone ! 2 refl refl $ free0 ! $ by ! (exits r lies e))))))
 
-    thin-walks : (C : Calls 𝓤 H) (Λ : Loops 𝓤 H) → FmC 𝓤 H 𝓛.laws C → Triple 𝓤 (C f) Callee → Walks 𝓛 (method R) (stayed R) (WpFn 𝓤 H C Λ code) (method-clauses R Says 𝓤)
+    thin-walks : (C : Calls 𝓤 H) (Λ : Loops 𝓤 H) → FmC 𝓤 H 𝓛.laws C → Triple 𝓤 (C f) Its → Walks 𝓛 (method R) (stayed R) (WpFn 𝓤 H C Λ code) (method-clauses R Says 𝓤)
     thin-walks C Λ fm cites = walked 𝓛 (method R) (stayed R) (method-clauses R Says 𝓤) (WpFn 𝓤 H C Λ code) (λ κs. (vals, tt)) (λ κs. (tells κs.0, tt))
         (λ κs qs bounds a g are. via 𝓤 _ (fst∗ 𝓤 _ (emp 𝓤)) (walk κs.0 qs.0 a.0 are.0 C Λ fm cites))
 
-    thin-meets : (𝓣 : Tables 𝓤 H) → Triple 𝓤 (𝓣.C f) Callee → Meets 𝓛 (method R).signature (WpFn 𝓤 H 𝓣.C 𝓣.Λ code) (closing 𝓛 (method R) (method-clauses R Says 𝓤))
+    thin-meets : (𝓣 : Tables 𝓤 H) → Triple 𝓤 (𝓣.C f) Its → Meets 𝓛 (method R).signature (WpFn 𝓤 H 𝓣.C 𝓣.Λ code) (closing 𝓛 (method R) (method-clauses R Says 𝓤))
     thin-meets 𝓣 cites = walk_Meets 𝓛 (method R) (stayed R) (drops-go 𝓛 1 (method R).signature.params (method R).kept (λ κs x f. refl, tt))
         (method-clauses R Says 𝓤) (WpFn 𝓤 H 𝓣.C 𝓣.Λ code) (WpFn-mono 𝓤 H 𝓛.laws 𝓣 code)
         (thin-walks 𝓣.C 𝓣.Λ (fm_of 𝓤 H 𝓛.laws 𝓣) cites)
@@ -141,11 +144,11 @@ module _ (T : enum.Declared) (L : enum_laws.Laws T) (P : Plainss (enum.variants 
   module _ {M : Type 1} {𝓤 : Ura M} (𝓛 : Logic 𝓤) (𝓜 : Model 𝓤 𝓛.H) (𝓡 : Running 𝓤 𝓛.H 𝓜) (γ : Env) where
     open 𝓛 use {H}
 
-    pub thin-spec : (own : Name) → Closed 𝓤 H (tables 𝓤 H 𝓜 𝓡 γ).C (tables 𝓤 H 𝓜 𝓡 γ).Λ own code → {r : Routine} → γ f ≡ r
+    pub thin-spec : (own : Callee) → Closed 𝓤 H (tables 𝓤 H 𝓜 𝓡 γ).C (tables 𝓤 H 𝓜 𝓡 γ).Λ own code → {r : Routine} → γ f ≡ r
         → Meets 𝓛 (callee R).signature (𝓡.run r) (closing 𝓛 (callee R) (callee-clauses R Says 𝓤))
         → Meets 𝓛 (method R).signature (𝓡.run (γ own)) (closing 𝓛 (method R) (method-clauses R Says 𝓤))
     unfolding tables_of
     thin-spec own closed {r} means met =
         let c = triple_of 𝓛 (method R).signature (closing 𝓛 (method R) (method-clauses R Says 𝓤)) in
         entered 𝓤 H c (tables 𝓤 H 𝓜 𝓡 γ).C (tables 𝓤 H 𝓜 𝓡 γ).Λ own code closed
-        (thin-meets 𝓛 (tables_of 𝓤 H 𝓜 (tables 𝓤 H 𝓜 𝓡 γ)) (cited 𝓤 H (Callee 𝓛) 𝓜 𝓡 γ f r means met))
+        (thin-meets 𝓛 (tables_of 𝓤 H 𝓜 (tables 𝓤 H 𝓜 𝓡 γ)) (cited 𝓤 H (Its 𝓛) 𝓜 𝓡 γ f r means met))
