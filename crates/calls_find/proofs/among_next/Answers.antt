@@ -22,12 +22,16 @@ module _ (e : Entry) (k : ℕ) (numbers : List ℕ) (found : Bool) where
   other f q = simp (f, q)
 
 pub returns-then-found : goal.returns-then-found
-returns-then-found c = stays c.args.e c.args.id.0 ((take c.args.count c.args.unacked.now)) c.args.found c.if-found.true
+returns-then-found c =
+    let numbers : List ℕ = take c.args.count c.args.unacked.now in
+    stays c.args.e c.args.id.0 numbers c.args.found c.if-found.true
 
 pub returns-then-is_queued : goal.returns-then-is_queued
 returns-then-is_queued c =
-    c.is_among.ensures ∙ compared c.args.e c.args.id.0 ((take c.args.count c.args.unacked.now)) c.args.found c.if-found.false (sym c.is_queued.ensures ∙ c.if-is_queued.true)
+    let numbers : List ℕ = take c.args.count c.args.unacked.now in
+    c.is_among.ensures ∙ compared c.args.e c.args.id.0 numbers c.args.found c.if-found.false (sym c.is_queued.ensures ∙ c.if-is_queued.true)
 
 pub returns : goal.returns
 returns c =
-    other c.args.e c.args.id.0 ((take c.args.count c.args.unacked.now)) c.args.found c.if-found.false (sym c.is_queued.ensures ∙ c.if-is_queued.false)
+    let numbers : List ℕ = take c.args.count c.args.unacked.now in
+    other c.args.e c.args.id.0 numbers c.args.found c.if-found.false (sym c.is_queued.ensures ∙ c.if-is_queued.false)

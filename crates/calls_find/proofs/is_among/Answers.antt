@@ -15,41 +15,74 @@ below count i l h = let b : i < min count (length l) = rw (length-take count l) 
 
 pub loop-low-init : goal.loop-low-init
 loop-low-init c =
-    let long : length ((take c.args.count c.args.numbers.now)) ≡ c.held-high.result = sym c.held-high.ensures in
-    (omega arith, subst (λ (high : ℕ). Searching ((take c.args.count c.args.numbers.now)) c.args.msgno 0 high (is_found ((take c.args.count c.args.numbers.now)) c.args.msgno)) long (begins ((take c.args.count c.args.numbers.now)) c.args.msgno))
+    let numbers : List ℕ = take c.args.count c.args.numbers.now in
+    let long : length numbers ≡ c.held-high.result = sym c.held-high.ensures in
+    (omega arith, subst (λ (high : ℕ). Searching numbers c.args.msgno 0 high (is_found numbers c.args.msgno)) long (begins numbers c.args.msgno))
 
 pub overflow_add-mid : goal.overflow_add-mid
 overflow_add-mid c =
-    omega (arith, (let here : let a = c.args in ((let l = c.loop-low in l.low + (l.high - l.low) / 2) < a.count) × ((let l = c.loop-low in l.low + (l.high - l.low) / 2) < length a.numbers.now) = let a = c.args in below a.count ((let l = c.loop-low in l.low + (l.high - l.low) / 2)) a.numbers.now ((let inside : (let l = c.loop-low in l.low + (l.high - l.low) / 2) < length ((take c.args.count c.args.numbers.now)) = omega arith in inside)) in here))
+    let middle : ℕ = let l = c.loop-low in l.low + (l.high - l.low) / 2 in
+    let numbers : List ℕ = take c.args.count c.args.numbers.now in
+    let inside : middle < length numbers = omega arith in
+    let here : let a = c.args in (middle < a.count) × (middle < length a.numbers.now) = let a = c.args in below a.count middle a.numbers.now inside in
+    omega (arith, here)
 
 pub offset_bounds-numbers-mid : goal.offset_bounds-numbers-mid
 offset_bounds-numbers-mid c =
-    omega (arith, (let here : let a = c.args in ((let l = c.loop-low in l.low + (l.high - l.low) / 2) < a.count) × ((let l = c.loop-low in l.low + (l.high - l.low) / 2) < length a.numbers.now) = let a = c.args in below a.count ((let l = c.loop-low in l.low + (l.high - l.low) / 2)) a.numbers.now ((let inside : (let l = c.loop-low in l.low + (l.high - l.low) / 2) < length ((take c.args.count c.args.numbers.now)) = omega arith in inside)) in here))
+    let middle : ℕ = let l = c.loop-low in l.low + (l.high - l.low) / 2 in
+    let numbers : List ℕ = take c.args.count c.args.numbers.now in
+    let inside : middle < length numbers = omega arith in
+    let here : let a = c.args in (middle < a.count) × (middle < length a.numbers.now) = let a = c.args in below a.count middle a.numbers.now inside in
+    omega (arith, here)
 
 pub bounds-numbers-mid : goal.bounds-numbers-mid
 bounds-numbers-mid c =
-    ((let here : let a = c.args in ((let l = c.loop-low in l.low + (l.high - l.low) / 2) < a.count) × ((let l = c.loop-low in l.low + (l.high - l.low) / 2) < length a.numbers.now) = let a = c.args in below a.count ((let l = c.loop-low in l.low + (l.high - l.low) / 2)) a.numbers.now ((let inside : (let l = c.loop-low in l.low + (l.high - l.low) / 2) < length ((take c.args.count c.args.numbers.now)) = omega arith in inside)) in here)).1
+    let middle : ℕ = let l = c.loop-low in l.low + (l.high - l.low) / 2 in
+    let numbers : List ℕ = take c.args.count c.args.numbers.now in
+    let inside : middle < length numbers = omega arith in
+    let here : let a = c.args in (middle < a.count) × (middle < length a.numbers.now) = let a = c.args in below a.count middle a.numbers.now inside in
+    here.1
 
 pub returns-then-number-msgno : goal.returns-then-number-msgno
 returns-then-number-msgno c =
+    let numbers : List ℕ = take c.args.count c.args.numbers.now in
+    let middle : ℕ = let l = c.loop-low in l.low + (l.high - l.low) / 2 in
+    let inside : middle < length numbers = omega arith in
+    let here : let a = c.args in (middle < a.count) × (middle < length a.numbers.now) = let a = c.args in below a.count middle a.numbers.now inside in
+    let read : let a = c.args in get_or a.numbers.now middle 0 ≡ get_or numbers middle 0 = let a = c.args in sym (get_or-take a.count a.numbers.now middle 0 here.0) in
     let l = c.loop-low in
-    found ((take c.args.count c.args.numbers.now)) c.args.msgno l.low l.high l.invariant.1 c.loop-low-test.true (sym ((let read : let a = c.args in get_or a.numbers.now ((let l = c.loop-low in l.low + (l.high - l.low) / 2)) 0 ≡ get_or ((take c.args.count c.args.numbers.now)) ((let l = c.loop-low in l.low + (l.high - l.low) / 2)) 0 = let a = c.args in sym (get_or-take a.count a.numbers.now ((let l = c.loop-low in l.low + (l.high - l.low) / 2)) 0 ((let here : let a = c.args in ((let l = c.loop-low in l.low + (l.high - l.low) / 2) < a.count) × ((let l = c.loop-low in l.low + (l.high - l.low) / 2) < length a.numbers.now) = let a = c.args in below a.count ((let l = c.loop-low in l.low + (l.high - l.low) / 2)) a.numbers.now ((let inside : (let l = c.loop-low in l.low + (l.high - l.low) / 2) < length ((take c.args.count c.args.numbers.now)) = omega arith in inside)) in here)).0) in read)) ∙ c.if-number-msgno.true)
+    found numbers c.args.msgno l.low l.high l.invariant.1 c.loop-low-test.true (sym read ∙ c.if-number-msgno.true)
 
 pub overflow_add-low : goal.overflow_add-low
 overflow_add-low c =
-    omega (arith, (let here : let a = c.args in ((let l = c.loop-low in l.low + (l.high - l.low) / 2) < a.count) × ((let l = c.loop-low in l.low + (l.high - l.low) / 2) < length a.numbers.now) = let a = c.args in below a.count ((let l = c.loop-low in l.low + (l.high - l.low) / 2)) a.numbers.now ((let inside : (let l = c.loop-low in l.low + (l.high - l.low) / 2) < length ((take c.args.count c.args.numbers.now)) = omega arith in inside)) in here))
+    let middle : ℕ = let l = c.loop-low in l.low + (l.high - l.low) / 2 in
+    let numbers : List ℕ = take c.args.count c.args.numbers.now in
+    let inside : middle < length numbers = omega arith in
+    let here : let a = c.args in (middle < a.count) × (middle < length a.numbers.now) = let a = c.args in below a.count middle a.numbers.now inside in
+    omega (arith, here)
 
 pub loop-low-preserved-then-number-msgno-2 : goal.loop-low-preserved-then-number-msgno-2
 loop-low-preserved-then-number-msgno-2 c =
+    let numbers : List ℕ = take c.args.count c.args.numbers.now in
+    let middle : ℕ = let l = c.loop-low in l.low + (l.high - l.low) / 2 in
+    let inside : middle < length numbers = omega arith in
+    let here : let a = c.args in (middle < a.count) × (middle < length a.numbers.now) = let a = c.args in below a.count middle a.numbers.now inside in
+    let read : let a = c.args in get_or a.numbers.now middle 0 ≡ get_or numbers middle 0 = let a = c.args in sym (get_or-take a.count a.numbers.now middle 0 here.0) in
     let l = c.loop-low in
-    (l.invariant.0, goes_above ((take c.args.count c.args.numbers.now)) c.args.msgno l.low l.high l.invariant.1 c.loop-low-test.true (omega (arith, (let read : let a = c.args in get_or a.numbers.now ((let l = c.loop-low in l.low + (l.high - l.low) / 2)) 0 ≡ get_or ((take c.args.count c.args.numbers.now)) ((let l = c.loop-low in l.low + (l.high - l.low) / 2)) 0 = let a = c.args in sym (get_or-take a.count a.numbers.now ((let l = c.loop-low in l.low + (l.high - l.low) / 2)) 0 ((let here : let a = c.args in ((let l = c.loop-low in l.low + (l.high - l.low) / 2) < a.count) × ((let l = c.loop-low in l.low + (l.high - l.low) / 2) < length a.numbers.now) = let a = c.args in below a.count ((let l = c.loop-low in l.low + (l.high - l.low) / 2)) a.numbers.now ((let inside : (let l = c.loop-low in l.low + (l.high - l.low) / 2) < length ((take c.args.count c.args.numbers.now)) = omega arith in inside)) in here)).0) in read))))
+    (l.invariant.0, goes_above numbers c.args.msgno l.low l.high l.invariant.1 c.loop-low-test.true (omega (arith, read)))
 
 pub loop-low-preserved : goal.loop-low-preserved
 loop-low-preserved c =
+    let middle : ℕ = let l = c.loop-low in l.low + (l.high - l.low) / 2 in
+    let numbers : List ℕ = take c.args.count c.args.numbers.now in
+    let inside : middle < length numbers = omega arith in
+    let here : let a = c.args in (middle < a.count) × (middle < length a.numbers.now) = let a = c.args in below a.count middle a.numbers.now inside in
+    let read : let a = c.args in get_or a.numbers.now middle 0 ≡ get_or numbers middle 0 = let a = c.args in sym (get_or-take a.count a.numbers.now middle 0 here.0) in
     let l = c.loop-low in
-    (omega (arith, (let inside : (let l = c.loop-low in l.low + (l.high - l.low) / 2) < length ((take c.args.count c.args.numbers.now)) = omega arith in inside)), goes-below ((take c.args.count c.args.numbers.now)) c.args.msgno l.low l.high l.invariant.1 c.loop-low-test.true (omega (arith, (let read : let a = c.args in get_or a.numbers.now ((let l = c.loop-low in l.low + (l.high - l.low) / 2)) 0 ≡ get_or ((take c.args.count c.args.numbers.now)) ((let l = c.loop-low in l.low + (l.high - l.low) / 2)) 0 = let a = c.args in sym (get_or-take a.count a.numbers.now ((let l = c.loop-low in l.low + (l.high - l.low) / 2)) 0 ((let here : let a = c.args in ((let l = c.loop-low in l.low + (l.high - l.low) / 2) < a.count) × ((let l = c.loop-low in l.low + (l.high - l.low) / 2) < length a.numbers.now) = let a = c.args in below a.count ((let l = c.loop-low in l.low + (l.high - l.low) / 2)) a.numbers.now ((let inside : (let l = c.loop-low in l.low + (l.high - l.low) / 2) < length ((take c.args.count c.args.numbers.now)) = omega arith in inside)) in here)).0) in read))))
+    (omega (arith, inside), goes-below numbers c.args.msgno l.low l.high l.invariant.1 c.loop-low-test.true (omega (arith, read)))
 
 pub returns : goal.returns
 returns c =
+    let numbers : List ℕ = take c.args.count c.args.numbers.now in
     let l = c.loop-low in
-    ends ((take c.args.count c.args.numbers.now)) c.args.msgno l.low l.high l.invariant.1 c.loop-low-test.false
+    ends numbers c.args.msgno l.low l.high l.invariant.1 c.loop-low-test.false

@@ -4,7 +4,7 @@ use Rattle.restore.specs.Restored.{ended}
 use Rattle.restore.proofs.answer.Goals as goal
 
 pub returns-in-Going : goal.returns-in-Going
-returns-in-Going c = sym (ap ended c.state-1.given.1)
+returns-in-Going c = sym (ap ended c.in-Going.is)
 
 pub returns-in-Refused : goal.returns-in-Refused
-returns-in-Refused c = sym (ap ended c.state-in-Refused-1.given.1)
+returns-in-Refused c = sym (ap ended c.in-Refused.is)

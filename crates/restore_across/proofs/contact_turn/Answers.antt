@@ -10,8 +10,10 @@ returns-then-w-e c = rw (le-ltb _ _ c.if-w-e.true)
 
 pub returns-then-first-i : goal.returns-then-first-i
 returns-then-first-i c =
-    rw ((let below : let a = c.args in ltb a.e.id a.w.next_contact ≡ true = lt-ltb _ _ c.if-w-e.false in below), le-ltb _ _ c.if-first-i.true)
+    let below : let a = c.args in ltb a.e.id a.w.next_contact ≡ true = lt-ltb _ _ c.if-w-e.false in
+    rw (below, le-ltb _ _ c.if-first-i.true)
 
 pub returns : goal.returns
 returns c =
-    rw ((let below : let a = c.args in ltb a.e.id a.w.next_contact ≡ true = lt-ltb _ _ c.if-w-e.false in below), lt-ltb _ _ c.if-first-i.false)
+    let below : let a = c.args in ltb a.e.id a.w.next_contact ≡ true = lt-ltb _ _ c.if-w-e.false in
+    rw (below, lt-ltb _ _ c.if-first-i.false)

@@ -28,19 +28,19 @@ pub returns-in_default : goal.returns-in_default
 returns-in_default c =
     (let a = c.args in
     let row = c.part_of-row.result.now in
-    let by : Bytes row = subst Bytes (sym c.part_of-row.ensures) (bytes-part a.run.now (typed a.run.now c.shared_slice_known-1.given) a.e) in
-    shown (rows.courier a.e.version) (low a.next) c.part_of-row.ensures (learn (check_says row) (check-says row by a.e.version c.check_courier.ensures) c.enum_told-1.given.1))
+    let by : Bytes row = subst Bytes (sym c.part_of-row.ensures) (bytes-part a.run.now (typed a.run.now c.type_inv.run) a.e) in
+    shown (rows.courier a.e.version) (low a.next) c.part_of-row.ensures (learn (check_says row) (check-says row by a.e.version c.check_courier.ensures) c.in_default.is))
 
 pub returns-in_default-held : goal.returns-in_default-held
 returns-in_default-held c =
     (let a = c.args in
     let row = c.part_of-row.result.now in
-    let by : Bytes row = subst Bytes (sym c.part_of-row.ensures) (bytes-part a.run.now (typed a.run.now c.shared_slice_known-1.given) a.e) in
-    shown (rows.courier a.e.version) (low a.next) c.part_of-row.ensures (learn (check_says row) (check-says row by a.e.version c.check_courier.ensures) (c.held-1.given.1 ∙ ap Fields c.enum_told-in_default-held-1.given.1)))
+    let by : Bytes row = subst Bytes (sym c.part_of-row.ensures) (bytes-part a.run.now (typed a.run.now c.type_inv.run) a.e) in
+    shown (rows.courier a.e.version) (low a.next) c.part_of-row.ensures (learn (check_says row) (check-says row by a.e.version c.check_courier.ensures) (c.in-Fields.is ∙ ap Fields c.in_default-held.is)))
 
 pub returns : goal.returns
 returns c =
     (let a = c.args in
     let row = c.part_of-row.result.now in
-    let by : Bytes row = subst Bytes (sym c.part_of-row.ensures) (bytes-part a.run.now (typed a.run.now c.shared_slice_known-1.given) a.e) in
-    shown (rows.courier a.e.version) (low a.next) c.part_of-row.ensures (learn (check_says row) (check-says row by a.e.version c.check_courier.ensures) (c.held-1.given.1 ∙ ap Fields c.held-in-Carried-1.given.1)))
+    let by : Bytes row = subst Bytes (sym c.part_of-row.ensures) (bytes-part a.run.now (typed a.run.now c.type_inv.run) a.e) in
+    shown (rows.courier a.e.version) (low a.next) c.part_of-row.ensures (learn (check_says row) (check-says row by a.e.version c.check_courier.ensures) (c.in-Fields.is ∙ ap Fields c.in-Carried.is)))

@@ -14,8 +14,8 @@ next a = (seen_of device a).next_contact
 
 pub returns-in_default : goal.returns-in_default
 returns-in_default c =
-    (shown (rows.device c.args.e.version) next c.part_of-row.ensures (learn (check_says c.part_of-row.result.now) c.check_device.ensures.0 c.enum_told-1.given.1))
+    (shown (rows.device c.args.e.version) next c.part_of-row.ensures (learn (check_says c.part_of-row.result.now) c.check_device.ensures.0 c.in_default.is))
 
 pub returns : goal.returns
 returns c =
-    (shown (rows.device c.args.e.version) next c.part_of-row.ensures (learn (check_says c.part_of-row.result.now) c.check_device.ensures.0 c.at-1.given.1))
+    (shown (rows.device c.args.e.version) next c.part_of-row.ensures (learn (check_says c.part_of-row.result.now) c.check_device.ensures.0 c.in-Fields.is))

@@ -4,4 +4,4 @@ use Rattle.restore_across.proofs.Read.{owner-read}
 use Rattle.restore_across.proofs.owner_in.Goals as goal
 
 pub returns : goal.returns
-returns c = owner-read _ (typed c.args.row.now c.shared_slice_known-1.given) c.sent_in-at.ensures
+returns c = owner-read _ (typed c.args.row.now c.type_inv.row) c.sent_in-at.ensures

@@ -16,13 +16,13 @@ returns-in_default c =
     λ known.
     let below = c.if-upto-p.false in
     let its = c.owner_from.ensures (known below) in
-    rw (lt-ltb _ _ below, c.enum_told-1.given.1) (its.0, λ kept. its.1)
+    rw (lt-ltb _ _ below, c.in_default.is) (its.0, λ kept. its.1)
 
 pub returns-then-p-w : goal.returns-then-p-w
 returns-then-p-w c =
     λ known.
     let a = c.args in
-    let is = c.state-1.given.1 in
+    let is = c.in-Going.is in
     let same = c.if-p-w.true in (
       rw (lt-ltb _ _ c.if-upto-p.false, is, eq-eqb _ _ same),
       λ kept. rw (lt-ltb _ _ c.if-upto-p.false) (subst (Reusable a.run.now a.omitted a.c a.p a.upto) is kept c.if-upto-p.false same),
@@ -33,4 +33,4 @@ returns c =
     λ known.
     let below = c.if-upto-p.false in
     let its = c.owner_from-2.ensures (known below) in
-    (rw (lt-ltb _ _ below, c.state-1.given.1, ne_eqb _ _ c.if-p-w.false) its.0, λ kept. rw (lt-ltb _ _ below) its.1)
+    (rw (lt-ltb _ _ below, c.in-Going.is, ne_eqb _ _ c.if-p-w.false) its.0, λ kept. rw (lt-ltb _ _ below) its.1)

@@ -4,7 +4,7 @@ use Rattle.restore_across.specs.Owner.{owner_omitted}
 use Rattle.restore_across.proofs.owner_omitted.Goals as goal
 
 pub returns-in_default : goal.returns-in_default
-returns-in_default c = c.no_owner.ensures ∙ sym (ap owner_omitted c.enum_told-1.given.1)
+returns-in_default c = c.no_owner.ensures ∙ sym (ap owner_omitted c.in_default.is)
 
 pub returns : goal.returns
-returns c = sym (ap owner_omitted c.omitted-1.given.1)
+returns c = sym (ap owner_omitted c.in-Contact.is)

@@ -8,17 +8,21 @@ use Rattle.restore_across.proofs.surely_low.Goals as goal
 
 pub returns-in_default : goal.returns-in_default
 returns-in_default c =
-    λ yes version. no_kind (c.args.row.now) ((let by : Bytes (c.args.row.now) = typed (c.args.row.now) c.shared_slice_known-1.given in by)) version _ (learn u8_says c.byte_at.ensures c.enum_told-1.given.1)
+    let by : Bytes c.args.row.now = typed c.args.row.now c.type_inv.row in
+    λ yes version. no_kind c.args.row.now by version _ (learn u8_says c.byte_at.ensures c.in_default.is)
 
 pub returns-then-kind-ne-CARRIED : goal.returns-then-kind-ne-CARRIED
 returns-then-kind-ne-CARRIED c =
-    λ yes version. other-kind (c.args.row.now) ((let by : Bytes (c.args.row.now) = typed (c.args.row.now) c.shared_slice_known-1.given in by)) version _ (learn u8_says c.byte_at.ensures c.kind-1.given.1) c.if-kind-ne-CARRIED.true
+    let by : Bytes c.args.row.now = typed c.args.row.now c.type_inv.row in
+    λ yes version. other-kind c.args.row.now by version _ (learn u8_says c.byte_at.ensures c.in-Value.is) c.if-kind-ne-CARRIED.true
 
 pub returns-in_default-u64_at : goal.returns-in_default-u64_at
 returns-in_default-u64_at c =
-    λ yes version. no-depositor (c.args.row.now) ((let by : Bytes (c.args.row.now) = typed (c.args.row.now) c.shared_slice_known-1.given in by)) version _ (learn u8_says c.byte_at.ensures c.kind-1.given.1) (learn u64_says c.u64_at.ensures c.enum_told-in_default-u64_at-1.given.1)
+    let by : Bytes c.args.row.now = typed c.args.row.now c.type_inv.row in
+    λ yes version. no-depositor c.args.row.now by version _ (learn u8_says c.byte_at.ensures c.in-Value.is) (learn u64_says c.u64_at.ensures c.in_default-u64_at.is)
 
 pub returns : goal.returns
 returns c =
-    λ yes version. below_next (c.args.row.now) ((let by : Bytes (c.args.row.now) = typed (c.args.row.now) c.shared_slice_known-1.given in by)) version _ (learn u8_says c.byte_at.ensures c.kind-1.given.1)
-    (learn u64_says c.u64_at.ensures c.depositor-1.given.1) (ltb-true _ _ yes)
+    let by : Bytes c.args.row.now = typed c.args.row.now c.type_inv.row in
+    λ yes version. below_next c.args.row.now by version _ (learn u8_says c.byte_at.ensures c.in-Value.is)
+    (learn u64_says c.u64_at.ensures c.in-Value-u64_at.is) (ltb-true _ _ yes)

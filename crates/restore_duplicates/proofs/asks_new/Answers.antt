@@ -1,5 +1,5 @@
 -- `duplicates::asks_new` meets its contract.
-use Rattle.std.proofs.Common.{◌≡◌, ℕ, Bool, true, false, cond, eqb, refl, ne_eqb}
+use Rattle.std.proofs.Common.{◌≡◌, ℕ, Bool, true, false, cond, eqb, refl, ne_eqb, rules}
 use Rattle.store.specs.Kinds.{DEVICE, CONTACT, QUEUED, COURIER, device, unknown, kind_of}
 use Rattle.store.specs.Duplicates.{asks_new}
 use Rattle.restore_duplicates.proofs.asks_new.Goals as goal
@@ -12,14 +12,5 @@ no_other k c q h = rw (ne_eqb k CONTACT c, ne_eqb k QUEUED q, ne_eqb k COURIER h
     go true = refl
     go false = refl
 
-pub returns-in-1 : goal.returns-in-1
-returns-in-1 c = rw c.in-1.keys1
-
-pub returns-in-2 : goal.returns-in-2
-returns-in-2 c = rw c.in-2.keys2
-
-pub returns-in-3 : goal.returns-in-3
-returns-in-3 c = rw c.in-3.keys3
-
 pub returns-in_default : goal.returns-in_default
-returns-in_default c = let r = c.in_default.rest in no_other _ r.0.0.1 r.0.1 r.1
+returns-in_default c = search (rules, no_other)

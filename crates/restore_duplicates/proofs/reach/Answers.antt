@@ -27,13 +27,13 @@ module _ (bits : List ℕ) (e : Entry) (i last part : ℕ) where
 pub returns-then-add : goal.returns-then-add
 returns-then-add c =
     (let a = c.args in
-    marks a.bits.now a.e a.i a.last a.part c.asks_new.result c.hash_of-h.result c.in_part.result c.add.result c.add.new.0 true
+    marks a.bits.now a.e a.i a.last a.part c.asks_new.result c.hash_of-h.result c.in_part.result c.add.result c.add.new.bits true
     c.asks_new.ensures c.if-asks_new.true c.hash_of-h.ensures c.in_part.ensures c.if-in_part.true c.add.ensures c.if-add.true)
 
 pub returns-then-in_part : goal.returns-then-in_part
 returns-then-in_part c =
     (let a = c.args in
-    marks a.bits.now a.e a.i a.last a.part c.asks_new.result c.hash_of-h.result c.in_part.result c.add.result c.add.new.0 false
+    marks a.bits.now a.e a.i a.last a.part c.asks_new.result c.hash_of-h.result c.in_part.result c.add.result c.add.new.bits false
     c.asks_new.ensures c.if-asks_new.true c.hash_of-h.ensures c.in_part.ensures c.if-in_part.true c.add.ensures c.if-add.false)
 
 pub returns-then-asks_new : goal.returns-then-asks_new

@@ -12,11 +12,11 @@ returns-then-round-eq-ORDER c = rw (eq-eqb _ ORDER c.if-round-eq-ORDER.true, sym
 
 pub returns-then-is_within : goal.returns-then-is_within
 returns-then-is_within c =
-    rw (ne_eqb _ ORDER c.if-round-eq-ORDER.false, eq-eqb _ BOUNDS c.if-round-eq-BOUNDS.true, sym c.is_Within.ensures ∙ c.if-is_within.true)
+    rw (ne_eqb _ ORDER c.if-round-eq-ORDER.false, eq-eqb _ BOUNDS c.if-round-eq-BOUNDS.true, sym c.is_within.ensures ∙ c.if-is_within.true)
 
 pub returns-then-round-eq-BOUNDS : goal.returns-then-round-eq-BOUNDS
 returns-then-round-eq-BOUNDS c =
-    rw (ne_eqb _ ORDER c.if-round-eq-ORDER.false, eq-eqb _ BOUNDS c.if-round-eq-BOUNDS.true, sym c.is_Within.ensures ∙ c.if-is_within.false)
+    rw (ne_eqb _ ORDER c.if-round-eq-ORDER.false, eq-eqb _ BOUNDS c.if-round-eq-BOUNDS.true, sym c.is_within.ensures ∙ c.if-is_within.false)
 
 pub returns-then-is_omitted : goal.returns-then-is_omitted
 returns-then-is_omitted c =
