@@ -5,7 +5,7 @@ use mathlib.Core.List.{List, ◌++◌}
 use mathlib.Core.Bool.{Bool, true, false}
 use mathlib.Core.Path.{◌≡◌, refl, sym, ap, ◌∙◌}
 use lib.ListN.{length, take, drop}
-use Rattle.layout.specs.Layout.{Answer, accepted, refused_by, answer, read_row}
+use Rattle.layout.specs.Layout.{Answer, accepted, refused_by, read_row}
 use Rattle.layout.specs.RowLaws.{Bytes}
 use Rattle.layout.specs.Write.{wrote, refuses, Left, asked, writes}
 use Rattle.layout.specs.Write as write
@@ -14,7 +14,6 @@ use Rattle.rows.specs.Checks.{courier_allowed}
 use Rattle.rows.specs.Rows.{device}
 use Rattle.rows.specs.Values as value
 use Rattle.rows.specs.Answers.{written_says, leaves}
-use Rattle.rows.specs.declared.Verdict.TheVariants as verdict
 use Rattle.rows.specs.declared.Written.{Written}
 use Rattle.rows.specs.declared.Written.TheVariants.{Length, Refused}
 use Rattle.rows.proofs.Proved.{proved}

@@ -1,6 +1,6 @@
 -- A filter of numbers: each number that is added sets bits of one word, which the number itself says. A number one of whose bits is clear was not added; of one
 -- whose bits are set nothing is known. Assumes nothing.
-use Rattle.std.specs.Prelude.{ℕ, ◌+◌, ◌-◌, ◌*◌, ◌/◌, ◌%◌, ◌^◌, Bool, true, cond, List, length, set, ◌==◌, bit_and, bit_or, bit_xor, slice_index, slice_set}
+use Rattle.std.specs.Prelude.{ℕ, ◌+◌, ◌-◌, ◌*◌, ◌/◌, ◌%◌, ◌^◌, Bool, true, cond, List, length, ◌==◌, bit_and, bit_or, bit_xor, slice_index, slice_set}
 
 -- one more than the highest number of 32 bits
 abbrev HALF : ℕ

@@ -3,7 +3,7 @@ use Prim.Native.Nat.{◌≤◌}
 use mathlib.Core.Bool.{true}
 use mathlib.Core.Path.{◌≡◌, sym, ap, ◌∙◌}
 use lib.ListN.{take}
-use borrow.Author.Tests.{lt-ltb, le-ltb, lt-leb, not-true, not-false}
+use borrow.Author.Tests.{lt-ltb, le-ltb, lt-leb}
 use Rattle.layout.specs.Write.{wrote}
 use Rattle.rows.specs.Utf8.{utf8}
 use Rattle.rows.specs.Checks.{caps_known}

@@ -6,7 +6,7 @@ use mathlib.Core.Path.{◌≡◌, sym, ap, ◌∙◌}
 use native.Mathlib.Omega.{arith}
 use lib.ListN.{length}
 use lib.Dec.{leb}
-use borrow.Author.Tests.{leb-true, lt-leb, not-true, not-false}
+use borrow.Author.Tests.{leb-true, lt-leb}
 use Rattle.rows.specs.Checks.{name_short}
 use Rattle.rows.proofs.Tests.{and_both}
 use Rattle.put.specs.Put.{Wrote}
