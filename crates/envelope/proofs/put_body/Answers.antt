@@ -8,72 +8,67 @@ use Rattle.envelope.proofs.Image.{image-is, length-image}
 use Rattle.envelope.proofs.put_body.Goals as goal
 
 pub put_16-c_at-requires : goal.put_16-c_at-requires
-put_16-c_at-requires c = omega (arith, length-image c.args.envelope c.type-inv.ensures c.args.ct.now)
+put_16-c_at-requires c = omega (arith, length-image c.args.envelope c.typed.ensures c.args.ct.now)
 
 pub put_16-expiry_at-requires : goal.put_16-expiry_at-requires
 put_16-expiry_at-requires c =
-    let s = c.before.before.before in
     omega (
       arith,
-      length-image s.args.envelope c.type-inv.ensures s.args.ct.now,
+      length-image c.args.envelope c.typed.ensures c.args.ct.now,
       wrote-long c.put_16-c_at.ensures.1,
       c.put_16-c_at.ensures.0,
-      s.pre,
+      c.requires,
     )
 
 pub put_be-copies_at-requires : goal.put_be-copies_at-requires
 put_be-copies_at-requires c =
-    let s = c.before.before.before in
     omega (
       arith,
-      length-image s.args.envelope c.typed.ensures s.args.ct.now,
+      length-image c.args.envelope c.typed.ensures c.args.ct.now,
       wrote-long c.put_16-c_at.ensures.1,
       wrote-long c.put_16-expiry_at.ensures.1,
       c.put_16-c_at.ensures.0,
       c.put_16-expiry_at.ensures.0,
-      s.pre,
+      c.requires,
     )
 
 pub put_byte-ct_at-requires : goal.put_byte-ct_at-requires
 put_byte-ct_at-requires c =
-    let s = c.before.before.before in
     omega (
       arith,
-      length-image s.args.envelope c.typed.ensures s.args.ct.now,
+      length-image c.args.envelope c.typed.ensures c.args.ct.now,
       wrote-long c.put_16-c_at.ensures.1,
       wrote-long c.put_16-expiry_at.ensures.1,
       wrote-long c.put_be-copies_at.ensures.1,
       c.put_16-c_at.ensures.0,
       c.put_16-expiry_at.ensures.0,
       c.put_be-copies_at.ensures.0,
-      s.pre,
+      c.requires,
     )
 
 pub put_run-requires : goal.put_run-requires
-put_run-requires c =
-    let s = c.before.before.before in (
-      omega (
-        arith,
-        length-image s.args.envelope c.typed.ensures s.args.ct.now,
-        wrote-long c.put_16-c_at.ensures.1,
-        wrote-long c.put_16-expiry_at.ensures.1,
-        wrote-long c.put_be-copies_at.ensures.1,
-        wrote-long c.put_byte-ct_at.ensures.1,
-        c.put_16-c_at.ensures.0,
-        c.put_16-expiry_at.ensures.0,
-        c.put_be-copies_at.ensures.0,
-        c.put_byte-ct_at.ensures.0,
-        s.pre,
-      ),
-      omega arith,
-    )
+put_run-requires c = (
+  omega (
+    arith,
+    length-image c.args.envelope c.typed.ensures c.args.ct.now,
+    wrote-long c.put_16-c_at.ensures.1,
+    wrote-long c.put_16-expiry_at.ensures.1,
+    wrote-long c.put_be-copies_at.ensures.1,
+    wrote-long c.put_byte-ct_at.ensures.1,
+    c.put_16-c_at.ensures.0,
+    c.put_16-expiry_at.ensures.0,
+    c.put_be-copies_at.ensures.0,
+    c.put_byte-ct_at.ensures.0,
+    c.requires,
+  ),
+  omega arith,
+)
 
 pub returns : goal.returns
 returns c =
-    let s = c.before.before.before in
-    let text = s.args.ct.now in
+    let text = c.args.ct.now in
     let w =
     c.put_16-c_at.ensures.1 then (c.put_16-expiry_at.ensures.1 then (c.put_be-copies_at.ensures.1 then (
     c.put_byte-ct_at.ensures.1 then whole_run {s = text} (length text) refl c.put_run.ensures.1
     ))) in
-    wrote_as (image-is s.args.envelope c.typed.ensures text) w
+    wrote_as (image-is c.args.envelope c.typed.ensures text) w

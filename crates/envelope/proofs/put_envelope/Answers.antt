@@ -28,20 +28,20 @@ pub returns-then-len-at : goal.returns-then-len-at
 returns-then-len-at c =
     let a = c.args in
     let room = length a.out.now - a.at in
-    not-stored a.envelope c.type-inv.ensures a.ct.now room a.out.now a.at (lt-leb (37 + length a.ct.now) room (omega arith))
+    not-stored a.envelope c.typed.ensures a.ct.now room a.out.now a.at (lt-leb (37 + length a.ct.now) room (omega arith))
 
 pub returns-then-not-envelope_fits : goal.returns-then-not-envelope_fits
 returns-then-not-envelope_fits c =
     let a = c.args in
-    not-stored a.envelope c.type-inv.ensures a.ct.now (length a.out.now - a.at) a.out.now a.at (sym c.envelope_fits.ensures ∙ not-true _ c.if-not-envelope_fits.true)
+    not-stored a.envelope c.typed.ensures a.ct.now (length a.out.now - a.at) a.out.now a.at (sym c.envelope_fits.ensures ∙ c.if-not-envelope_fits.true)
 
 pub put_body-requires : goal.put_body-requires
 put_body-requires c =
     let a = c.args in
-    let room : 37 + length a.ct.now ≤ length a.out.now - a.at = leb-true _ _ (sym c.envelope_fits.ensures ∙ not-false _ c.if-not-envelope_fits.false) in
-    omega (arith, length-image a.envelope c.type-inv.ensures a.ct.now, c.if-len-at.false)
+    let room : 37 + length a.ct.now ≤ length a.out.now - a.at = leb-true _ _ (sym c.envelope_fits.ensures ∙ c.if-not-envelope_fits.false) in
+    omega (arith, length-image a.envelope c.typed.ensures a.ct.now, c.if-len-at.false)
 
 pub returns : goal.returns
 returns c =
     let a = c.args in
-    whole-stored a.envelope c.type-inv.ensures a.ct.now (length a.out.now - a.at) (sym c.envelope_fits.ensures ∙ not-false _ c.if-not-envelope_fits.false) c.put_body.ensures.1
+    whole-stored a.envelope c.typed.ensures a.ct.now (length a.out.now - a.at) (sym c.envelope_fits.ensures ∙ c.if-not-envelope_fits.false) c.put_body.ensures.1

@@ -92,6 +92,7 @@ returns c =
     let row = c.args.input.now in
     let ct = r4.here in
     let text = text-took veiled SEALED_LENGTH any_length row ct copies-took.inside refl in
-    let all = ap answer (done-yes (field-yes r4.so text).so) in
+    let r0 : Reached body c.args.input.now 0 = field-yes r4.so text in
+    let all = ap answer (done-yes r0.so) in
     let place : length row - length (drop ct row) ≡ ct = simp length-drop (omega (arith, copies-took.inside)) in
     rw (all, c.copy_16-tag.ensures, c.copy_16-c.ensures, place)

@@ -1,4 +1,5 @@
 -- `envelope::Envelope::encode` meets its contract: the body where it fits; it is never empty, so nothing is written where it does not.
+use mathlib.Core.List.{[]}
 use Prim.Native.Nat.{ℕ, ◌+◌, ◌-◌}
 use mathlib.Core.List.{List}
 use mathlib.Core.Bool.{Bool, true, false, cond}
@@ -43,9 +44,9 @@ module _ (e : Envelope) (ty : EnvelopeTyped e) (ct out m : List ℕ) (p : ℕ) w
 pub returns-then-n-eq0 : goal.returns-then-n-eq0
 returns-then-n-eq0 c =
     let a = c.args in
-    none_written a.self c.type-inv.ensures a.ct.now a.out.now _ _ _ refl c.put_envelope-n.ensures c.if-n-eq0.true
+    none_written a.self c.typed.ensures a.ct.now a.out.now _ _ _ refl c.put_envelope-n.ensures c.if-n-eq0.true
 
 pub returns : goal.returns
 returns c =
     let a = c.args in
-    all-written a.self c.type-inv.ensures a.ct.now a.out.now _ _ _ refl c.put_envelope-n.ensures c.if-n-eq0.false
+    all-written a.self c.typed.ensures a.ct.now a.out.now _ _ _ refl c.put_envelope-n.ensures c.if-n-eq0.false

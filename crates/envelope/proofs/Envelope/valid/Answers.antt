@@ -13,18 +13,3 @@ use Rattle.envelope.proofs.Envelope.valid.Goals as goal
 valid-is : (e : Envelope) (len now : ℕ) {s t u : Bool} → sealed_carried len ≡ s → not_zero e.copies ≡ t → ltb now e.expiry_min ≡ u
     → valid_at e len now ≡ (s && t && u)
 valid-is e len now p q r = ap₂ ◌&&◌ (ap₂ ◌&&◌ p q) r
-
-pub returns-then-self-eq0 : goal.returns-then-self-eq0
-returns-then-self-eq0 c =
-    let a = c.args in
-    sym (valid-is a.self a.ct-len a.now-min (sym c.sealed_carried.ensures ∙ c.if-sealed_carried.true) (ap not (eq-eqb _ _ c.if-self-eq0.true)) refl)
-
-pub returns-then-sealed_carried : goal.returns-then-sealed_carried
-returns-then-sealed_carried c =
-    let a = c.args in
-    sym (valid-is a.self a.ct-len a.now-min (sym c.sealed_carried.ensures ∙ c.if-sealed_carried.true) (ap not (ne_eqb _ _ c.if-self-eq0.false)) refl)
-
-pub returns : goal.returns
-returns c =
-    let a = c.args in
-    sym (valid-is a.self a.ct-len a.now-min (sym c.sealed_carried.ensures ∙ c.if-sealed_carried.false) refl refl)
