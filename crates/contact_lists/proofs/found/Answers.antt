@@ -2,7 +2,7 @@
 use Rattle.contact_lists.proofs.found.Goals as goal
 
 pub returns-in-Value : goal.returns-in-Value
-returns-in-Value c = rw c.end-1.given.1
+returns-in-Value c = rw c.in-Value.is
 
 pub returns-in-Refused : goal.returns-in-Refused
-returns-in-Refused c = rw c.end-in-Refused-1.given.1
+returns-in-Refused c = rw c.in-Refused.is

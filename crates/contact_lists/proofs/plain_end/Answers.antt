@@ -6,7 +6,7 @@ use Rattle.reader.specs.Reader.{ended}
 use Rattle.contact_lists.proofs.plain_end.Goals as goal
 
 pub returns-in_default : goal.returns-in_default
-returns-in_default c = sym (ap ended (learn (run_says _ _) c.run_at.ensures.0 c.enum_told-1.given.1))
+returns-in_default c = sym (ap ended (learn (run_says _ _) c.run_at.ensures.0 c.in_default.is))
 
 pub returns : goal.returns
-returns c = sym (ap ended (learn (run_says _ _) c.run_at.ensures.0 c._start-1.given.1))
+returns c = sym (ap ended (learn (run_says _ _) c.run_at.ensures.0 c.in-Value.is))

@@ -13,9 +13,11 @@ use Rattle.contact_lists.proofs.Plain.{run_end, ranges-run}
 use Rattle.contact_lists.proofs.ranges_at.Goals as goal
 
 pub returns-in_default : goal.returns-in_default
-returns-in_default c = (sym (unlisted (group range) _ _ (learn u16_says c.u16_at.ensures c.enum_told-1.given.1)), tt)
+returns-in_default c = (sym (unlisted (group range) _ _ (learn u16_says c.u16_at.ensures c.in_default.is)), tt)
 
 pub returns : goal.returns
 returns c =
-    listed (group range) range-lawful (c.args.row.now) ((let by : Bytes (c.args.row.now) = typed (c.args.row.now) c.shared_slice_known-1.given in by)) _ _ _ ((let count-took : Took u16 (c.args.row.now) c.args.at c.count-1.given.0.0 c.count-1.given.0.1.0 = took _ _ u16 (number-lawful 2) ((let by : Bytes (c.args.row.now) = typed (c.args.row.now) c.shared_slice_known-1.given in by)) (learn u16_says c.u16_at.ensures c.count-1.given.1) in count-took)) c.plain_end.result c.found.result
-    (c.plain_end.ensures ∙ run_end (times (group range) c.count-1.given.0.0) (ranges-run c.count-1.given.0.0) _ _) c.found.ensures
+    let by : Bytes c.args.row.now = typed c.args.row.now c.type_inv.row in
+    let count-took : Took u16 c.args.row.now c.args.at c.in-Value.count c.in-Value.first = took _ _ u16 (number-lawful 2) by (learn u16_says c.u16_at.ensures c.in-Value.is) in
+    listed (group range) range-lawful c.args.row.now by _ _ _ count-took c.plain_end.result c.found.result
+    (c.plain_end.ensures ∙ run_end (times (group range) c.in-Value.count) (ranges-run c.in-Value.count) _ _) c.found.ensures

@@ -12,12 +12,16 @@ use Rattle.contact_lists.proofs.Ends.{listed, unlisted}
 use Rattle.contact_lists.proofs.skipped_at.Goals as goal
 
 pub returns-in_default : goal.returns-in_default
-returns-in_default c = (sym (unlisted (group skipped) _ _ (learn u16_says c.u16_at.ensures c.enum_told-1.given.1)), tt)
+returns-in_default c = (sym (unlisted (group skipped) _ _ (learn u16_says c.u16_at.ensures c.in_default.is)), tt)
 
 pub skipped_ends-requires : goal.skipped_ends-requires
 skipped_ends-requires c =
-    ((let count-took : Took u16 (c.args.row.now) c.args.at c.count-1.given.0.0 c.count-1.given.0.1.0 = took _ _ u16 (number-lawful 2) ((let by : Bytes (c.args.row.now) = typed (c.args.row.now) c.shared_slice_known-1.given in by)) (learn u16_says c.u16_at.ensures c.count-1.given.1) in count-took)).inside
+    let by : Bytes c.args.row.now = typed c.args.row.now c.type_inv.row in
+    let count-took : Took u16 c.args.row.now c.args.at c.in-Value.count c.in-Value.first = took _ _ u16 (number-lawful 2) by (learn u16_says c.u16_at.ensures c.in-Value.is) in
+    count-took.inside
 
 pub returns : goal.returns
 returns c =
-    listed (group skipped) skipped-lawful (c.args.row.now) ((let by : Bytes (c.args.row.now) = typed (c.args.row.now) c.shared_slice_known-1.given in by)) _ _ _ ((let count-took : Took u16 (c.args.row.now) c.args.at c.count-1.given.0.0 c.count-1.given.0.1.0 = took _ _ u16 (number-lawful 2) ((let by : Bytes (c.args.row.now) = typed (c.args.row.now) c.shared_slice_known-1.given in by)) (learn u16_says c.u16_at.ensures c.count-1.given.1) in count-took)) c.skipped_ends.result c.found.result c.skipped_ends.ensures c.found.ensures
+    let by : Bytes c.args.row.now = typed c.args.row.now c.type_inv.row in
+    let count-took : Took u16 c.args.row.now c.args.at c.in-Value.count c.in-Value.first = took _ _ u16 (number-lawful 2) by (learn u16_says c.u16_at.ensures c.in-Value.is) in
+    listed (group skipped) skipped-lawful c.args.row.now by _ _ _ count-took c.skipped_ends.result c.found.result c.skipped_ends.ensures c.found.ensures

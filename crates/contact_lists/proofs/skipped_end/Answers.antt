@@ -34,9 +34,11 @@ module _ (row : List ℕ) (at : ℕ) (whole : at + 46 ≤ length row) where
 
 pub returns-in_default : goal.returns-in_default
 returns-in_default c =
-    let told = c.enum_told-1.given.1 in
-    rw (c.refusal.ensures ∙ ap dir_refusal told) (refused-by-dir _ _ ((let whole : let a = c.args in a.at + 46 ≤ length a.row.now = omega (arith, c.if-row-at-lt-SKIPPED_BYTES.false, c.requires) in whole)) (learn dir_says c.dir_at-dir.ensures told))
+    let whole : let a = c.args in a.at + 46 ≤ length a.row.now = omega (arith, c.if-row-at-lt-SKIPPED_BYTES.false, c.requires) in
+    let told = c.in_default.is in
+    rw (c.refusal.ensures ∙ ap dir_refusal told) (refused-by-dir _ _ whole (learn dir_says c.dir_at-dir.ensures told))
 
 pub returns : goal.returns
 returns c =
-    taken _ _ ((let whole : let a = c.args in a.at + 46 ≤ length a.row.now = omega (arith, c.if-row-at-lt-SKIPPED_BYTES.false, c.requires) in whole)) (typed c.args.row.now c.shared_slice_known-1.given) (learn dir_says c.dir_at-dir.ensures c.dir-1.given.1)
+    let whole : let a = c.args in a.at + 46 ≤ length a.row.now = omega (arith, c.if-row-at-lt-SKIPPED_BYTES.false, c.requires) in
+    taken _ _ whole (typed c.args.row.now c.type_inv.row) (learn dir_says c.dir_at-dir.ensures c.in-Value.is)

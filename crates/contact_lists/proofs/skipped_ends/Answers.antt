@@ -16,12 +16,12 @@ loop-i-init c = (search rules, c.requires, rw sub-zero)
 pub returns-in_default : goal.returns-in_default
 returns-in_default c =
     let l = c.loop-i in
-    stop (group skipped) _ _ _ l.i l.p c.loop-i-test.true c.skipped_end-item.ensures l.invariant.2 c.enum_told-1.given.1
+    stop (group skipped) _ _ _ l.i l.p c.loop-i-test.true c.skipped_end-item.ensures l.invariant.2 c.in_default.is
 
 pub loop-i-preserved : goal.loop-i-preserved
 loop-i-preserved c =
     let l = c.loop-i in
-    let t = turn (group skipped) c.args.row.now c.args.at c.args.n l.i l.p c.loop-i-test.true c.skipped_end-item.ensures skipped-lawful (typed c.args.row.now c.shared_slice_known-1.given) l.invariant.2 c.item-1.given.1 in
+    let t = turn (group skipped) c.args.row.now c.args.at c.args.n l.i l.p c.loop-i-test.true c.skipped_end-item.ensures skipped-lawful (typed c.args.row.now c.type_inv.row) l.invariant.2 c.in-Value.is in
     (search rules, t.inside, t.same)
 
 pub returns : goal.returns
