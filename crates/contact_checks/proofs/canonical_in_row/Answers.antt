@@ -21,36 +21,48 @@ loop-i-init c =
 
 pub be32-a-requires : goal.be32-a-requires
 be32-a-requires c =
-    omega (arith, ((let turned : Turn (λ l. 8) range_at (c.args.row.now) (c.args.count) c.loop-i.i c.loop-i.p = turn (λ l. 8) range_at (c.args.row.now) (c.args.count) c.loop-i.i c.loop-i.p c.loop-i-test.true c.loop-i.invariant.1 in turned)).ranges)
+    let turned : Turn (λ l. 8) range_at c.args.row.now c.args.count c.loop-i.i c.loop-i.p = turn (λ l. 8) range_at c.args.row.now c.args.count c.loop-i.i c.loop-i.p c.loop-i-test.true c.loop-i.invariant.1 in
+    omega (arith, turned.ranges)
 
 pub overflow_add-p : goal.overflow_add-p
 overflow_add-p c =
-    omega (arith, ((let turned : Turn (λ l. 8) range_at (c.args.row.now) (c.args.count) c.loop-i.i c.loop-i.p = turn (λ l. 8) range_at (c.args.row.now) (c.args.count) c.loop-i.i c.loop-i.p c.loop-i-test.true c.loop-i.invariant.1 in turned)).fits)
+    let turned : Turn (λ l. 8) range_at c.args.row.now c.args.count c.loop-i.i c.loop-i.p = turn (λ l. 8) range_at c.args.row.now c.args.count c.loop-i.i c.loop-i.p c.loop-i-test.true c.loop-i.invariant.1 in
+    omega (arith, turned.fits)
 
 pub be32-b-requires : goal.be32-b-requires
 be32-b-requires c =
-    omega (arith, ((let turned : Turn (λ l. 8) range_at (c.args.row.now) (c.args.count) c.loop-i.i c.loop-i.p = turn (λ l. 8) range_at (c.args.row.now) (c.args.count) c.loop-i.i c.loop-i.p c.loop-i-test.true c.loop-i.invariant.1 in turned)).fits)
+    let turned : Turn (λ l. 8) range_at c.args.row.now c.args.count c.loop-i.i c.loop-i.p = turn (λ l. 8) range_at c.args.row.now c.args.count c.loop-i.i c.loop-i.p c.loop-i-test.true c.loop-i.invariant.1 in
+    omega (arith, turned.fits)
 
 pub returns-then-b-a : goal.returns-then-b-a
 returns-then-b-a c =
-    ordered-turned c.loop-i.invariant.2 ((let here : Begin (c.args.row.now) (c.args.count) c.loop-i.i c.loop-i.p c.be32-a.result c.be32-b.result = range-read ((let turned : Turn (λ l. 8) range_at (c.args.row.now) (c.args.count) c.loop-i.i c.loop-i.p = turn (λ l. 8) range_at (c.args.row.now) (c.args.count) c.loop-i.i c.loop-i.p c.loop-i-test.true c.loop-i.invariant.1 in turned)) c.be32-a.ensures.0 c.be32-b.ensures.0 in here)) c.if-b-a.true
+    let turned : Turn (λ l. 8) range_at c.args.row.now c.args.count c.loop-i.i c.loop-i.p = turn (λ l. 8) range_at c.args.row.now c.args.count c.loop-i.i c.loop-i.p c.loop-i-test.true c.loop-i.invariant.1 in
+    let here : Begin c.args.row.now c.args.count c.loop-i.i c.loop-i.p c.be32-a.result c.be32-b.result = range-read turned c.be32-a.ensures.0 c.be32-b.ensures.0 in
+    ordered-turned c.loop-i.invariant.2 here c.if-b-a.true
 
 pub returns-then-a-low : goal.returns-then-a-low
 returns-then-a-low c =
-    ordered-low c.loop-i.invariant.2 ((let here : Begin (c.args.row.now) (c.args.count) c.loop-i.i c.loop-i.p c.be32-a.result c.be32-b.result = range-read ((let turned : Turn (λ l. 8) range_at (c.args.row.now) (c.args.count) c.loop-i.i c.loop-i.p = turn (λ l. 8) range_at (c.args.row.now) (c.args.count) c.loop-i.i c.loop-i.p c.loop-i-test.true c.loop-i.invariant.1 in turned)) c.be32-a.ensures.0 c.be32-b.ensures.0 in here)) c.if-b-a.false c.if-a-low.true
+    let turned : Turn (λ l. 8) range_at c.args.row.now c.args.count c.loop-i.i c.loop-i.p = turn (λ l. 8) range_at c.args.row.now c.args.count c.loop-i.i c.loop-i.p c.loop-i-test.true c.loop-i.invariant.1 in
+    let here : Begin c.args.row.now c.args.count c.loop-i.i c.loop-i.p c.be32-a.result c.be32-b.result = range-read turned c.be32-a.ensures.0 c.be32-b.ensures.0 in
+    ordered-low c.loop-i.invariant.2 here c.if-b-a.false c.if-a-low.true
 
 pub returns-then-high-b : goal.returns-then-high-b
 returns-then-high-b c =
-    ordered-high c.loop-i.invariant.2 ((let here : Begin (c.args.row.now) (c.args.count) c.loop-i.i c.loop-i.p c.be32-a.result c.be32-b.result = range-read ((let turned : Turn (λ l. 8) range_at (c.args.row.now) (c.args.count) c.loop-i.i c.loop-i.p = turn (λ l. 8) range_at (c.args.row.now) (c.args.count) c.loop-i.i c.loop-i.p c.loop-i-test.true c.loop-i.invariant.1 in turned)) c.be32-a.ensures.0 c.be32-b.ensures.0 in here)) c.if-b-a.false c.if-a-low.false c.if-high-b.true
+    let turned : Turn (λ l. 8) range_at c.args.row.now c.args.count c.loop-i.i c.loop-i.p = turn (λ l. 8) range_at c.args.row.now c.args.count c.loop-i.i c.loop-i.p c.loop-i-test.true c.loop-i.invariant.1 in
+    let here : Begin c.args.row.now c.args.count c.loop-i.i c.loop-i.p c.be32-a.result c.be32-b.result = range-read turned c.be32-a.ensures.0 c.be32-b.ensures.0 in
+    ordered-high c.loop-i.invariant.2 here c.if-b-a.false c.if-a-low.false c.if-high-b.true
 
 pub overflow_add-p-in-loop-i : goal.overflow_add-p-in-loop-i
 overflow_add-p-in-loop-i c =
-    omega (arith, ((let turned : Turn (λ l. 8) range_at (c.args.row.now) (c.args.count) c.loop-i.i c.loop-i.p = turn (λ l. 8) range_at (c.args.row.now) (c.args.count) c.loop-i.i c.loop-i.p c.loop-i-test.true c.loop-i.invariant.1 in turned)).fits)
+    let turned : Turn (λ l. 8) range_at c.args.row.now c.args.count c.loop-i.i c.loop-i.p = turn (λ l. 8) range_at c.args.row.now c.args.count c.loop-i.i c.loop-i.p c.loop-i-test.true c.loop-i.invariant.1 in
+    omega (arith, turned.fits)
 
 pub loop-i-preserved : goal.loop-i-preserved
 loop-i-preserved c =
-    (omega arith, ((let turned : Turn (λ l. 8) range_at (c.args.row.now) (c.args.count) c.loop-i.i c.loop-i.p = turn (λ l. 8) range_at (c.args.row.now) (c.args.count) c.loop-i.i c.loop-i.p c.loop-i-test.true c.loop-i.invariant.1 in turned)).rooms, ordered-on c.loop-i.invariant.2 ((let here : Begin (c.args.row.now) (c.args.count) c.loop-i.i c.loop-i.p c.be32-a.result c.be32-b.result = range-read ((let turned : Turn (λ l. 8) range_at (c.args.row.now) (c.args.count) c.loop-i.i c.loop-i.p = turn (λ l. 8) range_at (c.args.row.now) (c.args.count) c.loop-i.i c.loop-i.p c.loop-i-test.true c.loop-i.invariant.1 in turned)) c.be32-a.ensures.0 c.be32-b.ensures.0 in here)) c.if-b-a.false c.if-a-low.false c.if-high-b.false)
+    let turned : Turn (λ l. 8) range_at c.args.row.now c.args.count c.loop-i.i c.loop-i.p = turn (λ l. 8) range_at c.args.row.now c.args.count c.loop-i.i c.loop-i.p c.loop-i-test.true c.loop-i.invariant.1 in
+    let here : Begin c.args.row.now c.args.count c.loop-i.i c.loop-i.p c.be32-a.result c.be32-b.result = range-read turned c.be32-a.ensures.0 c.be32-b.ensures.0 in
+    (omega arith, turned.rooms, ordered-on c.loop-i.invariant.2 here c.if-b-a.false c.if-a-low.false c.if-high-b.false)
 
 pub returns : goal.returns
 returns c =
-    ordered_end c.loop-i.invariant.2 (none_left (λ l. 8) range_at (c.args.row.now) (c.args.count) c.loop-i.i c.loop-i.p c.loop-i-test.false)
+    ordered_end c.loop-i.invariant.2 (none_left (λ l. 8) range_at c.args.row.now c.args.count c.loop-i.i c.loop-i.p c.loop-i-test.false)

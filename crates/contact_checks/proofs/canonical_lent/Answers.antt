@@ -14,26 +14,30 @@ pub loop-i-init : goal.loop-i-init
 loop-i-init c = (search rules, record { so = refl })
 
 pub overflow_cast-a : goal.overflow_cast-a
-overflow_cast-a c = omega (arith, c.shared_slice_known-1.given (2 * c.loop-i.i))
+overflow_cast-a c = omega (arith, c.type_inv.list (2 * c.loop-i.i))
 
 pub overflow_cast-b : goal.overflow_cast-b
-overflow_cast-b c = omega (arith, c.shared_slice_known-in-loop-i-1.given (2 * c.loop-i.i + 1))
+overflow_cast-b c = omega (arith, c.type_inv.list (2 * c.loop-i.i + 1))
 
 pub returns-then-b-a : goal.returns-then-b-a
 returns-then-b-a c =
-    ordered-turned c.loop-i.invariant.1 ((let here : let a = c.args in drop c.loop-i.i (pairs a.count a.list.now) ≡ pair a.list.now c.loop-i.i ∷ drop (c.loop-i.i + 1) (pairs a.count a.list.now) = drop-pairs c.args.list.now c.args.count c.loop-i.i c.loop-i-test.true c.requires.0 in here)) c.if-b-a.true
+    let here : let a = c.args in drop c.loop-i.i (pairs a.count a.list.now) ≡ pair a.list.now c.loop-i.i ∷ drop (c.loop-i.i + 1) (pairs a.count a.list.now) = drop-pairs c.args.list.now c.args.count c.loop-i.i c.loop-i-test.true c.requires.0 in
+    ordered-turned c.loop-i.invariant.1 here c.if-b-a.true
 
 pub returns-then-a-low : goal.returns-then-a-low
 returns-then-a-low c =
-    ordered-low c.loop-i.invariant.1 ((let here : let a = c.args in drop c.loop-i.i (pairs a.count a.list.now) ≡ pair a.list.now c.loop-i.i ∷ drop (c.loop-i.i + 1) (pairs a.count a.list.now) = drop-pairs c.args.list.now c.args.count c.loop-i.i c.loop-i-test.true c.requires.0 in here)) c.if-b-a.false c.if-a-low.true
+    let here : let a = c.args in drop c.loop-i.i (pairs a.count a.list.now) ≡ pair a.list.now c.loop-i.i ∷ drop (c.loop-i.i + 1) (pairs a.count a.list.now) = drop-pairs c.args.list.now c.args.count c.loop-i.i c.loop-i-test.true c.requires.0 in
+    ordered-low c.loop-i.invariant.1 here c.if-b-a.false c.if-a-low.true
 
 pub returns-then-high-b : goal.returns-then-high-b
 returns-then-high-b c =
-    ordered-high c.loop-i.invariant.1 ((let here : let a = c.args in drop c.loop-i.i (pairs a.count a.list.now) ≡ pair a.list.now c.loop-i.i ∷ drop (c.loop-i.i + 1) (pairs a.count a.list.now) = drop-pairs c.args.list.now c.args.count c.loop-i.i c.loop-i-test.true c.requires.0 in here)) c.if-b-a.false c.if-a-low.false c.if-high-b.true
+    let here : let a = c.args in drop c.loop-i.i (pairs a.count a.list.now) ≡ pair a.list.now c.loop-i.i ∷ drop (c.loop-i.i + 1) (pairs a.count a.list.now) = drop-pairs c.args.list.now c.args.count c.loop-i.i c.loop-i-test.true c.requires.0 in
+    ordered-high c.loop-i.invariant.1 here c.if-b-a.false c.if-a-low.false c.if-high-b.true
 
 pub loop-i-preserved : goal.loop-i-preserved
 loop-i-preserved c =
-    (search rules, ordered-on c.loop-i.invariant.1 ((let here : let a = c.args in drop c.loop-i.i (pairs a.count a.list.now) ≡ pair a.list.now c.loop-i.i ∷ drop (c.loop-i.i + 1) (pairs a.count a.list.now) = drop-pairs c.args.list.now c.args.count c.loop-i.i c.loop-i-test.true c.requires.0 in here)) c.if-b-a.false c.if-a-low.false c.if-high-b.false)
+    let here : let a = c.args in drop c.loop-i.i (pairs a.count a.list.now) ≡ pair a.list.now c.loop-i.i ∷ drop (c.loop-i.i + 1) (pairs a.count a.list.now) = drop-pairs c.args.list.now c.args.count c.loop-i.i c.loop-i-test.true c.requires.0 in
+    (search rules, ordered-on c.loop-i.invariant.1 here c.if-b-a.false c.if-a-low.false c.if-high-b.false)
 
 pub returns : goal.returns
 returns c =

@@ -13,21 +13,25 @@ loop-i-init c = rw sub-zero (omega arith, c.requires, record { so = refl })
 
 pub is_key-requires : goal.is_key-requires
 is_key-requires c =
-    omega (arith, ((let turned : Turn (λ l. 46) key_number (c.args.bytes.now) (c.args.count) c.loop-i.i c.loop-i.p = turn (λ l. 46) key_number (c.args.bytes.now) (c.args.count) c.loop-i.i c.loop-i.p c.loop-i-test.true c.loop-i.invariant.1 in turned)).ranges)
+    let turned : Turn (λ l. 46) key_number c.args.bytes.now c.args.count c.loop-i.i c.loop-i.p = turn (λ l. 46) key_number c.args.bytes.now c.args.count c.loop-i.i c.loop-i.p c.loop-i-test.true c.loop-i.invariant.1 in
+    omega (arith, turned.ranges)
 
 pub returns-then-is_key : goal.returns-then-is_key
 returns-then-is_key c =
-    among-found c.loop-i.invariant.2 ((let turned : Turn (λ l. 46) key_number (c.args.bytes.now) (c.args.count) c.loop-i.i c.loop-i.p = turn (λ l. 46) key_number (c.args.bytes.now) (c.args.count) c.loop-i.i c.loop-i.p c.loop-i-test.true c.loop-i.invariant.1 in turned)).here (eqb-true _ _ (sym c.is_key.ensures ∙ c.if-is_key.true))
+    let turned : Turn (λ l. 46) key_number c.args.bytes.now c.args.count c.loop-i.i c.loop-i.p = turn (λ l. 46) key_number c.args.bytes.now c.args.count c.loop-i.i c.loop-i.p c.loop-i-test.true c.loop-i.invariant.1 in
+    among-found c.loop-i.invariant.2 turned.here (eqb-true _ _ (sym c.is_key.ensures ∙ c.if-is_key.true))
 
 pub overflow_add-p : goal.overflow_add-p
 overflow_add-p c =
-    omega (arith, ((let turned : Turn (λ l. 46) key_number (c.args.bytes.now) (c.args.count) c.loop-i.i c.loop-i.p = turn (λ l. 46) key_number (c.args.bytes.now) (c.args.count) c.loop-i.i c.loop-i.p c.loop-i-test.true c.loop-i.invariant.1 in turned)).fits)
+    let turned : Turn (λ l. 46) key_number c.args.bytes.now c.args.count c.loop-i.i c.loop-i.p = turn (λ l. 46) key_number c.args.bytes.now c.args.count c.loop-i.i c.loop-i.p c.loop-i-test.true c.loop-i.invariant.1 in
+    omega (arith, turned.fits)
 
 pub loop-i-preserved : goal.loop-i-preserved
 loop-i-preserved c =
-    let here = (let turned : Turn (λ l. 46) key_number (c.args.bytes.now) (c.args.count) c.loop-i.i c.loop-i.p = turn (λ l. 46) key_number (c.args.bytes.now) (c.args.count) c.loop-i.i c.loop-i.p c.loop-i-test.true c.loop-i.invariant.1 in turned) in
+    let turned : Turn (λ l. 46) key_number c.args.bytes.now c.args.count c.loop-i.i c.loop-i.p = turn (λ l. 46) key_number c.args.bytes.now c.args.count c.loop-i.i c.loop-i.p c.loop-i-test.true c.loop-i.invariant.1 in
+    let here = turned in
     (omega arith, here.rooms, among-on c.loop-i.invariant.2 here.here (eqb-false _ _ (sym c.is_key.ensures ∙ c.if-is_key.false)))
 
 pub returns : goal.returns
 returns c =
-    among-end c.loop-i.invariant.2 (none_left (λ l. 46) key_number (c.args.bytes.now) (c.args.count) c.loop-i.i c.loop-i.p c.loop-i-test.false)
+    among-end c.loop-i.invariant.2 (none_left (λ l. 46) key_number c.args.bytes.now c.args.count c.loop-i.i c.loop-i.p c.loop-i-test.false)

@@ -17,39 +17,45 @@ loop-left-init c =
 
 pub overflow_mul-p : goal.overflow_mul-p
 overflow_mul-p c =
-    omega (arith, (let inside_of : c.args.first + 46 * (c.loop-left.left - 1) + 46 ≤ length c.args.bytes.now = let a = c.args in inside a.bytes.now a.first a.count c.requires c.loop-left.left c.loop-left-test.true c.loop-left.invariant.0 in inside_of))
+    let inside_of : c.args.first + 46 * (c.loop-left.left - 1) + 46 ≤ length c.args.bytes.now = let a = c.args in inside a.bytes.now a.first a.count c.requires c.loop-left.left c.loop-left-test.true c.loop-left.invariant.0 in
+    omega (arith, inside_of)
 
 pub overflow_add-p : goal.overflow_add-p
 overflow_add-p c =
-    omega (arith, (let inside_of : c.args.first + 46 * (c.loop-left.left - 1) + 46 ≤ length c.args.bytes.now = let a = c.args in inside a.bytes.now a.first a.count c.requires c.loop-left.left c.loop-left-test.true c.loop-left.invariant.0 in inside_of))
+    let inside_of : c.args.first + 46 * (c.loop-left.left - 1) + 46 ≤ length c.args.bytes.now = let a = c.args in inside a.bytes.now a.first a.count c.requires c.loop-left.left c.loop-left-test.true c.loop-left.invariant.0 in
+    omega (arith, inside_of)
 
 pub key_at-key-requires : goal.key_at-key-requires
 key_at-key-requires c =
-    (let inside_of : c.args.first + 46 * (c.loop-left.left - 1) + 46 ≤ length c.args.bytes.now = let a = c.args in inside a.bytes.now a.first a.count c.requires c.loop-left.left c.loop-left-test.true c.loop-left.invariant.0 in inside_of)
+    let inside_of : c.args.first + 46 * (c.loop-left.left - 1) + 46 ≤ length c.args.bytes.now = let a = c.args in inside a.bytes.now a.first a.count c.requires c.loop-left.left c.loop-left-test.true c.loop-left.invariant.0 in
+    inside_of
 
 pub overflow_add-p-then-add : goal.overflow_add-p-then-add
 overflow_add-p-then-add c =
-    omega (arith, (let inside_of : c.args.first + 46 * (c.loop-left.left - 1) + 46 ≤ length c.args.bytes.now = let a = c.args in inside a.bytes.now a.first a.count c.requires c.loop-left.left c.loop-left-test.true c.loop-left.invariant.0 in inside_of))
+    let inside_of : c.args.first + 46 * (c.loop-left.left - 1) + 46 ≤ length c.args.bytes.now = let a = c.args in inside a.bytes.now a.first a.count c.requires c.loop-left.left c.loop-left-test.true c.loop-left.invariant.0 in
+    omega (arith, inside_of)
 
 pub comes_again-requires : goal.comes_again-requires
 comes_again-requires c =
-    let l = (c).before in
-    let a = (l.before.before.before).args in
-    behind-stand a.bytes.now a.first a.count (l.before.before.before).pre l.loop.left c.loop-left-test.true l.loop.inv.0
+    let l = c.before in
+    let a = l.before.before.before.args in
+    behind-stand a.bytes.now a.first a.count l.before.before.before.pre l.loop.left c.loop-left-test.true l.loop.inv.0
 
 pub returns-then-comes_again : goal.returns-then-comes_again
 returns-then-comes_again c =
+    let asked : let a = c.args in c.comes_again.result ≡ any (eqb c.key_at-key.result) (drop c.loop-left.left (key_numbers a.count (drop a.first a.bytes.now))) = let a = c.args in
+    c.comes_again.ensures ∙ ap (any (eqb c.key_at-key.result)) (behind a.bytes.now a.first a.count c.requires c.loop-left.left c.loop-left-test.taken c.loop-left.inv.0) in
     let a = c.args in
-    sym (not-distinct a.bytes.now a.first a.count c.requires c.loop-left.left c.loop-left-test.taken c.loop-left.inv.0 c.key_at-key.result c.key_at-key.ensures.0 (sym ((let asked : let a = c.args in c.comes_again.result ≡ any (eqb c.key_at-key.result) (drop c.loop-left.left (key_numbers a.count (drop a.first a.bytes.now))) = let a = c.args in
-    c.comes_again.ensures ∙ ap (any (eqb c.key_at-key.result)) (behind a.bytes.now a.first a.count c.requires c.loop-left.left c.loop-left-test.taken c.loop-left.inv.0) in asked)) ∙ c.if-comes_again.true))
+    sym (not-distinct a.bytes.now a.first a.count c.requires c.loop-left.left c.loop-left-test.taken c.loop-left.inv.0 c.key_at-key.result c.key_at-key.ensures.0 (sym asked ∙ c.if-comes_again.true))
 
 pub loop-left-preserved-else-comes_again : goal.loop-left-preserved-else-comes_again
 loop-left-preserved-else-comes_again c =
+    let asked : let a = c.args in c.comes_again.result ≡ any (eqb c.key_at-key.result) (drop c.loop-left.left (key_numbers a.count (drop a.first a.bytes.now))) = let a = c.args in
+    c.comes_again.ensures ∙ ap (any (eqb c.key_at-key.result)) (behind a.bytes.now a.first a.count c.requires c.loop-left.left c.loop-left-test.taken c.loop-left.inv.0) in
     let on = (let a = c.args in
     let at = here a.bytes.now a.first a.count c.requires c.loop-left.left c.loop-left-test.true c.loop-left.invariant.0 in
     rw (c.add.ensures.1, c.mix.ensures)
-    (goes_on c.loop-left.bits c.key_at-key.result (drop c.loop-left.left (key_numbers a.count (drop a.first a.bytes.now))) (rw (← c.key_at-key.ensures.0) at at) (sym ((let asked : let a = c.args in c.comes_again.result ≡ any (eqb c.key_at-key.result) (drop c.loop-left.left (key_numbers a.count (drop a.first a.bytes.now))) = let a = c.args in
-    c.comes_again.ensures ∙ ap (any (eqb c.key_at-key.result)) (behind a.bytes.now a.first a.count c.requires c.loop-left.left c.loop-left-test.taken c.loop-left.inv.0) in asked)) ∙ c.if-comes_again.false) c.loop-left.invariant.1 c.loop-left.invariant.2)) in
+    (goes_on c.loop-left.bits c.key_at-key.result (drop c.loop-left.left (key_numbers a.count (drop a.first a.bytes.now))) (rw (← c.key_at-key.ensures.0) at at) (sym asked ∙ c.if-comes_again.false) c.loop-left.invariant.1 c.loop-left.invariant.2)) in
     (omega arith, on.0, on.1, search rules)
 
 pub loop-left-preserved : goal.loop-left-preserved

@@ -15,20 +15,26 @@ loop-i-init c = rw sub-zero (omega arith, c.requires, record { so = refl })
 
 pub key_at-key-requires : goal.key_at-key-requires
 key_at-key-requires c =
-    omega (arith, ((let turned : Turn (λ l. 46) key_number (c.args.bytes.now) (c.args.count) c.loop-i.i c.loop-i.p = turn (λ l. 46) key_number (c.args.bytes.now) (c.args.count) c.loop-i.i c.loop-i.p c.loop-i-test.true c.loop-i.invariant.1 in turned)).ranges)
+    let turned : Turn (λ l. 46) key_number c.args.bytes.now c.args.count c.loop-i.i c.loop-i.p = turn (λ l. 46) key_number c.args.bytes.now c.args.count c.loop-i.i c.loop-i.p c.loop-i-test.true c.loop-i.invariant.1 in
+    omega (arith, turned.ranges)
 
 pub returns-then-key-low : goal.returns-then-key-low
 returns-then-key-low c =
-    ascends-low c.loop-i.invariant.2 ((let here : key_numbers (c.args.count - c.loop-i.i) (drop c.loop-i.p (c.args.bytes.now)) ≡ c.key_at-key.result ∷ key_numbers (c.args.count - (c.loop-i.i + 1)) (drop (c.loop-i.p + 46) (c.args.bytes.now)) = rw c.key_at-key.ensures.0 ((let turned : Turn (λ l. 46) key_number (c.args.bytes.now) (c.args.count) c.loop-i.i c.loop-i.p = turn (λ l. 46) key_number (c.args.bytes.now) (c.args.count) c.loop-i.i c.loop-i.p c.loop-i-test.true c.loop-i.invariant.1 in turned)).here in here)) c.if-key-low.true
+    let turned : Turn (λ l. 46) key_number c.args.bytes.now c.args.count c.loop-i.i c.loop-i.p = turn (λ l. 46) key_number c.args.bytes.now c.args.count c.loop-i.i c.loop-i.p c.loop-i-test.true c.loop-i.invariant.1 in
+    let here : key_numbers (c.args.count - c.loop-i.i) (drop c.loop-i.p c.args.bytes.now) ≡ c.key_at-key.result ∷ key_numbers (c.args.count - (c.loop-i.i + 1)) (drop (c.loop-i.p + 46) c.args.bytes.now) = rw c.key_at-key.ensures.0 turned.here in
+    ascends-low c.loop-i.invariant.2 here c.if-key-low.true
 
 pub overflow_add-p : goal.overflow_add-p
 overflow_add-p c =
-    omega (arith, ((let turned : Turn (λ l. 46) key_number (c.args.bytes.now) (c.args.count) c.loop-i.i c.loop-i.p = turn (λ l. 46) key_number (c.args.bytes.now) (c.args.count) c.loop-i.i c.loop-i.p c.loop-i-test.true c.loop-i.invariant.1 in turned)).fits)
+    let turned : Turn (λ l. 46) key_number c.args.bytes.now c.args.count c.loop-i.i c.loop-i.p = turn (λ l. 46) key_number c.args.bytes.now c.args.count c.loop-i.i c.loop-i.p c.loop-i-test.true c.loop-i.invariant.1 in
+    omega (arith, turned.fits)
 
 pub loop-i-preserved : goal.loop-i-preserved
 loop-i-preserved c =
-    (omega arith, ((let turned : Turn (λ l. 46) key_number (c.args.bytes.now) (c.args.count) c.loop-i.i c.loop-i.p = turn (λ l. 46) key_number (c.args.bytes.now) (c.args.count) c.loop-i.i c.loop-i.p c.loop-i-test.true c.loop-i.invariant.1 in turned)).rooms, ascends-on c.loop-i.invariant.2 ((let here : key_numbers (c.args.count - c.loop-i.i) (drop c.loop-i.p (c.args.bytes.now)) ≡ c.key_at-key.result ∷ key_numbers (c.args.count - (c.loop-i.i + 1)) (drop (c.loop-i.p + 46) (c.args.bytes.now)) = rw c.key_at-key.ensures.0 ((let turned : Turn (λ l. 46) key_number (c.args.bytes.now) (c.args.count) c.loop-i.i c.loop-i.p = turn (λ l. 46) key_number (c.args.bytes.now) (c.args.count) c.loop-i.i c.loop-i.p c.loop-i-test.true c.loop-i.invariant.1 in turned)).here in here)) c.if-key-low.false)
+    let turned : Turn (λ l. 46) key_number c.args.bytes.now c.args.count c.loop-i.i c.loop-i.p = turn (λ l. 46) key_number c.args.bytes.now c.args.count c.loop-i.i c.loop-i.p c.loop-i-test.true c.loop-i.invariant.1 in
+    let here : key_numbers (c.args.count - c.loop-i.i) (drop c.loop-i.p c.args.bytes.now) ≡ c.key_at-key.result ∷ key_numbers (c.args.count - (c.loop-i.i + 1)) (drop (c.loop-i.p + 46) c.args.bytes.now) = rw c.key_at-key.ensures.0 turned.here in
+    (omega arith, turned.rooms, ascends-on c.loop-i.invariant.2 here c.if-key-low.false)
 
 pub returns : goal.returns
 returns c =
-    ascends-end c.loop-i.invariant.2 (none_left (λ l. 46) key_number (c.args.bytes.now) (c.args.count) c.loop-i.i c.loop-i.p c.loop-i-test.false)
+    ascends-end c.loop-i.invariant.2 (none_left (λ l. 46) key_number c.args.bytes.now c.args.count c.loop-i.i c.loop-i.p c.loop-i-test.false)

@@ -15,25 +15,31 @@ loop-i-init c = rw sub-zero (omega arith, c.requires, omega arith, record { so =
 
 pub current_at-found-requires : goal.current_at-found-requires
 current_at-found-requires c =
-    omega (arith, ((let turned : Turn (chain_width (c.args.padded)) superseded_at (c.args.bytes.now) (c.args.count) c.loop-i.i c.loop-i.p = turn (chain_width (c.args.padded)) superseded_at (c.args.bytes.now) (c.args.count) c.loop-i.i c.loop-i.p c.loop-i-test.true c.loop-i.invariant.1 in turned)).ranges, (let long : 43 ≤ chain_width (c.args.padded) (drop c.loop-i.p (c.args.bytes.now)) = width-least (c.args.bytes.now) c.loop-i.p (c.args.padded) in long))
+    let turned : Turn (chain_width c.args.padded) superseded_at c.args.bytes.now c.args.count c.loop-i.i c.loop-i.p = turn (chain_width c.args.padded) superseded_at c.args.bytes.now c.args.count c.loop-i.i c.loop-i.p c.loop-i-test.true c.loop-i.invariant.1 in
+    let long : 43 ≤ chain_width c.args.padded (drop c.loop-i.p c.args.bytes.now) = width-least c.args.bytes.now c.loop-i.p c.args.padded in
+    omega (arith, turned.ranges, long)
 
 pub returns-then-found-gt1 : goal.returns-then-found-gt1
 returns-then-found-gt1 c =
-    currents-two c.loop-i.invariant.3 ((let turned : Turn (chain_width (c.args.padded)) superseded_at (c.args.bytes.now) (c.args.count) c.loop-i.i c.loop-i.p = turn (chain_width (c.args.padded)) superseded_at (c.args.bytes.now) (c.args.count) c.loop-i.i c.loop-i.p c.loop-i-test.true c.loop-i.invariant.1 in turned)).here c.current_at-found.ensures.0 c.if-found-gt1.true
+    let turned : Turn (chain_width c.args.padded) superseded_at c.args.bytes.now c.args.count c.loop-i.i c.loop-i.p = turn (chain_width c.args.padded) superseded_at c.args.bytes.now c.args.count c.loop-i.i c.loop-i.p c.loop-i-test.true c.loop-i.invariant.1 in
+    currents-two c.loop-i.invariant.3 turned.here c.current_at-found.ensures.0 c.if-found-gt1.true
 
 pub after_chain-p-requires : goal.after_chain-p-requires
 after_chain-p-requires c =
-    omega (arith, ((let turned : Turn (chain_width (c.args.padded)) superseded_at (c.args.bytes.now) (c.args.count) c.loop-i.i c.loop-i.p = turn (chain_width (c.args.padded)) superseded_at (c.args.bytes.now) (c.args.count) c.loop-i.i c.loop-i.p c.loop-i-test.true c.loop-i.invariant.1 in turned)).ranges, (let long : 43 ≤ chain_width (c.args.padded) (drop c.loop-i.p (c.args.bytes.now)) = width-least (c.args.bytes.now) c.loop-i.p (c.args.padded) in long))
+    let turned : Turn (chain_width c.args.padded) superseded_at c.args.bytes.now c.args.count c.loop-i.i c.loop-i.p = turn (chain_width c.args.padded) superseded_at c.args.bytes.now c.args.count c.loop-i.i c.loop-i.p c.loop-i-test.true c.loop-i.invariant.1 in
+    let long : 43 ≤ chain_width c.args.padded (drop c.loop-i.p c.args.bytes.now) = width-least c.args.bytes.now c.loop-i.p c.args.padded in
+    omega (arith, turned.ranges, long)
 
 pub loop-i-preserved : goal.loop-i-preserved
 loop-i-preserved c =
+    let turned : Turn (chain_width c.args.padded) superseded_at c.args.bytes.now c.args.count c.loop-i.i c.loop-i.p = turn (chain_width c.args.padded) superseded_at c.args.bytes.now c.args.count c.loop-i.i c.loop-i.p c.loop-i-test.true c.loop-i.invariant.1 in
     (
       omega arith,
-      rw c.after_chain-p.ensures ((let turned : Turn (chain_width (c.args.padded)) superseded_at (c.args.bytes.now) (c.args.count) c.loop-i.i c.loop-i.p = turn (chain_width (c.args.padded)) superseded_at (c.args.bytes.now) (c.args.count) c.loop-i.i c.loop-i.p c.loop-i-test.true c.loop-i.invariant.1 in turned)).rooms,
+      rw c.after_chain-p.ensures turned.rooms,
       omega arith,
-      rw c.after_chain-p.ensures (currents-on c.loop-i.invariant.3 ((let turned : Turn (chain_width (c.args.padded)) superseded_at (c.args.bytes.now) (c.args.count) c.loop-i.i c.loop-i.p = turn (chain_width (c.args.padded)) superseded_at (c.args.bytes.now) (c.args.count) c.loop-i.i c.loop-i.p c.loop-i-test.true c.loop-i.invariant.1 in turned)).here c.current_at-found.ensures.0),
+      rw c.after_chain-p.ensures (currents-on c.loop-i.invariant.3 turned.here c.current_at-found.ensures.0),
     )
 
 pub returns : goal.returns
 returns c =
-    currents-end c.loop-i.invariant.3 c.loop-i.invariant.2 (none_left (chain_width (c.args.padded)) superseded_at (c.args.bytes.now) (c.args.count) c.loop-i.i c.loop-i.p c.loop-i-test.false)
+    currents-end c.loop-i.invariant.3 c.loop-i.invariant.2 (none_left (chain_width c.args.padded) superseded_at c.args.bytes.now c.args.count c.loop-i.i c.loop-i.p c.loop-i-test.false)

@@ -20,24 +20,32 @@ loop-i-init c =
 
 pub be32-n-requires : goal.be32-n-requires
 be32-n-requires c =
-    omega (arith, ((let turned : Turn (λ l. 4) (big_endian 4) (c.args.row.now) (c.args.count) c.loop-i.i c.loop-i.p = turn (λ l. 4) (big_endian 4) (c.args.row.now) (c.args.count) c.loop-i.i c.loop-i.p c.loop-i-test.true c.loop-i.invariant.1 in turned)).ranges)
+    let turned : Turn (λ l. 4) (big_endian 4) c.args.row.now c.args.count c.loop-i.i c.loop-i.p = turn (λ l. 4) (big_endian 4) c.args.row.now c.args.count c.loop-i.i c.loop-i.p c.loop-i-test.true c.loop-i.invariant.1 in
+    omega (arith, turned.ranges)
 
 pub returns-then-n-low : goal.returns-then-n-low
 returns-then-n-low c =
-    rising-low c.loop-i.invariant.2 ((let here : numbers (c.args.count - c.loop-i.i) (drop c.loop-i.p (c.args.row.now)) ≡ c.be32-n.result ∷ numbers (c.args.count - (c.loop-i.i + 1)) (drop (c.loop-i.p + 4) (c.args.row.now)) = rw c.be32-n.ensures.0 ((let turned : Turn (λ l. 4) (big_endian 4) (c.args.row.now) (c.args.count) c.loop-i.i c.loop-i.p = turn (λ l. 4) (big_endian 4) (c.args.row.now) (c.args.count) c.loop-i.i c.loop-i.p c.loop-i-test.true c.loop-i.invariant.1 in turned)).here in here)) c.if-n-low.true
+    let turned : Turn (λ l. 4) (big_endian 4) c.args.row.now c.args.count c.loop-i.i c.loop-i.p = turn (λ l. 4) (big_endian 4) c.args.row.now c.args.count c.loop-i.i c.loop-i.p c.loop-i-test.true c.loop-i.invariant.1 in
+    let here : numbers (c.args.count - c.loop-i.i) (drop c.loop-i.p c.args.row.now) ≡ c.be32-n.result ∷ numbers (c.args.count - (c.loop-i.i + 1)) (drop (c.loop-i.p + 4) c.args.row.now) = rw c.be32-n.ensures.0 turned.here in
+    rising-low c.loop-i.invariant.2 here c.if-n-low.true
 
 pub returns-then-sent-n : goal.returns-then-sent-n
 returns-then-sent-n c =
-    rising-high c.loop-i.invariant.2 ((let here : numbers (c.args.count - c.loop-i.i) (drop c.loop-i.p (c.args.row.now)) ≡ c.be32-n.result ∷ numbers (c.args.count - (c.loop-i.i + 1)) (drop (c.loop-i.p + 4) (c.args.row.now)) = rw c.be32-n.ensures.0 ((let turned : Turn (λ l. 4) (big_endian 4) (c.args.row.now) (c.args.count) c.loop-i.i c.loop-i.p = turn (λ l. 4) (big_endian 4) (c.args.row.now) (c.args.count) c.loop-i.i c.loop-i.p c.loop-i-test.true c.loop-i.invariant.1 in turned)).here in here)) c.if-n-low.false c.if-sent-n.true
+    let turned : Turn (λ l. 4) (big_endian 4) c.args.row.now c.args.count c.loop-i.i c.loop-i.p = turn (λ l. 4) (big_endian 4) c.args.row.now c.args.count c.loop-i.i c.loop-i.p c.loop-i-test.true c.loop-i.invariant.1 in
+    let here : numbers (c.args.count - c.loop-i.i) (drop c.loop-i.p c.args.row.now) ≡ c.be32-n.result ∷ numbers (c.args.count - (c.loop-i.i + 1)) (drop (c.loop-i.p + 4) c.args.row.now) = rw c.be32-n.ensures.0 turned.here in
+    rising-high c.loop-i.invariant.2 here c.if-n-low.false c.if-sent-n.true
 
 pub overflow_add-p : goal.overflow_add-p
 overflow_add-p c =
-    omega (arith, ((let turned : Turn (λ l. 4) (big_endian 4) (c.args.row.now) (c.args.count) c.loop-i.i c.loop-i.p = turn (λ l. 4) (big_endian 4) (c.args.row.now) (c.args.count) c.loop-i.i c.loop-i.p c.loop-i-test.true c.loop-i.invariant.1 in turned)).fits)
+    let turned : Turn (λ l. 4) (big_endian 4) c.args.row.now c.args.count c.loop-i.i c.loop-i.p = turn (λ l. 4) (big_endian 4) c.args.row.now c.args.count c.loop-i.i c.loop-i.p c.loop-i-test.true c.loop-i.invariant.1 in
+    omega (arith, turned.fits)
 
 pub loop-i-preserved : goal.loop-i-preserved
 loop-i-preserved c =
-    (omega arith, ((let turned : Turn (λ l. 4) (big_endian 4) (c.args.row.now) (c.args.count) c.loop-i.i c.loop-i.p = turn (λ l. 4) (big_endian 4) (c.args.row.now) (c.args.count) c.loop-i.i c.loop-i.p c.loop-i-test.true c.loop-i.invariant.1 in turned)).rooms, rising-on c.loop-i.invariant.2 ((let here : numbers (c.args.count - c.loop-i.i) (drop c.loop-i.p (c.args.row.now)) ≡ c.be32-n.result ∷ numbers (c.args.count - (c.loop-i.i + 1)) (drop (c.loop-i.p + 4) (c.args.row.now)) = rw c.be32-n.ensures.0 ((let turned : Turn (λ l. 4) (big_endian 4) (c.args.row.now) (c.args.count) c.loop-i.i c.loop-i.p = turn (λ l. 4) (big_endian 4) (c.args.row.now) (c.args.count) c.loop-i.i c.loop-i.p c.loop-i-test.true c.loop-i.invariant.1 in turned)).here in here)) c.if-n-low.false c.if-sent-n.false)
+    let turned : Turn (λ l. 4) (big_endian 4) c.args.row.now c.args.count c.loop-i.i c.loop-i.p = turn (λ l. 4) (big_endian 4) c.args.row.now c.args.count c.loop-i.i c.loop-i.p c.loop-i-test.true c.loop-i.invariant.1 in
+    let here : numbers (c.args.count - c.loop-i.i) (drop c.loop-i.p c.args.row.now) ≡ c.be32-n.result ∷ numbers (c.args.count - (c.loop-i.i + 1)) (drop (c.loop-i.p + 4) c.args.row.now) = rw c.be32-n.ensures.0 turned.here in
+    (omega arith, turned.rooms, rising-on c.loop-i.invariant.2 here c.if-n-low.false c.if-sent-n.false)
 
 pub returns : goal.returns
 returns c =
-    rising-end c.loop-i.invariant.2 (none_left (λ l. 4) (big_endian 4) (c.args.row.now) (c.args.count) c.loop-i.i c.loop-i.p c.loop-i-test.false)
+    rising-end c.loop-i.invariant.2 (none_left (λ l. 4) (big_endian 4) c.args.row.now c.args.count c.loop-i.i c.loop-i.p c.loop-i-test.false)

@@ -1,4 +1,6 @@
 -- `contact_checks::skipped_distinct` meets its contract: keys that rise are distinct.
+use Prim.Native.Nat.{ℕ}
+use mathlib.Core.List.{List}
 use mathlib.Core.Path.{◌≡◌, sym, ap, ◌∙◌}
 use lib.ListN.{drop}
 use lib.Dec.{eqb}
@@ -15,27 +17,42 @@ use Rattle.contact_checks.proofs.skipped_distinct.Goals as goal
 
 pub keys_rise-requires : goal.keys_rise-requires
 keys_rise-requires c =
-    ((let keys : Many (λ l. 46) key_at key_of c.args.count ((drop c.args.first c.args.bytes.now)) (items (group skipped) c.args.count ((drop c.args.first c.args.bytes.now))) = let a = c.args in standing (λ l. 46) key_at key_of (group skipped) skipped-shows a.bytes.now a.first a.count c.requires in keys)).rooms
+    let part : List ℕ = drop c.args.first c.args.bytes.now in
+    let keys : Many (λ l. 46) key_at key_of c.args.count part (items (group skipped) c.args.count part) = let a = c.args in standing (λ l. 46) key_at key_of (group skipped) skipped-shows a.bytes.now a.first a.count c.requires in
+    keys.rooms
 
 pub returns-then-keys_rise : goal.returns-then-keys_rise
 returns-then-keys_rise c =
-    sym (ascending-distinct 0 (key_numbers c.args.count ((drop c.args.first c.args.bytes.now))) (sym c.keys_rise.ensures ∙ c.if-keys_rise.true)) ∙ (let asked : distinct eqb (key_numbers c.args.count ((drop c.args.first c.args.bytes.now))) ≡ keys_distinct (items (group skipped) c.args.count ((drop c.args.first c.args.bytes.now))) = let row = c.args.bytes.now in
-    sym (ap (distinct same_key) ((let keys : Many (λ l. 46) key_at key_of c.args.count ((drop c.args.first c.args.bytes.now)) (items (group skipped) c.args.count ((drop c.args.first c.args.bytes.now))) = let a = c.args in standing (λ l. 46) key_at key_of (group skipped) skipped-shows a.bytes.now a.first a.count c.requires in keys)).are ∙ distinct-number c.args.count ((drop c.args.first c.args.bytes.now)) (bytes_drop c.args.first row (typed row c.shared_slice_known-1.given))) in asked)
+    let part : List ℕ = drop c.args.first c.args.bytes.now in
+    let keys : Many (λ l. 46) key_at key_of c.args.count part (items (group skipped) c.args.count part) = let a = c.args in standing (λ l. 46) key_at key_of (group skipped) skipped-shows a.bytes.now a.first a.count c.requires in
+    let asked : distinct eqb (key_numbers c.args.count part) ≡ keys_distinct (items (group skipped) c.args.count part) = let row = c.args.bytes.now in
+    sym (ap (distinct same_key) keys.are ∙ distinct-number c.args.count part (bytes_drop c.args.first row (typed row c.type_inv.bytes))) in
+    sym (ascending-distinct 0 (key_numbers c.args.count part) (sym c.keys_rise.ensures ∙ c.if-keys_rise.true)) ∙ asked
 
 pub few_differ-requires : goal.few_differ-requires
 few_differ-requires c =
-    ((let keys : Many (λ l. 46) key_at key_of c.args.count ((drop c.args.first c.args.bytes.now)) (items (group skipped) c.args.count ((drop c.args.first c.args.bytes.now))) = let a = c.args in standing (λ l. 46) key_at key_of (group skipped) skipped-shows a.bytes.now a.first a.count c.requires in keys)).rooms
+    let part : List ℕ = drop c.args.first c.args.bytes.now in
+    let keys : Many (λ l. 46) key_at key_of c.args.count part (items (group skipped) c.args.count part) = let a = c.args in standing (λ l. 46) key_at key_of (group skipped) skipped-shows a.bytes.now a.first a.count c.requires in
+    keys.rooms
 
 pub returns-then-count-lt-FEW : goal.returns-then-count-lt-FEW
 returns-then-count-lt-FEW c =
-    c.few_differ.ensures ∙ (let asked : distinct eqb (key_numbers c.args.count ((drop c.args.first c.args.bytes.now))) ≡ keys_distinct (items (group skipped) c.args.count ((drop c.args.first c.args.bytes.now))) = let row = c.args.bytes.now in
-    sym (ap (distinct same_key) ((let keys : Many (λ l. 46) key_at key_of c.args.count ((drop c.args.first c.args.bytes.now)) (items (group skipped) c.args.count ((drop c.args.first c.args.bytes.now))) = let a = c.args in standing (λ l. 46) key_at key_of (group skipped) skipped-shows a.bytes.now a.first a.count c.requires in keys)).are ∙ distinct-number c.args.count ((drop c.args.first c.args.bytes.now)) (bytes_drop c.args.first row (typed row c.shared_slice_known-1.given))) in asked)
+    let part : List ℕ = drop c.args.first c.args.bytes.now in
+    let keys : Many (λ l. 46) key_at key_of c.args.count part (items (group skipped) c.args.count part) = let a = c.args in standing (λ l. 46) key_at key_of (group skipped) skipped-shows a.bytes.now a.first a.count c.requires in
+    let asked : distinct eqb (key_numbers c.args.count part) ≡ keys_distinct (items (group skipped) c.args.count part) = let row = c.args.bytes.now in
+    sym (ap (distinct same_key) keys.are ∙ distinct-number c.args.count part (bytes_drop c.args.first row (typed row c.type_inv.bytes))) in
+    c.few_differ.ensures ∙ asked
 
 pub many_differ-requires : goal.many_differ-requires
 many_differ-requires c =
-    ((let keys : Many (λ l. 46) key_at key_of c.args.count ((drop c.args.first c.args.bytes.now)) (items (group skipped) c.args.count ((drop c.args.first c.args.bytes.now))) = let a = c.args in standing (λ l. 46) key_at key_of (group skipped) skipped-shows a.bytes.now a.first a.count c.requires in keys)).rooms
+    let part : List ℕ = drop c.args.first c.args.bytes.now in
+    let keys : Many (λ l. 46) key_at key_of c.args.count part (items (group skipped) c.args.count part) = let a = c.args in standing (λ l. 46) key_at key_of (group skipped) skipped-shows a.bytes.now a.first a.count c.requires in
+    keys.rooms
 
 pub returns : goal.returns
 returns c =
-    c.many_differ.ensures ∙ (let asked : distinct eqb (key_numbers c.args.count ((drop c.args.first c.args.bytes.now))) ≡ keys_distinct (items (group skipped) c.args.count ((drop c.args.first c.args.bytes.now))) = let row = c.args.bytes.now in
-    sym (ap (distinct same_key) ((let keys : Many (λ l. 46) key_at key_of c.args.count ((drop c.args.first c.args.bytes.now)) (items (group skipped) c.args.count ((drop c.args.first c.args.bytes.now))) = let a = c.args in standing (λ l. 46) key_at key_of (group skipped) skipped-shows a.bytes.now a.first a.count c.requires in keys)).are ∙ distinct-number c.args.count ((drop c.args.first c.args.bytes.now)) (bytes_drop c.args.first row (typed row c.shared_slice_known-1.given))) in asked)
+    let part : List ℕ = drop c.args.first c.args.bytes.now in
+    let keys : Many (λ l. 46) key_at key_of c.args.count part (items (group skipped) c.args.count part) = let a = c.args in standing (λ l. 46) key_at key_of (group skipped) skipped-shows a.bytes.now a.first a.count c.requires in
+    let asked : distinct eqb (key_numbers c.args.count part) ≡ keys_distinct (items (group skipped) c.args.count part) = let row = c.args.bytes.now in
+    sym (ap (distinct same_key) keys.are ∙ distinct-number c.args.count part (bytes_drop c.args.first row (typed row c.type_inv.bytes))) in
+    c.many_differ.ensures ∙ asked

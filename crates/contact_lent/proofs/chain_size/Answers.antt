@@ -1,5 +1,6 @@
 -- `contact_lent::chain_size` meets its contract: dir and the flag decide.
 use Prim.Native.Nat.{ℕ, ◌≤◌}
+use mathlib.Core.List.{List}
 use mathlib.Core.Bool.{true, false}
 use mathlib.Core.Option.{some}
 use mathlib.Core.Path.{◌≡◌, sym, ap, ◌∙◌}
@@ -17,25 +18,40 @@ use Rattle.contact_lent.proofs.chain_size.Goals as goal
 
 pub returns-in_default : goal.returns-in_default
 returns-in_default c =
-    let told = c.enum_told-1.given.1 in
+    let place : List ℕ = drop c.args.at c.args.lent.now in
+    let by : Bytes place = bytes_drop c.args.at c.args.lent.now (typed c.args.lent.now c.type_inv.lent) in
+    let long : 51 ≤ length place = rw length-drop (omega arith) in
+    let told = c.in_default.is in
     let no = letter-refused CODE dir_of dir_byte c.args.lent.now c.args.at 1 (omega arith) (learn dir_says c.dir_at-dir.ensures told) in
-    rw (c.refusal.ensures ∙ ap dir_refusal told) (sym (chain-no-dir ((drop c.args.at c.args.lent.now)) ((let by : Bytes ((drop c.args.at c.args.lent.now)) = bytes_drop c.args.at c.args.lent.now (typed c.args.lent.now c.shared_slice_known-1.given) in by)) ((let long : 51 ≤ length ((drop c.args.at c.args.lent.now)) = rw length-drop (omega arith) in long)) no.0 ∙ ap (λ (q : ℕ). refuses q) no.1))
+    rw (c.refusal.ensures ∙ ap dir_refusal told) (sym (chain-no-dir place by long no.0 ∙ ap (λ (q : ℕ). refuses q) no.1))
 
 pub returns-in_default-flag : goal.returns-in_default-flag
 returns-in_default-flag c =
-    let told = c.enum_told-in_default-flag-1.given.1 in
+    let place : List ℕ = drop c.args.at c.args.lent.now in
+    let by : Bytes place = bytes_drop c.args.at c.args.lent.now (typed c.args.lent.now c.type_inv.lent) in
+    let long : 51 ≤ length place = rw length-drop (omega arith) in
+    let dir-is : dir_of (get_or place 1 0) ≡ some c.in-Value._dir = let a = c.args in
+    letter-yes CODE dir_of dir_byte a.lent.now a.at 1 (omega arith) (learn dir_says c.dir_at-dir.ensures c.in-Value.is) in
+    let told = c.in_default-flag.is in
     let no = letter-refused FLAG flag_of flag_byte c.args.lent.now c.args.at 42 (omega arith) (learn flag_says c.flag_at-flag.ensures told) in
-    rw (c.refusal-in_default-flag.ensures ∙ ap flag_refusal told) (sym (chain-no-flag ((drop c.args.at c.args.lent.now)) ((let by : Bytes ((drop c.args.at c.args.lent.now)) = bytes_drop c.args.at c.args.lent.now (typed c.args.lent.now c.shared_slice_known-1.given) in by)) ((let long : 51 ≤ length ((drop c.args.at c.args.lent.now)) = rw length-drop (omega arith) in long)) ((let dir-is : dir_of (get_or ((drop c.args.at c.args.lent.now)) 1 0) ≡ some c.dir-1.given.0.0 = let a = c.args in
-    letter-yes CODE dir_of dir_byte a.lent.now a.at 1 (omega arith) (learn dir_says c.dir_at-dir.ensures c.dir-1.given.1) in dir-is)) no.0 ∙ ap (λ (q : ℕ). refuses q) no.1))
+    rw (c.refusal-in_default-flag.ensures ∙ ap flag_refusal told) (sym (chain-no-flag place by long dir-is no.0 ∙ ap (λ (q : ℕ). refuses q) no.1))
 
 pub returns-then-superseded : goal.returns-then-superseded
 returns-then-superseded c =
-    sym (chain-sized ((drop c.args.at c.args.lent.now)) ((let by : Bytes ((drop c.args.at c.args.lent.now)) = bytes_drop c.args.at c.args.lent.now (typed c.args.lent.now c.shared_slice_known-1.given) in by)) ((let long : 51 ≤ length ((drop c.args.at c.args.lent.now)) = rw length-drop (omega arith) in long)) true ((let dir-is : dir_of (get_or ((drop c.args.at c.args.lent.now)) 1 0) ≡ some c.dir-1.given.0.0 = let a = c.args in
-    letter-yes CODE dir_of dir_byte a.lent.now a.at 1 (omega arith) (learn dir_says c.dir_at-dir.ensures c.dir-1.given.1) in dir-is)) ((let a = c.args in
-    letter-yes FLAG flag_of flag_byte a.lent.now a.at 42 (omega arith) (learn flag_says c.flag_at-flag.ensures c.flag-1.given.1) ∙ ap some c.if-superseded.true)))
+    let place : List ℕ = drop c.args.at c.args.lent.now in
+    let by : Bytes place = bytes_drop c.args.at c.args.lent.now (typed c.args.lent.now c.type_inv.lent) in
+    let long : 51 ≤ length place = rw length-drop (omega arith) in
+    let dir-is : dir_of (get_or place 1 0) ≡ some c.in-Value._dir = let a = c.args in
+    letter-yes CODE dir_of dir_byte a.lent.now a.at 1 (omega arith) (learn dir_says c.dir_at-dir.ensures c.in-Value.is) in
+    sym (chain-sized place by long true dir-is ((let a = c.args in
+    letter-yes FLAG flag_of flag_byte a.lent.now a.at 42 (omega arith) (learn flag_says c.flag_at-flag.ensures c.in-Value-flag.is) ∙ ap some c.if-superseded.true)))
 
 pub returns : goal.returns
 returns c =
-    sym (chain-sized ((drop c.args.at c.args.lent.now)) ((let by : Bytes ((drop c.args.at c.args.lent.now)) = bytes_drop c.args.at c.args.lent.now (typed c.args.lent.now c.shared_slice_known-1.given) in by)) ((let long : 51 ≤ length ((drop c.args.at c.args.lent.now)) = rw length-drop (omega arith) in long)) false ((let dir-is : dir_of (get_or ((drop c.args.at c.args.lent.now)) 1 0) ≡ some c.dir-1.given.0.0 = let a = c.args in
-    letter-yes CODE dir_of dir_byte a.lent.now a.at 1 (omega arith) (learn dir_says c.dir_at-dir.ensures c.dir-1.given.1) in dir-is)) ((let a = c.args in
-    letter-yes FLAG flag_of flag_byte a.lent.now a.at 42 (omega arith) (learn flag_says c.flag_at-flag.ensures c.flag-1.given.1) ∙ ap some c.if-superseded.false)))
+    let place : List ℕ = drop c.args.at c.args.lent.now in
+    let by : Bytes place = bytes_drop c.args.at c.args.lent.now (typed c.args.lent.now c.type_inv.lent) in
+    let long : 51 ≤ length place = rw length-drop (omega arith) in
+    let dir-is : dir_of (get_or place 1 0) ≡ some c.in-Value._dir = let a = c.args in
+    letter-yes CODE dir_of dir_byte a.lent.now a.at 1 (omega arith) (learn dir_says c.dir_at-dir.ensures c.in-Value.is) in
+    sym (chain-sized place by long false dir-is ((let a = c.args in
+    letter-yes FLAG flag_of flag_byte a.lent.now a.at 42 (omega arith) (learn flag_says c.flag_at-flag.ensures c.in-Value-flag.is) ∙ ap some c.if-superseded.false)))

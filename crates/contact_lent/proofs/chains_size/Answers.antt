@@ -16,18 +16,19 @@ loop-i-init c = sizing-start 51 (group chain) _ _
 
 pub returns-in_default : goal.returns-in_default
 returns-in_default c =
-    let told = c.enum_told-1.given.1 in
+    let told = c.in_default.is in
     ap written_says told ∙ sizing-stop 51 (group chain) _ _ c.loop-i-test.true c.loop-i.invariant (sym c.chain_size-size.ensures ∙ ap written_says told)
 
 pub overflow_add-n : goal.overflow_add-n
 overflow_add-n c =
-    omega (arith, (let most : c.size-1.given.0.0 ≤ 51 = let a = c.args in
-    place-most 51 (group chain) chain-lawful (drop (51 * c.loop-i.i) a.lent.now) (bytes_drop (51 * c.loop-i.i) a.lent.now (typed a.lent.now c.shared_slice_known-1.given)) (learn written_says c.chain_size-size.ensures c.size-1.given.1) in most))
+    let most : c.in-Length.k ≤ 51 = let a = c.args in
+    place-most 51 (group chain) chain-lawful (drop (51 * c.loop-i.i) a.lent.now) (bytes_drop (51 * c.loop-i.i) a.lent.now (typed a.lent.now c.type_inv.lent)) (learn written_says c.chain_size-size.ensures c.in-Length.is) in
+    omega (arith, most)
 
 pub loop-i-preserved : goal.loop-i-preserved
 loop-i-preserved c =
     let a = c.args in
-    sizing-turn 51 (group chain) _ _ chain-lawful (typed a.lent.now c.shared_slice_known-1.given) c.loop-i-test.true c.loop-i.invariant (learn written_says c.chain_size-size.ensures c.size-1.given.1)
+    sizing-turn 51 (group chain) _ _ chain-lawful (typed a.lent.now c.type_inv.lent) c.loop-i-test.true c.loop-i.invariant (learn written_says c.chain_size-size.ensures c.in-Length.is)
 
 pub returns : goal.returns
 returns c = sizing-end 51 (group chain) _ _ c.loop-i-test.false c.loop-i.invariant

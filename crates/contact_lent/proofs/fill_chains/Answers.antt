@@ -18,26 +18,20 @@ loop-i-init c = filling-start (group chain) _ (padded 51 (group chain)) _ _ _ c.
 
 pub chain_len-n-requires : goal.chain_len-n-requires
 chain_len-n-requires c =
-    omega (arith, ((let its : ChainAt (c.args.row.now) c.loop-i.p ((let next : First (group chain) (c.args.row.now) c.loop-i.p = let l = c.loop-i in
-    first_of (group chain) (c.args.row.now) chain-lawful ((let by : Bytes (c.args.row.now) = typed (c.args.row.now) c.shared_slice_known-1.given in by)) l.p c.args.count l.i c.loop-i-test.true l.invariant.left in next)).item ((let next : First (group chain) (c.args.row.now) c.loop-i.p = let l = c.loop-i in
-    first_of (group chain) (c.args.row.now) chain-lawful ((let by : Bytes (c.args.row.now) = typed (c.args.row.now) c.shared_slice_known-1.given in by)) l.p c.args.count l.i c.loop-i-test.true l.invariant.left in next)).after = chain-at (c.args.row.now) c.loop-i.p (taken (group chain) (c.args.row.now) chain-lawful ((let by : Bytes (c.args.row.now) = typed (c.args.row.now) c.shared_slice_known-1.given in by)) c.loop-i.invariant.left.so.starts ((let next : First (group chain) (c.args.row.now) c.loop-i.p = let l = c.loop-i in
-    first_of (group chain) (c.args.row.now) chain-lawful ((let by : Bytes (c.args.row.now) = typed (c.args.row.now) c.shared_slice_known-1.given in by)) l.p c.args.count l.i c.loop-i-test.true l.invariant.left in next)).takes) in its)).ends, ((let its : ChainAt (c.args.row.now) c.loop-i.p ((let next : First (group chain) (c.args.row.now) c.loop-i.p = let l = c.loop-i in
-    first_of (group chain) (c.args.row.now) chain-lawful ((let by : Bytes (c.args.row.now) = typed (c.args.row.now) c.shared_slice_known-1.given in by)) l.p c.args.count l.i c.loop-i-test.true l.invariant.left in next)).item ((let next : First (group chain) (c.args.row.now) c.loop-i.p = let l = c.loop-i in
-    first_of (group chain) (c.args.row.now) chain-lawful ((let by : Bytes (c.args.row.now) = typed (c.args.row.now) c.shared_slice_known-1.given in by)) l.p c.args.count l.i c.loop-i-test.true l.invariant.left in next)).after = chain-at (c.args.row.now) c.loop-i.p (taken (group chain) (c.args.row.now) chain-lawful ((let by : Bytes (c.args.row.now) = typed (c.args.row.now) c.shared_slice_known-1.given in by)) c.loop-i.invariant.left.so.starts ((let next : First (group chain) (c.args.row.now) c.loop-i.p = let l = c.loop-i in
-    first_of (group chain) (c.args.row.now) chain-lawful ((let by : Bytes (c.args.row.now) = typed (c.args.row.now) c.shared_slice_known-1.given in by)) l.p c.args.count l.i c.loop-i-test.true l.invariant.left in next)).takes) in its)).least, ((let next : First (group chain) (c.args.row.now) c.loop-i.p = let l = c.loop-i in
-    first_of (group chain) (c.args.row.now) chain-lawful ((let by : Bytes (c.args.row.now) = typed (c.args.row.now) c.shared_slice_known-1.given in by)) l.p c.args.count l.i c.loop-i-test.true l.invariant.left in next)).takes.inside)
+    let by : Bytes c.args.row.now = typed c.args.row.now c.type_inv.row in
+    let next : First (group chain) c.args.row.now c.loop-i.p = let l = c.loop-i in
+    first_of (group chain) c.args.row.now chain-lawful by l.p c.args.count l.i c.loop-i-test.true l.invariant.left in
+    let its : ChainAt c.args.row.now c.loop-i.p next.item next.after = chain-at c.args.row.now c.loop-i.p (taken (group chain) c.args.row.now chain-lawful by c.loop-i.invariant.left.so.starts next.takes) in
+    omega (arith, its.ends, its.least, next.takes.inside)
 
 pub put_run-at-requires : goal.put_run-at-requires
 put_run-at-requires c =
-    (omega (arith, c.loop-i.invariant.writing.same, c.chain_len-n.ensures.1), omega (arith, ((let its : ChainAt (c.args.row.now) c.loop-i.p ((let next : First (group chain) (c.args.row.now) c.loop-i.p = let l = c.loop-i in
-    first_of (group chain) (c.args.row.now) chain-lawful ((let by : Bytes (c.args.row.now) = typed (c.args.row.now) c.shared_slice_known-1.given in by)) l.p c.args.count l.i c.loop-i-test.true l.invariant.left in next)).item ((let next : First (group chain) (c.args.row.now) c.loop-i.p = let l = c.loop-i in
-    first_of (group chain) (c.args.row.now) chain-lawful ((let by : Bytes (c.args.row.now) = typed (c.args.row.now) c.shared_slice_known-1.given in by)) l.p c.args.count l.i c.loop-i-test.true l.invariant.left in next)).after = chain-at (c.args.row.now) c.loop-i.p (taken (group chain) (c.args.row.now) chain-lawful ((let by : Bytes (c.args.row.now) = typed (c.args.row.now) c.shared_slice_known-1.given in by)) c.loop-i.invariant.left.so.starts ((let next : First (group chain) (c.args.row.now) c.loop-i.p = let l = c.loop-i in
-    first_of (group chain) (c.args.row.now) chain-lawful ((let by : Bytes (c.args.row.now) = typed (c.args.row.now) c.shared_slice_known-1.given in by)) l.p c.args.count l.i c.loop-i-test.true l.invariant.left in next)).takes) in its)).ends, (let long : c.chain_len-n.result ≡ length (print chain ((let next : First (group chain) (c.args.row.now) c.loop-i.p = let l = c.loop-i in
-    first_of (group chain) (c.args.row.now) chain-lawful ((let by : Bytes (c.args.row.now) = typed (c.args.row.now) c.shared_slice_known-1.given in by)) l.p c.args.count l.i c.loop-i-test.true l.invariant.left in next)).item) = c.chain_len-n.ensures.0 ∙ ((let its : ChainAt (c.args.row.now) c.loop-i.p ((let next : First (group chain) (c.args.row.now) c.loop-i.p = let l = c.loop-i in
-    first_of (group chain) (c.args.row.now) chain-lawful ((let by : Bytes (c.args.row.now) = typed (c.args.row.now) c.shared_slice_known-1.given in by)) l.p c.args.count l.i c.loop-i-test.true l.invariant.left in next)).item ((let next : First (group chain) (c.args.row.now) c.loop-i.p = let l = c.loop-i in
-    first_of (group chain) (c.args.row.now) chain-lawful ((let by : Bytes (c.args.row.now) = typed (c.args.row.now) c.shared_slice_known-1.given in by)) l.p c.args.count l.i c.loop-i-test.true l.invariant.left in next)).after = chain-at (c.args.row.now) c.loop-i.p (taken (group chain) (c.args.row.now) chain-lawful ((let by : Bytes (c.args.row.now) = typed (c.args.row.now) c.shared_slice_known-1.given in by)) c.loop-i.invariant.left.so.starts ((let next : First (group chain) (c.args.row.now) c.loop-i.p = let l = c.loop-i in
-    first_of (group chain) (c.args.row.now) chain-lawful ((let by : Bytes (c.args.row.now) = typed (c.args.row.now) c.shared_slice_known-1.given in by)) l.p c.args.count l.i c.loop-i-test.true l.invariant.left in next)).takes) in its)).size in long), ((let next : First (group chain) (c.args.row.now) c.loop-i.p = let l = c.loop-i in
-    first_of (group chain) (c.args.row.now) chain-lawful ((let by : Bytes (c.args.row.now) = typed (c.args.row.now) c.shared_slice_known-1.given in by)) l.p c.args.count l.i c.loop-i-test.true l.invariant.left in next)).takes.inside))
+    let by : Bytes c.args.row.now = typed c.args.row.now c.type_inv.row in
+    let next : First (group chain) c.args.row.now c.loop-i.p = let l = c.loop-i in
+    first_of (group chain) c.args.row.now chain-lawful by l.p c.args.count l.i c.loop-i-test.true l.invariant.left in
+    let its : ChainAt c.args.row.now c.loop-i.p next.item next.after = chain-at c.args.row.now c.loop-i.p (taken (group chain) c.args.row.now chain-lawful by c.loop-i.invariant.left.so.starts next.takes) in
+    let long : c.chain_len-n.result ≡ length (print chain next.item) = c.chain_len-n.ensures.0 ∙ its.size in
+    (omega (arith, c.loop-i.invariant.writing.same, c.chain_len-n.ensures.1), omega (arith, its.ends, long, next.takes.inside))
 
 pub put_zeros-requires : goal.put_zeros-requires
 put_zeros-requires c =
@@ -45,42 +39,27 @@ put_zeros-requires c =
 
 pub overflow_add-p : goal.overflow_add-p
 overflow_add-p c =
-    omega (arith, ((let its : ChainAt (c.args.row.now) c.loop-i.p ((let next : First (group chain) (c.args.row.now) c.loop-i.p = let l = c.loop-i in
-    first_of (group chain) (c.args.row.now) chain-lawful ((let by : Bytes (c.args.row.now) = typed (c.args.row.now) c.shared_slice_known-1.given in by)) l.p c.args.count l.i c.loop-i-test.true l.invariant.left in next)).item ((let next : First (group chain) (c.args.row.now) c.loop-i.p = let l = c.loop-i in
-    first_of (group chain) (c.args.row.now) chain-lawful ((let by : Bytes (c.args.row.now) = typed (c.args.row.now) c.shared_slice_known-1.given in by)) l.p c.args.count l.i c.loop-i-test.true l.invariant.left in next)).after = chain-at (c.args.row.now) c.loop-i.p (taken (group chain) (c.args.row.now) chain-lawful ((let by : Bytes (c.args.row.now) = typed (c.args.row.now) c.shared_slice_known-1.given in by)) c.loop-i.invariant.left.so.starts ((let next : First (group chain) (c.args.row.now) c.loop-i.p = let l = c.loop-i in
-    first_of (group chain) (c.args.row.now) chain-lawful ((let by : Bytes (c.args.row.now) = typed (c.args.row.now) c.shared_slice_known-1.given in by)) l.p c.args.count l.i c.loop-i-test.true l.invariant.left in next)).takes) in its)).ends, (let long : c.chain_len-n.result ≡ length (print chain ((let next : First (group chain) (c.args.row.now) c.loop-i.p = let l = c.loop-i in
-    first_of (group chain) (c.args.row.now) chain-lawful ((let by : Bytes (c.args.row.now) = typed (c.args.row.now) c.shared_slice_known-1.given in by)) l.p c.args.count l.i c.loop-i-test.true l.invariant.left in next)).item) = c.chain_len-n.ensures.0 ∙ ((let its : ChainAt (c.args.row.now) c.loop-i.p ((let next : First (group chain) (c.args.row.now) c.loop-i.p = let l = c.loop-i in
-    first_of (group chain) (c.args.row.now) chain-lawful ((let by : Bytes (c.args.row.now) = typed (c.args.row.now) c.shared_slice_known-1.given in by)) l.p c.args.count l.i c.loop-i-test.true l.invariant.left in next)).item ((let next : First (group chain) (c.args.row.now) c.loop-i.p = let l = c.loop-i in
-    first_of (group chain) (c.args.row.now) chain-lawful ((let by : Bytes (c.args.row.now) = typed (c.args.row.now) c.shared_slice_known-1.given in by)) l.p c.args.count l.i c.loop-i-test.true l.invariant.left in next)).after = chain-at (c.args.row.now) c.loop-i.p (taken (group chain) (c.args.row.now) chain-lawful ((let by : Bytes (c.args.row.now) = typed (c.args.row.now) c.shared_slice_known-1.given in by)) c.loop-i.invariant.left.so.starts ((let next : First (group chain) (c.args.row.now) c.loop-i.p = let l = c.loop-i in
-    first_of (group chain) (c.args.row.now) chain-lawful ((let by : Bytes (c.args.row.now) = typed (c.args.row.now) c.shared_slice_known-1.given in by)) l.p c.args.count l.i c.loop-i-test.true l.invariant.left in next)).takes) in its)).size in long), ((let next : First (group chain) (c.args.row.now) c.loop-i.p = let l = c.loop-i in
-    first_of (group chain) (c.args.row.now) chain-lawful ((let by : Bytes (c.args.row.now) = typed (c.args.row.now) c.shared_slice_known-1.given in by)) l.p c.args.count l.i c.loop-i-test.true l.invariant.left in next)).takes.inside)
+    let by : Bytes c.args.row.now = typed c.args.row.now c.type_inv.row in
+    let next : First (group chain) c.args.row.now c.loop-i.p = let l = c.loop-i in
+    first_of (group chain) c.args.row.now chain-lawful by l.p c.args.count l.i c.loop-i-test.true l.invariant.left in
+    let its : ChainAt c.args.row.now c.loop-i.p next.item next.after = chain-at c.args.row.now c.loop-i.p (taken (group chain) c.args.row.now chain-lawful by c.loop-i.invariant.left.so.starts next.takes) in
+    let long : c.chain_len-n.result ≡ length (print chain next.item) = c.chain_len-n.ensures.0 ∙ its.size in
+    omega (arith, its.ends, long, next.takes.inside)
 
 pub loop-i-preserved : goal.loop-i-preserved
 loop-i-preserved c =
+    let by : Bytes c.args.row.now = typed c.args.row.now c.type_inv.row in
+    let next : First (group chain) c.args.row.now c.loop-i.p = let l = c.loop-i in
+    first_of (group chain) c.args.row.now chain-lawful by l.p c.args.count l.i c.loop-i-test.true l.invariant.left in
+    let its : ChainAt c.args.row.now c.loop-i.p next.item next.after = chain-at c.args.row.now c.loop-i.p (taken (group chain) c.args.row.now chain-lawful by c.loop-i.invariant.left.so.starts next.takes) in
+    let long : c.chain_len-n.result ≡ length (print chain next.item) = c.chain_len-n.ensures.0 ∙ its.size in
     let n = c.chain_len-n.result in
     let at : 51 * (c.loop-i.i + 1) ≡ c.put_zeros.result = omega (arith, c.put_zeros.ensures.0, c.put_run-at.ensures.0, c.chain_len-n.ensures.1) in
-    let behind : c.loop-i.p + n ≡ ((let next : First (group chain) (c.args.row.now) c.loop-i.p = let l = c.loop-i in
-    first_of (group chain) (c.args.row.now) chain-lawful ((let by : Bytes (c.args.row.now) = typed (c.args.row.now) c.shared_slice_known-1.given in by)) l.p c.args.count l.i c.loop-i-test.true l.invariant.left in next)).after = omega (arith, ((let its : ChainAt (c.args.row.now) c.loop-i.p ((let next : First (group chain) (c.args.row.now) c.loop-i.p = let l = c.loop-i in
-    first_of (group chain) (c.args.row.now) chain-lawful ((let by : Bytes (c.args.row.now) = typed (c.args.row.now) c.shared_slice_known-1.given in by)) l.p c.args.count l.i c.loop-i-test.true l.invariant.left in next)).item ((let next : First (group chain) (c.args.row.now) c.loop-i.p = let l = c.loop-i in
-    first_of (group chain) (c.args.row.now) chain-lawful ((let by : Bytes (c.args.row.now) = typed (c.args.row.now) c.shared_slice_known-1.given in by)) l.p c.args.count l.i c.loop-i-test.true l.invariant.left in next)).after = chain-at (c.args.row.now) c.loop-i.p (taken (group chain) (c.args.row.now) chain-lawful ((let by : Bytes (c.args.row.now) = typed (c.args.row.now) c.shared_slice_known-1.given in by)) c.loop-i.invariant.left.so.starts ((let next : First (group chain) (c.args.row.now) c.loop-i.p = let l = c.loop-i in
-    first_of (group chain) (c.args.row.now) chain-lawful ((let by : Bytes (c.args.row.now) = typed (c.args.row.now) c.shared_slice_known-1.given in by)) l.p c.args.count l.i c.loop-i-test.true l.invariant.left in next)).takes) in its)).ends, (let long : c.chain_len-n.result ≡ length (print chain ((let next : First (group chain) (c.args.row.now) c.loop-i.p = let l = c.loop-i in
-    first_of (group chain) (c.args.row.now) chain-lawful ((let by : Bytes (c.args.row.now) = typed (c.args.row.now) c.shared_slice_known-1.given in by)) l.p c.args.count l.i c.loop-i-test.true l.invariant.left in next)).item) = c.chain_len-n.ensures.0 ∙ ((let its : ChainAt (c.args.row.now) c.loop-i.p ((let next : First (group chain) (c.args.row.now) c.loop-i.p = let l = c.loop-i in
-    first_of (group chain) (c.args.row.now) chain-lawful ((let by : Bytes (c.args.row.now) = typed (c.args.row.now) c.shared_slice_known-1.given in by)) l.p c.args.count l.i c.loop-i-test.true l.invariant.left in next)).item ((let next : First (group chain) (c.args.row.now) c.loop-i.p = let l = c.loop-i in
-    first_of (group chain) (c.args.row.now) chain-lawful ((let by : Bytes (c.args.row.now) = typed (c.args.row.now) c.shared_slice_known-1.given in by)) l.p c.args.count l.i c.loop-i-test.true l.invariant.left in next)).after = chain-at (c.args.row.now) c.loop-i.p (taken (group chain) (c.args.row.now) chain-lawful ((let by : Bytes (c.args.row.now) = typed (c.args.row.now) c.shared_slice_known-1.given in by)) c.loop-i.invariant.left.so.starts ((let next : First (group chain) (c.args.row.now) c.loop-i.p = let l = c.loop-i in
-    first_of (group chain) (c.args.row.now) chain-lawful ((let by : Bytes (c.args.row.now) = typed (c.args.row.now) c.shared_slice_known-1.given in by)) l.p c.args.count l.i c.loop-i-test.true l.invariant.left in next)).takes) in its)).size in long)) in
-    let bytes : take n (drop c.loop-i.p (c.args.row.now)) ≡ print chain ((let next : First (group chain) (c.args.row.now) c.loop-i.p = let l = c.loop-i in
-    first_of (group chain) (c.args.row.now) chain-lawful ((let by : Bytes (c.args.row.now) = typed (c.args.row.now) c.shared_slice_known-1.given in by)) l.p c.args.count l.i c.loop-i-test.true l.invariant.left in next)).item = rw c.chain_len-n.ensures.0 ((let its : ChainAt (c.args.row.now) c.loop-i.p ((let next : First (group chain) (c.args.row.now) c.loop-i.p = let l = c.loop-i in
-    first_of (group chain) (c.args.row.now) chain-lawful ((let by : Bytes (c.args.row.now) = typed (c.args.row.now) c.shared_slice_known-1.given in by)) l.p c.args.count l.i c.loop-i-test.true l.invariant.left in next)).item ((let next : First (group chain) (c.args.row.now) c.loop-i.p = let l = c.loop-i in
-    first_of (group chain) (c.args.row.now) chain-lawful ((let by : Bytes (c.args.row.now) = typed (c.args.row.now) c.shared_slice_known-1.given in by)) l.p c.args.count l.i c.loop-i-test.true l.invariant.left in next)).after = chain-at (c.args.row.now) c.loop-i.p (taken (group chain) (c.args.row.now) chain-lawful ((let by : Bytes (c.args.row.now) = typed (c.args.row.now) c.shared_slice_known-1.given in by)) c.loop-i.invariant.left.so.starts ((let next : First (group chain) (c.args.row.now) c.loop-i.p = let l = c.loop-i in
-    first_of (group chain) (c.args.row.now) chain-lawful ((let by : Bytes (c.args.row.now) = typed (c.args.row.now) c.shared_slice_known-1.given in by)) l.p c.args.count l.i c.loop-i-test.true l.invariant.left in next)).takes) in its)).bytes in
+    let behind : c.loop-i.p + n ≡ next.after = omega (arith, its.ends, long) in
+    let bytes : take n (drop c.loop-i.p c.args.row.now) ≡ print chain next.item = rw c.chain_len-n.ensures.0 its.bytes in
     rw (at, behind)
-    (filling-turn (group chain) (c.args.row.now) (padded 51 (group chain)) _ _ _ c.loop-i-test.true c.loop-i.invariant ((let next : First (group chain) (c.args.row.now) c.loop-i.p = let l = c.loop-i in
-    first_of (group chain) (c.args.row.now) chain-lawful ((let by : Bytes (c.args.row.now) = typed (c.args.row.now) c.shared_slice_known-1.given in by)) l.p c.args.count l.i c.loop-i-test.true l.invariant.left in next)).takes
-    (rw (bytes, (let long : c.chain_len-n.result ≡ length (print chain ((let next : First (group chain) (c.args.row.now) c.loop-i.p = let l = c.loop-i in
-    first_of (group chain) (c.args.row.now) chain-lawful ((let by : Bytes (c.args.row.now) = typed (c.args.row.now) c.shared_slice_known-1.given in by)) l.p c.args.count l.i c.loop-i-test.true l.invariant.left in next)).item) = c.chain_len-n.ensures.0 ∙ ((let its : ChainAt (c.args.row.now) c.loop-i.p ((let next : First (group chain) (c.args.row.now) c.loop-i.p = let l = c.loop-i in
-    first_of (group chain) (c.args.row.now) chain-lawful ((let by : Bytes (c.args.row.now) = typed (c.args.row.now) c.shared_slice_known-1.given in by)) l.p c.args.count l.i c.loop-i-test.true l.invariant.left in next)).item ((let next : First (group chain) (c.args.row.now) c.loop-i.p = let l = c.loop-i in
-    first_of (group chain) (c.args.row.now) chain-lawful ((let by : Bytes (c.args.row.now) = typed (c.args.row.now) c.shared_slice_known-1.given in by)) l.p c.args.count l.i c.loop-i-test.true l.invariant.left in next)).after = chain-at (c.args.row.now) c.loop-i.p (taken (group chain) (c.args.row.now) chain-lawful ((let by : Bytes (c.args.row.now) = typed (c.args.row.now) c.shared_slice_known-1.given in by)) c.loop-i.invariant.left.so.starts ((let next : First (group chain) (c.args.row.now) c.loop-i.p = let l = c.loop-i in
-    first_of (group chain) (c.args.row.now) chain-lawful ((let by : Bytes (c.args.row.now) = typed (c.args.row.now) c.shared_slice_known-1.given in by)) l.p c.args.count l.i c.loop-i-test.true l.invariant.left in next)).takes) in its)).size in long)) at (c.put_run-at.ensures.1 then c.put_zeros.ensures.1)))
+    (filling-turn (group chain) c.args.row.now (padded 51 (group chain)) _ _ _ c.loop-i-test.true c.loop-i.invariant next.takes
+    (rw (bytes, long) at (c.put_run-at.ensures.1 then c.put_zeros.ensures.1)))
 
 pub shape_of-lent : goal.shape_of-lent
 shape_of-lent c = c.loop-i.invariant.writing.same

@@ -14,23 +14,25 @@ loop-i-init c = filling-start u32 _ one _ _ _ c.requires.0
 
 pub shape_of-lent-in_default : goal.shape_of-lent-in_default
 shape_of-lent-in_default c =
-    absurd ((let never : ⊥ = let by = typed c.args.row.now c.shared_slice_known-1.given in
+    let never : ⊥ = let by = typed c.args.row.now c.type_inv.row in
     let n = first_of u32 c.args.row.now (number-lawful 4) by c.loop-i.p c.args.count c.loop-i.i c.loop-i-test.true c.loop-i.invariant.left in
-    never-refused u32 c.args.row.now n (learn u32_says c.u32_at.ensures c.enum_told-1.given.1) in never))
+    never-refused u32 c.args.row.now n (learn u32_says c.u32_at.ensures c.in_default.is) in
+    absurd never
 
 pub returns-in_default : goal.returns-in_default
 returns-in_default c =
-    absurd ((let never : ⊥ = let by = typed c.args.row.now c.shared_slice_known-1.given in
+    let never : ⊥ = let by = typed c.args.row.now c.type_inv.row in
     let n = first_of u32 c.args.row.now (number-lawful 4) by c.loop-i.p c.args.count c.loop-i.i c.loop-i-test.true c.loop-i.invariant.left in
-    never-refused u32 c.args.row.now n (learn u32_says c.u32_at.ensures c.enum_told-1.given.1) in never))
+    never-refused u32 c.args.row.now n (learn u32_says c.u32_at.ensures c.in_default.is) in
+    absurd never
 
 pub bounds-lent-i : goal.bounds-lent-i
 bounds-lent-i c = omega (arith, c.loop-i.invariant.writing.same)
 
 pub loop-i-preserved : goal.loop-i-preserved
 loop-i-preserved c =
-    let by = typed c.args.row.now c.shared_slice_known-1.given in
-    let t = took _ _ u32 (number-lawful 4) by (learn u32_says c.u32_at.ensures c.n-1.given.1) in
+    let by = typed c.args.row.now c.type_inv.row in
+    let t = took _ _ u32 (number-lawful 4) by (learn u32_says c.u32_at.ensures c.in-Value.is) in
     filling-turn u32 _ one _ _ _ c.loop-i-test.true c.loop-i.invariant t (wrote-byte _ _ _)
 
 pub shape_of-lent : goal.shape_of-lent

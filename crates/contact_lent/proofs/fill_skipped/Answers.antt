@@ -10,8 +10,10 @@ use Rattle.contact_lent.proofs.fill_skipped.Goals as goal
 
 pub put_run-requires : goal.put_run-requires
 put_run-requires c =
-    (search rules, ((let keys : let a = c.args in Run 46 (group skipped) skipped-lawful length-skipped a.row.now a.first a.count = let a = c.args in run 46 (group skipped) skipped-lawful length-skipped a.row.now a.first a.count (typed a.row.now c.shared_slice_known-1.given) c.requires.0 in keys)).inside)
+    let keys : let a = c.args in Run 46 (group skipped) skipped-lawful length-skipped a.row.now a.first a.count = let a = c.args in run 46 (group skipped) skipped-lawful length-skipped a.row.now a.first a.count (typed a.row.now c.type_inv.row) c.requires.0 in
+    (search rules, keys.inside)
 
 pub returns : goal.returns
 returns c =
-    rw (← ((let keys : let a = c.args in Run 46 (group skipped) skipped-lawful length-skipped a.row.now a.first a.count = let a = c.args in run 46 (group skipped) skipped-lawful length-skipped a.row.now a.first a.count (typed a.row.now c.shared_slice_known-1.given) c.requires.0 in keys)).bytes) c.put_run.ensures.1.now-is
+    let keys : let a = c.args in Run 46 (group skipped) skipped-lawful length-skipped a.row.now a.first a.count = let a = c.args in run 46 (group skipped) skipped-lawful length-skipped a.row.now a.first a.count (typed a.row.now c.type_inv.row) c.requires.0 in
+    rw (← keys.bytes) c.put_run.ensures.1.now-is

@@ -22,13 +22,14 @@ loop-i-init c = (search rules, rw sub-zero (writing_start _ _ _))
 
 pub put_run-p-requires : goal.put_run-p-requires
 put_run-p-requires c =
+    let written : let a = c.args in chains_bytes a.count a.lent.now ≡ print_many (group chain) (chains_of a.count a.lent.now) = let a = c.args in
+    let pre = c.requires in
+    chains-row a.count a.lent.now (typed a.lent.now c.type_inv.lent) pre.0 pre.1 in
     let a = c.args in
     let place = drop (51 * c.loop-i.i) a.lent.now in
     let long : length (take (chain_size place) place) ≡ chain_size place = length-take-le (chain_size place) place (rw length-drop (omega (arith, c.chain_len-n.ensures.0))) in
     let turn = bytes-turn 51 chain_size a.lent.now a.count c.loop-i.i c.loop-i-test.true in
-    (omega (arith, simp (turn, length-append, long) at c.loop-i.invariant.1.room, c.chain_len-n.ensures.0, ap (λ (x : List ℕ). length x) ((let written : let a = c.args in chains_bytes a.count a.lent.now ≡ print_many (group chain) (chains_of a.count a.lent.now) = let a = c.args in
-    let pre = c.requires in
-    chains-row a.count a.lent.now (typed a.lent.now c.shared_slice_known-1.given) pre.0 pre.1 in written))), search rules)
+    (omega (arith, simp (turn, length-append, long) at c.loop-i.invariant.1.room, c.chain_len-n.ensures.0, ap (λ (x : List ℕ). length x) written), search rules)
 
 pub loop-i-preserved : goal.loop-i-preserved
 loop-i-preserved c =
@@ -41,9 +42,10 @@ shape_of-out c = c.loop-i.invariant.1.same
 
 pub returns : goal.returns
 returns c =
+    let written : let a = c.args in chains_bytes a.count a.lent.now ≡ print_many (group chain) (chains_of a.count a.lent.now) = let a = c.args in
+    let pre = c.requires in
+    chains-row a.count a.lent.now (typed a.lent.now c.type_inv.lent) pre.0 pre.1 in
     let a = c.args in
     let done = writing-done (rw (bytes-end 51 chain_size a.lent.now a.count c.loop-i.i c.loop-i-test.false) at c.loop-i.invariant.1) in
-    let wrote = rw ((let written : let a = c.args in chains_bytes a.count a.lent.now ≡ print_many (group chain) (chains_of a.count a.lent.now) = let a = c.args in
-    let pre = c.requires in
-    chains-row a.count a.lent.now (typed a.lent.now c.shared_slice_known-1.given) pre.0 pre.1 in written)) at done in
+    let wrote = rw written at done in
     (wrote.next-is, wrote)

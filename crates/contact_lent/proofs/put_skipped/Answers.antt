@@ -1,6 +1,7 @@
 -- `contact_lent::put_skipped` meets its contract: skipped keys fill their places, so that the places are written as they stand.
 use mathlib.Core.Path.{◌≡◌}
-use Prim.Native.Nat.{◌*◌}
+use mathlib.Core.List.{List}
+use Prim.Native.Nat.{ℕ, ◌*◌}
 use native.Mathlib.Omega.{arith}
 use lib.ListN.{length, take}
 use lib.Seq.{length-take-le}
@@ -15,14 +16,18 @@ use Rattle.contact_lent.proofs.put_skipped.Goals as goal
 
 pub put_run-requires : goal.put_run-requires
 put_run-requires c =
-    (omega (arith, (let long : length ((let a = c.args in print_many (group skipped) (skipped_of a.count a.lent.now))) ≡ 46 * c.args.count = rw ((let as_lent : let a = c.args in (let a = c.args in print_many (group skipped) (skipped_of a.count a.lent.now)) ≡ take (46 * a.count) a.lent.now = let a = c.args in
+    let keys : List ℕ = let a = c.args in print_many (group skipped) (skipped_of a.count a.lent.now) in
+    let as_lent : let a = c.args in keys ≡ take (46 * a.count) a.lent.now = let a = c.args in
     let pre = c.requires in
-    skipped-row a.count a.lent.now (typed a.lent.now c.shared_slice_known-1.given) pre.0 pre.1 in as_lent)) (length-take-le _ _ c.requires.0) in long)), search rules)
+    skipped-row a.count a.lent.now (typed a.lent.now c.type_inv.lent) pre.0 pre.1 in
+    let long : length keys ≡ 46 * c.args.count = rw as_lent (length-take-le _ _ c.requires.0) in
+    (omega (arith, long), search rules)
 
 pub returns : goal.returns
 returns c =
-    (omega (arith, (let long : length ((let a = c.args in print_many (group skipped) (skipped_of a.count a.lent.now))) ≡ 46 * c.args.count = rw ((let as_lent : let a = c.args in (let a = c.args in print_many (group skipped) (skipped_of a.count a.lent.now)) ≡ take (46 * a.count) a.lent.now = let a = c.args in
+    let keys : List ℕ = let a = c.args in print_many (group skipped) (skipped_of a.count a.lent.now) in
+    let as_lent : let a = c.args in keys ≡ take (46 * a.count) a.lent.now = let a = c.args in
     let pre = c.requires in
-    skipped-row a.count a.lent.now (typed a.lent.now c.shared_slice_known-1.given) pre.0 pre.1 in as_lent)) (length-take-le _ _ c.requires.0) in long), c.put_run.ensures.0), rw ((let as_lent : let a = c.args in (let a = c.args in print_many (group skipped) (skipped_of a.count a.lent.now)) ≡ take (46 * a.count) a.lent.now = let a = c.args in
-    let pre = c.requires in
-    skipped-row a.count a.lent.now (typed a.lent.now c.shared_slice_known-1.given) pre.0 pre.1 in as_lent)) c.put_run.ensures.1)
+    skipped-row a.count a.lent.now (typed a.lent.now c.type_inv.lent) pre.0 pre.1 in
+    let long : length keys ≡ 46 * c.args.count = rw as_lent (length-take-le _ _ c.requires.0) in
+    (omega (arith, long, c.put_run.ensures.0), rw as_lent c.put_run.ensures.1)

@@ -1,5 +1,6 @@
 -- `contact_lent::skipped_key_size` meets its contract: dir decides.
 use Prim.Native.Nat.{ℕ, ◌≤◌}
+use mathlib.Core.List.{List}
 use mathlib.Core.Path.{sym, ap, ◌∙◌}
 use native.Mathlib.Omega.{arith}
 use lib.ListN.{length, drop, length-drop}
@@ -14,11 +15,17 @@ use Rattle.contact_lent.proofs.skipped_key_size.Goals as goal
 
 pub returns-in_default : goal.returns-in_default
 returns-in_default c =
-    let told = c.enum_told-1.given.1 in
+    let place : List ℕ = drop c.args.at c.args.lent.now in
+    let by : Bytes place = bytes_drop c.args.at c.args.lent.now (typed c.args.lent.now c.type_inv.lent) in
+    let long : 46 ≤ length place = rw length-drop (omega arith) in
+    let told = c.in_default.is in
     let no = letter-refused CODE dir_of dir_byte c.args.lent.now c.args.at 1 (omega arith) (learn dir_says c.dir_at-dir.ensures told) in
-    rw (c.refusal.ensures ∙ ap dir_refusal told) (sym (skipped-no-dir ((drop c.args.at c.args.lent.now)) ((let by : Bytes ((drop c.args.at c.args.lent.now)) = bytes_drop c.args.at c.args.lent.now (typed c.args.lent.now c.shared_slice_known-1.given) in by)) ((let long : 46 ≤ length ((drop c.args.at c.args.lent.now)) = rw length-drop (omega arith) in long)) no.0 ∙ ap (λ (q : ℕ). refuses q) no.1))
+    rw (c.refusal.ensures ∙ ap dir_refusal told) (sym (skipped-no-dir place by long no.0 ∙ ap (λ (q : ℕ). refuses q) no.1))
 
 pub returns : goal.returns
 returns c =
-    let yes = letter-yes CODE dir_of dir_byte c.args.lent.now c.args.at 1 (omega arith) (learn dir_says c.dir_at-dir.ensures c.dir-1.given.1) in
-    sym (skipped-sized ((drop c.args.at c.args.lent.now)) ((let by : Bytes ((drop c.args.at c.args.lent.now)) = bytes_drop c.args.at c.args.lent.now (typed c.args.lent.now c.shared_slice_known-1.given) in by)) ((let long : 46 ≤ length ((drop c.args.at c.args.lent.now)) = rw length-drop (omega arith) in long)) yes)
+    let place : List ℕ = drop c.args.at c.args.lent.now in
+    let by : Bytes place = bytes_drop c.args.at c.args.lent.now (typed c.args.lent.now c.type_inv.lent) in
+    let long : 46 ≤ length place = rw length-drop (omega arith) in
+    let yes = letter-yes CODE dir_of dir_byte c.args.lent.now c.args.at 1 (omega arith) (learn dir_says c.dir_at-dir.ensures c.in-Value.is) in
+    sym (skipped-sized place by long yes)

@@ -46,45 +46,69 @@ its-place from input n runs {start} {end} begins ends =
 
 pub returns-in_default : goal.returns-in_default
 returns-in_default c =
-    let stop = sized-no-length (group card) CARD_END (c.args.row.now) c.args.at (refused-at _ _ u16 (learn u16_says c.u16_at.ensures c.enum_told-1.given.1)) in
+    let stop = sized-no-length (group card) CARD_END c.args.row.now c.args.at (refused-at _ _ u16 (learn u16_says c.u16_at.ensures c.in_default.is)) in
     locates-not _ _ (sized (group card) CARD_END) (card_at _) stop
 
 pub returns-in_default-run_at : goal.returns-in_default-run_at
 returns-in_default-run_at c =
-    let stop = sized-short (group card) CARD_END (c.args.row.now) _ ((let len-took : Took u16 (c.args.row.now) c.args.at (c.len-1.given.0.0) (c.len-1.given.0.1.0) = took _ _ u16 (number-lawful 2) ((let by : Bytes (c.args.row.now) = typed (c.args.row.now) c.shared_slice_known-1.given in by)) ((let len_read : read_at u16 (c.args.row.now) c.args.at ≡ takes (c.len-1.given.0.0) (c.len-1.given.0.1.0) = learn u16_says c.u16_at.ensures c.len-1.given.1 in len_read)) in len-took)) plain (run_short _ _ plain (c.len-1.given.0.0) c.run_at.ensures.0 c.enum_told-in_default-run_at-1.given.1) in
+    let by : Bytes c.args.row.now = typed c.args.row.now c.type_inv.row in
+    let len_read : read_at u16 c.args.row.now c.args.at ≡ takes c.in-Value.len c.in-Value.mid = learn u16_says c.u16_at.ensures c.in-Value.is in
+    let len-took : Took u16 c.args.row.now c.args.at c.in-Value.len c.in-Value.mid = took _ _ u16 (number-lawful 2) by len_read in
+    let stop = sized-short (group card) CARD_END c.args.row.now _ len-took plain (run_short _ _ plain c.in-Value.len c.run_at.ensures.0 c.in_default-run_at.is) in
     locates-not _ _ (sized (group card) CARD_END) (card_at _) stop
 
 pub slice_bounds-check_card-count : goal.slice_bounds-check_card-count
 slice_bounds-check_card-count c =
-    omega (arith, (let part-ends : c.start-1.given.0.1.0 ≡ c.start-1.given.0.0 + c.len-1.given.0.0 = subst (Ends (c.len-1.given.0.0)) c.start-1.given.1 c.run_at.ensures.1 in part-ends))
+    let part-ends : c.in-Value-run_at.end ≡ c.in-Value-run_at.start + c.in-Value.len = subst (Ends c.in-Value.len) c.in-Value-run_at.is c.run_at.ensures.1 in
+    omega (arith, part-ends)
 
 pub slice_bounds-check_card-start : goal.slice_bounds-check_card-start
 slice_bounds-check_card-start c =
-    omega (arith, (let part-ends : c.start-1.given.0.1.0 ≡ c.start-1.given.0.0 + c.len-1.given.0.0 = subst (Ends (c.len-1.given.0.0)) c.start-1.given.1 c.run_at.ensures.1 in part-ends), ((let part-took : Took (bytes plain (c.len-1.given.0.0)) (c.args.row.now) (c.len-1.given.0.1.0) (take (c.len-1.given.0.0) (drop (c.start-1.given.0.0) (c.args.row.now))) (c.start-1.given.0.1.0) = run-took _ _ plain (c.len-1.given.0.0) c.run_at.ensures.0 ((let by : Bytes (c.args.row.now) = typed (c.args.row.now) c.shared_slice_known-1.given in by)) c.start-1.given.1 in part-took)).inside)
+    let part-ends : c.in-Value-run_at.end ≡ c.in-Value-run_at.start + c.in-Value.len = subst (Ends c.in-Value.len) c.in-Value-run_at.is c.run_at.ensures.1 in
+    let by : Bytes c.args.row.now = typed c.args.row.now c.type_inv.row in
+    let part-took : Took (bytes plain c.in-Value.len) c.args.row.now c.in-Value.mid (take c.in-Value.len (drop c.in-Value-run_at.start c.args.row.now)) c.in-Value-run_at.end = run-took _ _ plain c.in-Value.len c.run_at.ensures.0 by c.in-Value-run_at.is in
+    omega (arith, part-ends, part-took.inside)
 
 pub slice_bounds-check_card-end : goal.slice_bounds-check_card-end
 slice_bounds-check_card-end c =
-    omega (arith, (let part-ends : c.start-1.given.0.1.0 ≡ c.start-1.given.0.0 + c.len-1.given.0.0 = subst (Ends (c.len-1.given.0.0)) c.start-1.given.1 c.run_at.ensures.1 in part-ends), ((let part-took : Took (bytes plain (c.len-1.given.0.0)) (c.args.row.now) (c.len-1.given.0.1.0) (take (c.len-1.given.0.0) (drop (c.start-1.given.0.0) (c.args.row.now))) (c.start-1.given.0.1.0) = run-took _ _ plain (c.len-1.given.0.0) c.run_at.ensures.0 ((let by : Bytes (c.args.row.now) = typed (c.args.row.now) c.shared_slice_known-1.given in by)) c.start-1.given.1 in part-took)).inside)
+    let part-ends : c.in-Value-run_at.end ≡ c.in-Value-run_at.start + c.in-Value.len = subst (Ends c.in-Value.len) c.in-Value-run_at.is c.run_at.ensures.1 in
+    let by : Bytes c.args.row.now = typed c.args.row.now c.type_inv.row in
+    let part-took : Took (bytes plain c.in-Value.len) c.args.row.now c.in-Value.mid (take c.in-Value.len (drop c.in-Value-run_at.start c.args.row.now)) c.in-Value-run_at.end = run-took _ _ plain c.in-Value.len c.run_at.ensures.0 by c.in-Value-run_at.is in
+    omega (arith, part-ends, part-took.inside)
 
 pub returns-in_default-check : goal.returns-in_default-check
 returns-in_default-check c =
-    let told = c.enum_told-in_default-check-1.given.1 in
-    let answer = learn (check_says ((take (c.start-1.given.0.1.0 - c.start-1.given.0.0) (drop (c.start-1.given.0.0) (c.args.row.now))))) c.check_card-check.ensures.0 told in
-    let not = (let read-card : (sized (group card) CARD_END).read (drop c.args.at (c.args.row.now)) ≡ in_row (group card) CARD_END (drop (c.start-1.given.0.1.0) (c.args.row.now)) (read_row card_row ((take (c.start-1.given.0.1.0 - c.start-1.given.0.0) (drop (c.start-1.given.0.0) (c.args.row.now))))) = let long : c.start-1.given.0.1.0 - c.start-1.given.0.0 ≡ c.len-1.given.0.0 = omega (arith, (let part-ends : c.start-1.given.0.1.0 ≡ c.start-1.given.0.0 + c.len-1.given.0.0 = subst (Ends (c.len-1.given.0.0)) c.start-1.given.1 c.run_at.ensures.1 in part-ends)) in
-    rw long (sized-part (group card) CARD_END (c.args.row.now) _ ((let len-took : Took u16 (c.args.row.now) c.args.at (c.len-1.given.0.0) (c.len-1.given.0.1.0) = took _ _ u16 (number-lawful 2) ((let by : Bytes (c.args.row.now) = typed (c.args.row.now) c.shared_slice_known-1.given in by)) ((let len_read : read_at u16 (c.args.row.now) c.args.at ≡ takes (c.len-1.given.0.0) (c.len-1.given.0.1.0) = learn u16_says c.u16_at.ensures c.len-1.given.1 in len_read)) in len-took)) plain ((let part-took : Took (bytes plain (c.len-1.given.0.0)) (c.args.row.now) (c.len-1.given.0.1.0) (take (c.len-1.given.0.0) (drop (c.start-1.given.0.0) (c.args.row.now))) (c.start-1.given.0.1.0) = run-took _ _ plain (c.len-1.given.0.0) c.run_at.ensures.0 ((let by : Bytes (c.args.row.now) = typed (c.args.row.now) c.shared_slice_known-1.given in by)) c.start-1.given.1 in part-took))) in read-card) ∙ ap (in_row (group card) CARD_END (drop (c.start-1.given.0.1.0) (c.args.row.now))) answer in
+    let part : List ℕ = take (c.in-Value-run_at.end - c.in-Value-run_at.start) (drop c.in-Value-run_at.start c.args.row.now) in
+    let part-ends : c.in-Value-run_at.end ≡ c.in-Value-run_at.start + c.in-Value.len = subst (Ends c.in-Value.len) c.in-Value-run_at.is c.run_at.ensures.1 in
+    let by : Bytes c.args.row.now = typed c.args.row.now c.type_inv.row in
+    let len_read : read_at u16 c.args.row.now c.args.at ≡ takes c.in-Value.len c.in-Value.mid = learn u16_says c.u16_at.ensures c.in-Value.is in
+    let len-took : Took u16 c.args.row.now c.args.at c.in-Value.len c.in-Value.mid = took _ _ u16 (number-lawful 2) by len_read in
+    let part-took : Took (bytes plain c.in-Value.len) c.args.row.now c.in-Value.mid (take c.in-Value.len (drop c.in-Value-run_at.start c.args.row.now)) c.in-Value-run_at.end = run-took _ _ plain c.in-Value.len c.run_at.ensures.0 by c.in-Value-run_at.is in
+    let read-card : (sized (group card) CARD_END).read (drop c.args.at c.args.row.now) ≡ in_row (group card) CARD_END (drop c.in-Value-run_at.end c.args.row.now) (read_row card_row part) = let long : c.in-Value-run_at.end - c.in-Value-run_at.start ≡ c.in-Value.len = omega (arith, part-ends) in
+    rw long (sized-part (group card) CARD_END c.args.row.now _ len-took plain part-took) in
+    let told = c.in_default-check.is in
+    let answer = learn (check_says part) c.check_card-check.ensures.0 told in
+    let not = read-card ∙ ap (in_row (group card) CARD_END (drop c.in-Value-run_at.end c.args.row.now)) answer in
     rw (c.refusal.ensures ∙ ap check_refusal told) (locates-not _ _ (sized (group card) CARD_END) (card_at _) not)
 
 pub returns : goal.returns
 returns c =
+    let part : List ℕ = take (c.in-Value-run_at.end - c.in-Value-run_at.start) (drop c.in-Value-run_at.start c.args.row.now) in
+    let part-ends : c.in-Value-run_at.end ≡ c.in-Value-run_at.start + c.in-Value.len = subst (Ends c.in-Value.len) c.in-Value-run_at.is c.run_at.ensures.1 in
+    let by : Bytes c.args.row.now = typed c.args.row.now c.type_inv.row in
+    let len_read : read_at u16 c.args.row.now c.args.at ≡ takes c.in-Value.len c.in-Value.mid = learn u16_says c.u16_at.ensures c.in-Value.is in
+    let len-took : Took u16 c.args.row.now c.args.at c.in-Value.len c.in-Value.mid = took _ _ u16 (number-lawful 2) by len_read in
+    let part-took : Took (bytes plain c.in-Value.len) c.args.row.now c.in-Value.mid (take c.in-Value.len (drop c.in-Value-run_at.start c.args.row.now)) c.in-Value-run_at.end = run-took _ _ plain c.in-Value.len c.run_at.ensures.0 by c.in-Value-run_at.is in
+    let read-card : (sized (group card) CARD_END).read (drop c.args.at c.args.row.now) ≡ in_row (group card) CARD_END (drop c.in-Value-run_at.end c.args.row.now) (read_row card_row part) = let long : c.in-Value-run_at.end - c.in-Value-run_at.start ≡ c.in-Value.len = omega (arith, part-ends) in
+    rw long (sized-part (group card) CARD_END c.args.row.now _ len-took plain part-took) in
     let from = c.args.at in
-    let fields = c.check-1.given.0.0 in
-    let answer = learn (check_says ((take (c.start-1.given.0.1.0 - c.start-1.given.0.0) (drop (c.start-1.given.0.0) (c.args.row.now))))) c.check_card-check.ensures.0 c.check-1.given.1 in
-    let all = (let read-card : (sized (group card) CARD_END).read (drop c.args.at (c.args.row.now)) ≡ in_row (group card) CARD_END (drop (c.start-1.given.0.1.0) (c.args.row.now)) (read_row card_row ((take (c.start-1.given.0.1.0 - c.start-1.given.0.0) (drop (c.start-1.given.0.0) (c.args.row.now))))) = let long : c.start-1.given.0.1.0 - c.start-1.given.0.0 ≡ c.len-1.given.0.0 = omega (arith, (let part-ends : c.start-1.given.0.1.0 ≡ c.start-1.given.0.0 + c.len-1.given.0.0 = subst (Ends (c.len-1.given.0.0)) c.start-1.given.1 c.run_at.ensures.1 in part-ends)) in
-    rw long (sized-part (group card) CARD_END (c.args.row.now) _ ((let len-took : Took u16 (c.args.row.now) c.args.at (c.len-1.given.0.0) (c.len-1.given.0.1.0) = took _ _ u16 (number-lawful 2) ((let by : Bytes (c.args.row.now) = typed (c.args.row.now) c.shared_slice_known-1.given in by)) ((let len_read : read_at u16 (c.args.row.now) c.args.at ≡ takes (c.len-1.given.0.0) (c.len-1.given.0.1.0) = learn u16_says c.u16_at.ensures c.len-1.given.1 in len_read)) in len-took)) plain ((let part-took : Took (bytes plain (c.len-1.given.0.0)) (c.args.row.now) (c.len-1.given.0.1.0) (take (c.len-1.given.0.0) (drop (c.start-1.given.0.0) (c.args.row.now))) (c.start-1.given.0.1.0) = run-took _ _ plain (c.len-1.given.0.0) c.run_at.ensures.0 ((let by : Bytes (c.args.row.now) = typed (c.args.row.now) c.shared_slice_known-1.given in by)) c.start-1.given.1 in part-took))) in read-card) ∙ ap (in_row (group card) CARD_END (drop (c.start-1.given.0.1.0) (c.args.row.now))) answer in
-    let runs : Offsets ((take (c.start-1.given.0.1.0 - c.start-1.given.0.0) (drop (c.start-1.given.0.0) (c.args.row.now)))) fields = subst (Placed ((take (c.start-1.given.0.1.0 - c.start-1.given.0.0) (drop (c.start-1.given.0.0) (c.args.row.now))))) c.check-1.given.1 c.check_card-check.ensures.1 in
-    let mid-is = took-next _ _ u16 (number-lawful 2) ((let by : Bytes (c.args.row.now) = typed (c.args.row.now) c.shared_slice_known-1.given in by)) ((let len_read : read_at u16 (c.args.row.now) c.args.at ≡ takes (c.len-1.given.0.0) (c.len-1.given.0.1.0) = learn u16_says c.u16_at.ensures c.len-1.given.1 in len_read)) (not-past _ _ u16 refl ((let len_read : read_at u16 (c.args.row.now) c.args.at ≡ takes (c.len-1.given.0.0) (c.len-1.given.0.1.0) = learn u16_says c.u16_at.ensures c.len-1.given.1 in len_read))) in
-    let start_is = bytes_next _ _ (c.len-1.given.0.0) plain ((let by : Bytes (c.args.row.now) = typed (c.args.row.now) c.shared_slice_known-1.given in by)) (learn (run_says (c.len-1.given.0.0) (c.args.row.now)) c.run_at.ensures.0 c.start-1.given.1) ((let len-took : Took u16 (c.args.row.now) c.args.at (c.len-1.given.0.0) (c.len-1.given.0.1.0) = took _ _ u16 (number-lawful 2) ((let by : Bytes (c.args.row.now) = typed (c.args.row.now) c.shared_slice_known-1.given in by)) ((let len_read : read_at u16 (c.args.row.now) c.args.at ≡ takes (c.len-1.given.0.0) (c.len-1.given.0.1.0) = learn u16_says c.u16_at.ensures c.len-1.given.1 in len_read)) in len-took)).inside in
-    let end_is = next-is (c.args.row.now) from (sized (group card) CARD_END) (sized-lawful (group card) card-lawful CARD_END) ((let by : Bytes (c.args.row.now) = typed (c.args.row.now) c.shared_slice_known-1.given in by)) (not-past _ _ u16 refl ((let len_read : read_at u16 (c.args.row.now) c.args.at ≡ takes (c.len-1.given.0.0) (c.len-1.given.0.1.0) = learn u16_says c.u16_at.ensures c.len-1.given.1 in len_read)))
-    {b = card_from ((take (c.start-1.given.0.1.0 - c.start-1.given.0.0) (drop (c.start-1.given.0.0) (c.args.row.now)))) fields} (record { reads = all; inside = ((let part-took : Took (bytes plain (c.len-1.given.0.0)) (c.args.row.now) (c.len-1.given.0.1.0) (take (c.len-1.given.0.0) (drop (c.start-1.given.0.0) (c.args.row.now))) (c.start-1.given.0.1.0) = run-took _ _ plain (c.len-1.given.0.0) c.run_at.ensures.0 ((let by : Bytes (c.args.row.now) = typed (c.args.row.now) c.shared_slice_known-1.given in by)) c.start-1.given.1 in part-took)).inside; onward = λ l. omega (arith, l, mid-is, start_is) }) in
-    locates _ _ (sized (group card) CARD_END) (card_at _) all ((let part-took : Took (bytes plain (c.len-1.given.0.0)) (c.args.row.now) (c.len-1.given.0.1.0) (take (c.len-1.given.0.0) (drop (c.start-1.given.0.0) (c.args.row.now))) (c.start-1.given.0.1.0) = run-took _ _ plain (c.len-1.given.0.0) c.run_at.ensures.0 ((let by : Bytes (c.args.row.now) = typed (c.args.row.now) c.shared_slice_known-1.given in by)) c.start-1.given.1 in part-took)).inside
-    (its-place from ((take (c.start-1.given.0.1.0 - c.start-1.given.0.0) (drop (c.start-1.given.0.0) (c.args.row.now)))) fields runs (omega (arith, (let part-ends : c.start-1.given.0.1.0 ≡ c.start-1.given.0.0 + c.len-1.given.0.0 = subst (Ends (c.len-1.given.0.0)) c.start-1.given.1 c.run_at.ensures.1 in part-ends), start_is, mid-is, length-bytes_of 2 (c.len-1.given.0.0))) end_is)
+    let fields = c.in-Fields.at in
+    let answer = learn (check_says part) c.check_card-check.ensures.0 c.in-Fields.is in
+    let all = read-card ∙ ap (in_row (group card) CARD_END (drop c.in-Value-run_at.end c.args.row.now)) answer in
+    let runs : Offsets part fields = subst (Placed part) c.in-Fields.is c.check_card-check.ensures.1 in
+    let mid-is = took-next _ _ u16 (number-lawful 2) by len_read (not-past _ _ u16 refl len_read) in
+    let start_is = bytes_next _ _ c.in-Value.len plain by (learn (run_says c.in-Value.len c.args.row.now) c.run_at.ensures.0 c.in-Value-run_at.is) len-took.inside in
+    let end_is = next-is c.args.row.now from (sized (group card) CARD_END) (sized-lawful (group card) card-lawful CARD_END) by (not-past _ _ u16 refl len_read)
+    {b = card_from part fields} (record { reads = all; inside = part-took.inside; onward = λ l. omega (arith, l, mid-is, start_is) }) in
+    locates _ _ (sized (group card) CARD_END) (card_at _) all part-took.inside
+    (its-place from part fields runs (omega (arith, part-ends, start_is, mid-is, length-bytes_of 2 c.in-Value.len)) end_is)

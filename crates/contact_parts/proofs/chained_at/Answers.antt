@@ -10,7 +10,7 @@ use Rattle.layout.specs.Field.{read_at}
 use Rattle.layout.specs.RowLaws.{Bytes}
 use Rattle.layout.proofs.Derived.{optional-lawful}
 use Rattle.layout.proofs.At.{learn, Took, typed, took, took-next, refused-at, takes_at, refuses-at}
-use Rattle.layout.proofs.Steps.{start, field-yes, field-no, done-yes}
+use Rattle.layout.proofs.Steps.{Reached, start, field-yes, field-no, done-yes}
 use Rattle.rows.specs.Rows.{pending, send, chain, skipped}
 use Rattle.rows.proofs.Lawful.{pending-lawful, send-lawful, chain-lawful, skipped-lawful}
 use Rattle.offsets.specs.Offset.{offset}
@@ -36,39 +36,80 @@ its-places from v chains-at chains-here Skipped-at skipped-here pending-at pendi
 
 pub returns-in_default : goal.returns-in_default
 returns-in_default c =
-    let stop = field-no (start).so (refused-at _ _ (optional (group pending)) (located-not (pending_at _) _ (learn pending_says c.pending_at-pending_field.ensures c.enum_told-1.given.1))) in
-    rw (c.refusal.ensures ∙ ap pending_refusal c.enum_told-1.given.1) ((sym (ap (chained_found (c.args.at)) (refuses-at (c.args.row.now) (c.args.at) (group chained) stop))))
+    let r0 : (Reached chained c.args.row.now c.args.at) = start in
+    let stop = field-no r0.so (refused-at _ _ (optional (group pending)) (located-not (pending_at _) _ (learn pending_says c.pending_at-pending_field.ensures c.in_default.is))) in
+    rw (c.refusal.ensures ∙ ap pending_refusal c.in_default.is) ((sym (ap (chained_found c.args.at) (refuses-at c.args.row.now c.args.at (group chained) stop))))
 
 pub returns-in_default-send_field : goal.returns-in_default-send_field
 returns-in_default-send_field c =
-    let stop = field-no ((field-yes (start).so ((let pending-took : Took (optional (group pending)) (c.args.row.now) (c.args.at) ((let pending-read : Located (pending_at (c.args.at)) (read_at (optional (group pending)) (c.args.row.now) (c.args.at)) c.pending_field-1.given.0.0 c.pending_field-1.given.0.1.0 = located-at (pending_at _) _ (learn pending_says c.pending_at-pending_field.ensures c.pending_field-1.given.1) in pending-read)).value c.pending_field-1.given.0.1.0 = took _ _ (optional (group pending)) (optional-lawful (group pending) pending-lawful) ((let by : Bytes (c.args.row.now) = typed (c.args.row.now) c.shared_slice_known-1.given in by)) ((let pending-read : Located (pending_at (c.args.at)) (read_at (optional (group pending)) (c.args.row.now) (c.args.at)) c.pending_field-1.given.0.0 c.pending_field-1.given.0.1.0 = located-at (pending_at _) _ (learn pending_says c.pending_at-pending_field.ensures c.pending_field-1.given.1) in pending-read)).read in pending-took)))).so (refused-at _ _ (optional (group send)) (located-not (send_at _) _ (learn send_says c.IsSend-at.ensures c.enum_told-in_default-send_field-1.given.1))) in
-    rw (c.refusal-in_default-send_field.ensures ∙ ap send_refusal c.enum_told-in_default-send_field-1.given.1) ((sym (ap (chained_found (c.args.at)) (refuses-at (c.args.row.now) (c.args.at) (group chained) stop))))
+    let r0 : (Reached chained c.args.row.now c.args.at) = start in
+    let by : Bytes c.args.row.now = typed c.args.row.now c.type_inv.row in
+    let pending-read : Located (pending_at c.args.at) (read_at (optional (group pending)) c.args.row.now c.args.at) c.in-Value.pending c.in-Value.at1 = located-at (pending_at _) _ (learn pending_says c.pending_at-pending_field.ensures c.in-Value.is) in
+    let pending-took : Took (optional (group pending)) c.args.row.now c.args.at pending-read.value c.in-Value.at1 = took _ _ (optional (group pending)) (optional-lawful (group pending) pending-lawful) by pending-read.read in
+    let r1 : (Reached chained c.args.row.now c.args.at) = field-yes r0.so pending-took in
+    let stop = field-no r1.so (refused-at _ _ (optional (group send)) (located-not (send_at _) _ (learn send_says c.IsSend-at.ensures c.in_default-send_field.is))) in
+    rw (c.refusal-in_default-send_field.ensures ∙ ap send_refusal c.in_default-send_field.is) ((sym (ap (chained_found c.args.at) (refuses-at c.args.row.now c.args.at (group chained) stop))))
 
 pub returns-in_default-chains_field : goal.returns-in_default-chains_field
 returns-in_default-chains_field c =
-    let stop = field-no ((field-yes ((field-yes (start).so ((let pending-took : Took (optional (group pending)) (c.args.row.now) (c.args.at) ((let pending-read : Located (pending_at (c.args.at)) (read_at (optional (group pending)) (c.args.row.now) (c.args.at)) c.pending_field-1.given.0.0 c.pending_field-1.given.0.1.0 = located-at (pending_at _) _ (learn pending_says c.pending_at-pending_field.ensures c.pending_field-1.given.1) in pending-read)).value c.pending_field-1.given.0.1.0 = took _ _ (optional (group pending)) (optional-lawful (group pending) pending-lawful) ((let by : Bytes (c.args.row.now) = typed (c.args.row.now) c.shared_slice_known-1.given in by)) ((let pending-read : Located (pending_at (c.args.at)) (read_at (optional (group pending)) (c.args.row.now) (c.args.at)) c.pending_field-1.given.0.0 c.pending_field-1.given.0.1.0 = located-at (pending_at _) _ (learn pending_says c.pending_at-pending_field.ensures c.pending_field-1.given.1) in pending-read)).read in pending-took)))).so ((let send-took : Took (optional (group send)) (c.args.row.now) ((field-yes (start).so ((let pending-took : Took (optional (group pending)) (c.args.row.now) (c.args.at) ((let pending-read : Located (pending_at (c.args.at)) (read_at (optional (group pending)) (c.args.row.now) (c.args.at)) c.pending_field-1.given.0.0 c.pending_field-1.given.0.1.0 = located-at (pending_at _) _ (learn pending_says c.pending_at-pending_field.ensures c.pending_field-1.given.1) in pending-read)).value c.pending_field-1.given.0.1.0 = took _ _ (optional (group pending)) (optional-lawful (group pending) pending-lawful) ((let by : Bytes (c.args.row.now) = typed (c.args.row.now) c.shared_slice_known-1.given in by)) ((let pending-read : Located (pending_at (c.args.at)) (read_at (optional (group pending)) (c.args.row.now) (c.args.at)) c.pending_field-1.given.0.0 c.pending_field-1.given.0.1.0 = located-at (pending_at _) _ (learn pending_says c.pending_at-pending_field.ensures c.pending_field-1.given.1) in pending-read)).read in pending-took)))).here ((let send-read : Located (send_at ((field-yes (start).so ((let pending-took : Took (optional (group pending)) (c.args.row.now) (c.args.at) ((let pending-read : Located (pending_at (c.args.at)) (read_at (optional (group pending)) (c.args.row.now) (c.args.at)) c.pending_field-1.given.0.0 c.pending_field-1.given.0.1.0 = located-at (pending_at _) _ (learn pending_says c.pending_at-pending_field.ensures c.pending_field-1.given.1) in pending-read)).value c.pending_field-1.given.0.1.0 = took _ _ (optional (group pending)) (optional-lawful (group pending) pending-lawful) ((let by : Bytes (c.args.row.now) = typed (c.args.row.now) c.shared_slice_known-1.given in by)) ((let pending-read : Located (pending_at (c.args.at)) (read_at (optional (group pending)) (c.args.row.now) (c.args.at)) c.pending_field-1.given.0.0 c.pending_field-1.given.0.1.0 = located-at (pending_at _) _ (learn pending_says c.pending_at-pending_field.ensures c.pending_field-1.given.1) in pending-read)).read in pending-took)))).here) (read_at (optional (group send)) (c.args.row.now) ((field-yes (start).so ((let pending-took : Took (optional (group pending)) (c.args.row.now) (c.args.at) ((let pending-read : Located (pending_at (c.args.at)) (read_at (optional (group pending)) (c.args.row.now) (c.args.at)) c.pending_field-1.given.0.0 c.pending_field-1.given.0.1.0 = located-at (pending_at _) _ (learn pending_says c.pending_at-pending_field.ensures c.pending_field-1.given.1) in pending-read)).value c.pending_field-1.given.0.1.0 = took _ _ (optional (group pending)) (optional-lawful (group pending) pending-lawful) ((let by : Bytes (c.args.row.now) = typed (c.args.row.now) c.shared_slice_known-1.given in by)) ((let pending-read : Located (pending_at (c.args.at)) (read_at (optional (group pending)) (c.args.row.now) (c.args.at)) c.pending_field-1.given.0.0 c.pending_field-1.given.0.1.0 = located-at (pending_at _) _ (learn pending_says c.pending_at-pending_field.ensures c.pending_field-1.given.1) in pending-read)).read in pending-took)))).here) c.send_field-1.given.0.0 c.send_field-1.given.0.1.0 = located-at (send_at _) _ (learn send_says c.IsSend-at.ensures c.send_field-1.given.1) in send-read)).value c.send_field-1.given.0.1.0 = took _ _ (optional (group send)) (optional-lawful (group send) send-lawful) ((let by : Bytes (c.args.row.now) = typed (c.args.row.now) c.shared_slice_known-1.given in by)) ((let send-read : Located (send_at ((field-yes (start).so ((let pending-took : Took (optional (group pending)) (c.args.row.now) (c.args.at) ((let pending-read : Located (pending_at (c.args.at)) (read_at (optional (group pending)) (c.args.row.now) (c.args.at)) c.pending_field-1.given.0.0 c.pending_field-1.given.0.1.0 = located-at (pending_at _) _ (learn pending_says c.pending_at-pending_field.ensures c.pending_field-1.given.1) in pending-read)).value c.pending_field-1.given.0.1.0 = took _ _ (optional (group pending)) (optional-lawful (group pending) pending-lawful) ((let by : Bytes (c.args.row.now) = typed (c.args.row.now) c.shared_slice_known-1.given in by)) ((let pending-read : Located (pending_at (c.args.at)) (read_at (optional (group pending)) (c.args.row.now) (c.args.at)) c.pending_field-1.given.0.0 c.pending_field-1.given.0.1.0 = located-at (pending_at _) _ (learn pending_says c.pending_at-pending_field.ensures c.pending_field-1.given.1) in pending-read)).read in pending-took)))).here) (read_at (optional (group send)) (c.args.row.now) ((field-yes (start).so ((let pending-took : Took (optional (group pending)) (c.args.row.now) (c.args.at) ((let pending-read : Located (pending_at (c.args.at)) (read_at (optional (group pending)) (c.args.row.now) (c.args.at)) c.pending_field-1.given.0.0 c.pending_field-1.given.0.1.0 = located-at (pending_at _) _ (learn pending_says c.pending_at-pending_field.ensures c.pending_field-1.given.1) in pending-read)).value c.pending_field-1.given.0.1.0 = took _ _ (optional (group pending)) (optional-lawful (group pending) pending-lawful) ((let by : Bytes (c.args.row.now) = typed (c.args.row.now) c.shared_slice_known-1.given in by)) ((let pending-read : Located (pending_at (c.args.at)) (read_at (optional (group pending)) (c.args.row.now) (c.args.at)) c.pending_field-1.given.0.0 c.pending_field-1.given.0.1.0 = located-at (pending_at _) _ (learn pending_says c.pending_at-pending_field.ensures c.pending_field-1.given.1) in pending-read)).read in pending-took)))).here) c.send_field-1.given.0.0 c.send_field-1.given.0.1.0 = located-at (send_at _) _ (learn send_says c.IsSend-at.ensures c.send_field-1.given.1) in send-read)).read in send-took)))).so (refused-at _ _ (list (group chain)) (learn (list_says (group chain) (c.args.row.now)) c.chains_at-chains_field.ensures.0 c.enum_told-in_default-chains_field-1.given.1)) in
-    rw (c.refusal-in_default-chains_field.ensures ∙ ap list_refusal c.enum_told-in_default-chains_field-1.given.1) ((sym (ap (chained_found (c.args.at)) (refuses-at (c.args.row.now) (c.args.at) (group chained) stop))))
+    let r0 : (Reached chained c.args.row.now c.args.at) = start in
+    let by : Bytes c.args.row.now = typed c.args.row.now c.type_inv.row in
+    let pending-read : Located (pending_at c.args.at) (read_at (optional (group pending)) c.args.row.now c.args.at) c.in-Value.pending c.in-Value.at1 = located-at (pending_at _) _ (learn pending_says c.pending_at-pending_field.ensures c.in-Value.is) in
+    let pending-took : Took (optional (group pending)) c.args.row.now c.args.at pending-read.value c.in-Value.at1 = took _ _ (optional (group pending)) (optional-lawful (group pending) pending-lawful) by pending-read.read in
+    let r1 : (Reached chained c.args.row.now c.args.at) = field-yes r0.so pending-took in
+    let send-read : Located (send_at r1.here) (read_at (optional (group send)) c.args.row.now r1.here) c.in-Value-send_field.send c.in-Value-send_field.at2 = located-at (send_at _) _ (learn send_says c.IsSend-at.ensures c.in-Value-send_field.is) in
+    let send-took : Took (optional (group send)) c.args.row.now r1.here send-read.value c.in-Value-send_field.at2 = took _ _ (optional (group send)) (optional-lawful (group send) send-lawful) by send-read.read in
+    let r2 : (Reached chained c.args.row.now c.args.at) = field-yes r1.so send-took in
+    let stop = field-no r2.so (refused-at _ _ (list (group chain)) (learn (list_says (group chain) c.args.row.now) c.chains_at-chains_field.ensures.0 c.in_default-chains_field.is)) in
+    rw (c.refusal-in_default-chains_field.ensures ∙ ap list_refusal c.in_default-chains_field.is) ((sym (ap (chained_found c.args.at) (refuses-at c.args.row.now c.args.at (group chained) stop))))
 
 pub returns-in_default-skipped_field : goal.returns-in_default-skipped_field
 returns-in_default-skipped_field c =
-    let stop = field-no ((field-yes ((field-yes ((field-yes (start).so ((let pending-took : Took (optional (group pending)) (c.args.row.now) (c.args.at) ((let pending-read : Located (pending_at (c.args.at)) (read_at (optional (group pending)) (c.args.row.now) (c.args.at)) c.pending_field-1.given.0.0 c.pending_field-1.given.0.1.0 = located-at (pending_at _) _ (learn pending_says c.pending_at-pending_field.ensures c.pending_field-1.given.1) in pending-read)).value c.pending_field-1.given.0.1.0 = took _ _ (optional (group pending)) (optional-lawful (group pending) pending-lawful) ((let by : Bytes (c.args.row.now) = typed (c.args.row.now) c.shared_slice_known-1.given in by)) ((let pending-read : Located (pending_at (c.args.at)) (read_at (optional (group pending)) (c.args.row.now) (c.args.at)) c.pending_field-1.given.0.0 c.pending_field-1.given.0.1.0 = located-at (pending_at _) _ (learn pending_says c.pending_at-pending_field.ensures c.pending_field-1.given.1) in pending-read)).read in pending-took)))).so ((let send-took : Took (optional (group send)) (c.args.row.now) ((field-yes (start).so ((let pending-took : Took (optional (group pending)) (c.args.row.now) (c.args.at) ((let pending-read : Located (pending_at (c.args.at)) (read_at (optional (group pending)) (c.args.row.now) (c.args.at)) c.pending_field-1.given.0.0 c.pending_field-1.given.0.1.0 = located-at (pending_at _) _ (learn pending_says c.pending_at-pending_field.ensures c.pending_field-1.given.1) in pending-read)).value c.pending_field-1.given.0.1.0 = took _ _ (optional (group pending)) (optional-lawful (group pending) pending-lawful) ((let by : Bytes (c.args.row.now) = typed (c.args.row.now) c.shared_slice_known-1.given in by)) ((let pending-read : Located (pending_at (c.args.at)) (read_at (optional (group pending)) (c.args.row.now) (c.args.at)) c.pending_field-1.given.0.0 c.pending_field-1.given.0.1.0 = located-at (pending_at _) _ (learn pending_says c.pending_at-pending_field.ensures c.pending_field-1.given.1) in pending-read)).read in pending-took)))).here ((let send-read : Located (send_at ((field-yes (start).so ((let pending-took : Took (optional (group pending)) (c.args.row.now) (c.args.at) ((let pending-read : Located (pending_at (c.args.at)) (read_at (optional (group pending)) (c.args.row.now) (c.args.at)) c.pending_field-1.given.0.0 c.pending_field-1.given.0.1.0 = located-at (pending_at _) _ (learn pending_says c.pending_at-pending_field.ensures c.pending_field-1.given.1) in pending-read)).value c.pending_field-1.given.0.1.0 = took _ _ (optional (group pending)) (optional-lawful (group pending) pending-lawful) ((let by : Bytes (c.args.row.now) = typed (c.args.row.now) c.shared_slice_known-1.given in by)) ((let pending-read : Located (pending_at (c.args.at)) (read_at (optional (group pending)) (c.args.row.now) (c.args.at)) c.pending_field-1.given.0.0 c.pending_field-1.given.0.1.0 = located-at (pending_at _) _ (learn pending_says c.pending_at-pending_field.ensures c.pending_field-1.given.1) in pending-read)).read in pending-took)))).here) (read_at (optional (group send)) (c.args.row.now) ((field-yes (start).so ((let pending-took : Took (optional (group pending)) (c.args.row.now) (c.args.at) ((let pending-read : Located (pending_at (c.args.at)) (read_at (optional (group pending)) (c.args.row.now) (c.args.at)) c.pending_field-1.given.0.0 c.pending_field-1.given.0.1.0 = located-at (pending_at _) _ (learn pending_says c.pending_at-pending_field.ensures c.pending_field-1.given.1) in pending-read)).value c.pending_field-1.given.0.1.0 = took _ _ (optional (group pending)) (optional-lawful (group pending) pending-lawful) ((let by : Bytes (c.args.row.now) = typed (c.args.row.now) c.shared_slice_known-1.given in by)) ((let pending-read : Located (pending_at (c.args.at)) (read_at (optional (group pending)) (c.args.row.now) (c.args.at)) c.pending_field-1.given.0.0 c.pending_field-1.given.0.1.0 = located-at (pending_at _) _ (learn pending_says c.pending_at-pending_field.ensures c.pending_field-1.given.1) in pending-read)).read in pending-took)))).here) c.send_field-1.given.0.0 c.send_field-1.given.0.1.0 = located-at (send_at _) _ (learn send_says c.IsSend-at.ensures c.send_field-1.given.1) in send-read)).value c.send_field-1.given.0.1.0 = took _ _ (optional (group send)) (optional-lawful (group send) send-lawful) ((let by : Bytes (c.args.row.now) = typed (c.args.row.now) c.shared_slice_known-1.given in by)) ((let send-read : Located (send_at ((field-yes (start).so ((let pending-took : Took (optional (group pending)) (c.args.row.now) (c.args.at) ((let pending-read : Located (pending_at (c.args.at)) (read_at (optional (group pending)) (c.args.row.now) (c.args.at)) c.pending_field-1.given.0.0 c.pending_field-1.given.0.1.0 = located-at (pending_at _) _ (learn pending_says c.pending_at-pending_field.ensures c.pending_field-1.given.1) in pending-read)).value c.pending_field-1.given.0.1.0 = took _ _ (optional (group pending)) (optional-lawful (group pending) pending-lawful) ((let by : Bytes (c.args.row.now) = typed (c.args.row.now) c.shared_slice_known-1.given in by)) ((let pending-read : Located (pending_at (c.args.at)) (read_at (optional (group pending)) (c.args.row.now) (c.args.at)) c.pending_field-1.given.0.0 c.pending_field-1.given.0.1.0 = located-at (pending_at _) _ (learn pending_says c.pending_at-pending_field.ensures c.pending_field-1.given.1) in pending-read)).read in pending-took)))).here) (read_at (optional (group send)) (c.args.row.now) ((field-yes (start).so ((let pending-took : Took (optional (group pending)) (c.args.row.now) (c.args.at) ((let pending-read : Located (pending_at (c.args.at)) (read_at (optional (group pending)) (c.args.row.now) (c.args.at)) c.pending_field-1.given.0.0 c.pending_field-1.given.0.1.0 = located-at (pending_at _) _ (learn pending_says c.pending_at-pending_field.ensures c.pending_field-1.given.1) in pending-read)).value c.pending_field-1.given.0.1.0 = took _ _ (optional (group pending)) (optional-lawful (group pending) pending-lawful) ((let by : Bytes (c.args.row.now) = typed (c.args.row.now) c.shared_slice_known-1.given in by)) ((let pending-read : Located (pending_at (c.args.at)) (read_at (optional (group pending)) (c.args.row.now) (c.args.at)) c.pending_field-1.given.0.0 c.pending_field-1.given.0.1.0 = located-at (pending_at _) _ (learn pending_says c.pending_at-pending_field.ensures c.pending_field-1.given.1) in pending-read)).read in pending-took)))).here) c.send_field-1.given.0.0 c.send_field-1.given.0.1.0 = located-at (send_at _) _ (learn send_says c.IsSend-at.ensures c.send_field-1.given.1) in send-read)).read in send-took)))).so ((let chains-took : Took (list (group chain)) (c.args.row.now) ((field-yes ((field-yes (start).so ((let pending-took : Took (optional (group pending)) (c.args.row.now) (c.args.at) ((let pending-read : Located (pending_at (c.args.at)) (read_at (optional (group pending)) (c.args.row.now) (c.args.at)) c.pending_field-1.given.0.0 c.pending_field-1.given.0.1.0 = located-at (pending_at _) _ (learn pending_says c.pending_at-pending_field.ensures c.pending_field-1.given.1) in pending-read)).value c.pending_field-1.given.0.1.0 = took _ _ (optional (group pending)) (optional-lawful (group pending) pending-lawful) ((let by : Bytes (c.args.row.now) = typed (c.args.row.now) c.shared_slice_known-1.given in by)) ((let pending-read : Located (pending_at (c.args.at)) (read_at (optional (group pending)) (c.args.row.now) (c.args.at)) c.pending_field-1.given.0.0 c.pending_field-1.given.0.1.0 = located-at (pending_at _) _ (learn pending_says c.pending_at-pending_field.ensures c.pending_field-1.given.1) in pending-read)).read in pending-took)))).so ((let send-took : Took (optional (group send)) (c.args.row.now) ((field-yes (start).so ((let pending-took : Took (optional (group pending)) (c.args.row.now) (c.args.at) ((let pending-read : Located (pending_at (c.args.at)) (read_at (optional (group pending)) (c.args.row.now) (c.args.at)) c.pending_field-1.given.0.0 c.pending_field-1.given.0.1.0 = located-at (pending_at _) _ (learn pending_says c.pending_at-pending_field.ensures c.pending_field-1.given.1) in pending-read)).value c.pending_field-1.given.0.1.0 = took _ _ (optional (group pending)) (optional-lawful (group pending) pending-lawful) ((let by : Bytes (c.args.row.now) = typed (c.args.row.now) c.shared_slice_known-1.given in by)) ((let pending-read : Located (pending_at (c.args.at)) (read_at (optional (group pending)) (c.args.row.now) (c.args.at)) c.pending_field-1.given.0.0 c.pending_field-1.given.0.1.0 = located-at (pending_at _) _ (learn pending_says c.pending_at-pending_field.ensures c.pending_field-1.given.1) in pending-read)).read in pending-took)))).here ((let send-read : Located (send_at ((field-yes (start).so ((let pending-took : Took (optional (group pending)) (c.args.row.now) (c.args.at) ((let pending-read : Located (pending_at (c.args.at)) (read_at (optional (group pending)) (c.args.row.now) (c.args.at)) c.pending_field-1.given.0.0 c.pending_field-1.given.0.1.0 = located-at (pending_at _) _ (learn pending_says c.pending_at-pending_field.ensures c.pending_field-1.given.1) in pending-read)).value c.pending_field-1.given.0.1.0 = took _ _ (optional (group pending)) (optional-lawful (group pending) pending-lawful) ((let by : Bytes (c.args.row.now) = typed (c.args.row.now) c.shared_slice_known-1.given in by)) ((let pending-read : Located (pending_at (c.args.at)) (read_at (optional (group pending)) (c.args.row.now) (c.args.at)) c.pending_field-1.given.0.0 c.pending_field-1.given.0.1.0 = located-at (pending_at _) _ (learn pending_says c.pending_at-pending_field.ensures c.pending_field-1.given.1) in pending-read)).read in pending-took)))).here) (read_at (optional (group send)) (c.args.row.now) ((field-yes (start).so ((let pending-took : Took (optional (group pending)) (c.args.row.now) (c.args.at) ((let pending-read : Located (pending_at (c.args.at)) (read_at (optional (group pending)) (c.args.row.now) (c.args.at)) c.pending_field-1.given.0.0 c.pending_field-1.given.0.1.0 = located-at (pending_at _) _ (learn pending_says c.pending_at-pending_field.ensures c.pending_field-1.given.1) in pending-read)).value c.pending_field-1.given.0.1.0 = took _ _ (optional (group pending)) (optional-lawful (group pending) pending-lawful) ((let by : Bytes (c.args.row.now) = typed (c.args.row.now) c.shared_slice_known-1.given in by)) ((let pending-read : Located (pending_at (c.args.at)) (read_at (optional (group pending)) (c.args.row.now) (c.args.at)) c.pending_field-1.given.0.0 c.pending_field-1.given.0.1.0 = located-at (pending_at _) _ (learn pending_says c.pending_at-pending_field.ensures c.pending_field-1.given.1) in pending-read)).read in pending-took)))).here) c.send_field-1.given.0.0 c.send_field-1.given.0.1.0 = located-at (send_at _) _ (learn send_says c.IsSend-at.ensures c.send_field-1.given.1) in send-read)).value c.send_field-1.given.0.1.0 = took _ _ (optional (group send)) (optional-lawful (group send) send-lawful) ((let by : Bytes (c.args.row.now) = typed (c.args.row.now) c.shared_slice_known-1.given in by)) ((let send-read : Located (send_at ((field-yes (start).so ((let pending-took : Took (optional (group pending)) (c.args.row.now) (c.args.at) ((let pending-read : Located (pending_at (c.args.at)) (read_at (optional (group pending)) (c.args.row.now) (c.args.at)) c.pending_field-1.given.0.0 c.pending_field-1.given.0.1.0 = located-at (pending_at _) _ (learn pending_says c.pending_at-pending_field.ensures c.pending_field-1.given.1) in pending-read)).value c.pending_field-1.given.0.1.0 = took _ _ (optional (group pending)) (optional-lawful (group pending) pending-lawful) ((let by : Bytes (c.args.row.now) = typed (c.args.row.now) c.shared_slice_known-1.given in by)) ((let pending-read : Located (pending_at (c.args.at)) (read_at (optional (group pending)) (c.args.row.now) (c.args.at)) c.pending_field-1.given.0.0 c.pending_field-1.given.0.1.0 = located-at (pending_at _) _ (learn pending_says c.pending_at-pending_field.ensures c.pending_field-1.given.1) in pending-read)).read in pending-took)))).here) (read_at (optional (group send)) (c.args.row.now) ((field-yes (start).so ((let pending-took : Took (optional (group pending)) (c.args.row.now) (c.args.at) ((let pending-read : Located (pending_at (c.args.at)) (read_at (optional (group pending)) (c.args.row.now) (c.args.at)) c.pending_field-1.given.0.0 c.pending_field-1.given.0.1.0 = located-at (pending_at _) _ (learn pending_says c.pending_at-pending_field.ensures c.pending_field-1.given.1) in pending-read)).value c.pending_field-1.given.0.1.0 = took _ _ (optional (group pending)) (optional-lawful (group pending) pending-lawful) ((let by : Bytes (c.args.row.now) = typed (c.args.row.now) c.shared_slice_known-1.given in by)) ((let pending-read : Located (pending_at (c.args.at)) (read_at (optional (group pending)) (c.args.row.now) (c.args.at)) c.pending_field-1.given.0.0 c.pending_field-1.given.0.1.0 = located-at (pending_at _) _ (learn pending_says c.pending_at-pending_field.ensures c.pending_field-1.given.1) in pending-read)).read in pending-took)))).here) c.send_field-1.given.0.0 c.send_field-1.given.0.1.0 = located-at (send_at _) _ (learn send_says c.IsSend-at.ensures c.send_field-1.given.1) in send-read)).read in send-took)))).here (list_in (group chain) (c.args.row.now) c.chains_field-1.given.0.0) c.chains_field-1.given.0.0.next = list-took (group chain) chain-lawful (c.args.row.now) ((let by : Bytes (c.args.row.now) = typed (c.args.row.now) c.shared_slice_known-1.given in by)) _ c.chains_at-chains_field.ensures c.chains_field-1.given.1 in chains-took)))).so (refused-at _ _ (list (group skipped)) (learn (list_says (group skipped) (c.args.row.now)) c.Skipped-at.ensures.0 c.enum_told-in_default-skipped_field-1.given.1)) in
-    rw (c.refusal-in_default-skipped_field.ensures ∙ ap list_refusal c.enum_told-in_default-skipped_field-1.given.1) ((sym (ap (chained_found (c.args.at)) (refuses-at (c.args.row.now) (c.args.at) (group chained) stop))))
+    let r0 : (Reached chained c.args.row.now c.args.at) = start in
+    let by : Bytes c.args.row.now = typed c.args.row.now c.type_inv.row in
+    let pending-read : Located (pending_at c.args.at) (read_at (optional (group pending)) c.args.row.now c.args.at) c.in-Value.pending c.in-Value.at1 = located-at (pending_at _) _ (learn pending_says c.pending_at-pending_field.ensures c.in-Value.is) in
+    let pending-took : Took (optional (group pending)) c.args.row.now c.args.at pending-read.value c.in-Value.at1 = took _ _ (optional (group pending)) (optional-lawful (group pending) pending-lawful) by pending-read.read in
+    let r1 : (Reached chained c.args.row.now c.args.at) = field-yes r0.so pending-took in
+    let send-read : Located (send_at r1.here) (read_at (optional (group send)) c.args.row.now r1.here) c.in-Value-send_field.send c.in-Value-send_field.at2 = located-at (send_at _) _ (learn send_says c.IsSend-at.ensures c.in-Value-send_field.is) in
+    let send-took : Took (optional (group send)) c.args.row.now r1.here send-read.value c.in-Value-send_field.at2 = took _ _ (optional (group send)) (optional-lawful (group send) send-lawful) by send-read.read in
+    let r2 : (Reached chained c.args.row.now c.args.at) = field-yes r1.so send-took in
+    let chains-took : Took (list (group chain)) c.args.row.now r2.here (list_in (group chain) c.args.row.now c.in-Value-chains_field.chains) c.in-Value-chains_field.chains.next = list-took (group chain) chain-lawful c.args.row.now by _ c.chains_at-chains_field.ensures c.in-Value-chains_field.is in
+    let r3 : (Reached chained c.args.row.now c.args.at) = field-yes r2.so chains-took in
+    let stop = field-no r3.so (refused-at _ _ (list (group skipped)) (learn (list_says (group skipped) c.args.row.now) c.Skipped-at.ensures.0 c.in_default-skipped_field.is)) in
+    rw (c.refusal-in_default-skipped_field.ensures ∙ ap list_refusal c.in_default-skipped_field.is) ((sym (ap (chained_found c.args.at) (refuses-at c.args.row.now c.args.at (group chained) stop))))
 
 pub returns : goal.returns
 returns c =
+    let pending-read : Located (pending_at c.args.at) (read_at (optional (group pending)) c.args.row.now c.args.at) c.in-Value.pending c.in-Value.at1 = located-at (pending_at _) _ (learn pending_says c.pending_at-pending_field.ensures c.in-Value.is) in
+    let r0 : (Reached chained c.args.row.now c.args.at) = start in
+    let by : Bytes c.args.row.now = typed c.args.row.now c.type_inv.row in
+    let pending-took : Took (optional (group pending)) c.args.row.now c.args.at pending-read.value c.in-Value.at1 = took _ _ (optional (group pending)) (optional-lawful (group pending) pending-lawful) by pending-read.read in
+    let r1 : (Reached chained c.args.row.now c.args.at) = field-yes r0.so pending-took in
+    let send-read : Located (send_at r1.here) (read_at (optional (group send)) c.args.row.now r1.here) c.in-Value-send_field.send c.in-Value-send_field.at2 = located-at (send_at _) _ (learn send_says c.IsSend-at.ensures c.in-Value-send_field.is) in
+    let send-took : Took (optional (group send)) c.args.row.now r1.here send-read.value c.in-Value-send_field.at2 = took _ _ (optional (group send)) (optional-lawful (group send) send-lawful) by send-read.read in
+    let r2 : (Reached chained c.args.row.now c.args.at) = field-yes r1.so send-took in
+    let chains-took : Took (list (group chain)) c.args.row.now r2.here (list_in (group chain) c.args.row.now c.in-Value-chains_field.chains) c.in-Value-chains_field.chains.next = list-took (group chain) chain-lawful c.args.row.now by _ c.chains_at-chains_field.ensures c.in-Value-chains_field.is in
+    let r3 : (Reached chained c.args.row.now c.args.at) = field-yes r2.so chains-took in
+    let skipped-took : Took (list (group skipped)) c.args.row.now r3.here (list_in (group skipped) c.args.row.now c.in-Value-skipped_field.skipped) c.in-Value-skipped_field.skipped.next = list-took (group skipped) skipped-lawful c.args.row.now by _ c.Skipped-at.ensures c.in-Value-skipped_field.is in
+    let r4 : (Reached chained c.args.row.now c.args.at) = field-yes r3.so skipped-took in
+    let chains-starts : c.in-Value-chains_field.chains ≡ list_at (group chain) r2.here (list_in (group chain) c.args.row.now c.in-Value-chains_field.chains) = list-starts (group chain) chain-lawful c.args.row.now by _ c.chains_at-chains_field.ensures c.in-Value-chains_field.is send-took.inside in
+    let pending_next : c.in-Value.at1 ≡ c.args.at + length ((optional (group pending)).print pending-read.value) = took-next _ _ (optional (group pending)) (optional-lawful (group pending) pending-lawful) by pending-read.read (optional-not-past _ _ (group pending) pending-read.read) in
+    let send-next : c.in-Value-send_field.at2 ≡ r1.here + length ((optional (group send)).print send-read.value) = took-next _ _ (optional (group send)) (optional-lawful (group send) send-lawful) by send-read.read pending-took.inside in
+    let skipped-starts : c.in-Value-skipped_field.skipped ≡ list_at (group skipped) r3.here (list_in (group skipped) c.args.row.now c.in-Value-skipped_field.skipped) = list-starts (group skipped) skipped-lawful c.args.row.now by _ c.Skipped-at.ensures c.in-Value-skipped_field.is chains-took.inside in
+    let chains-next : c.in-Value-chains_field.chains.next ≡ r2.here + length ((list (group chain)).print (list_in (group chain) c.args.row.now c.in-Value-chains_field.chains)) = list-next (group chain) chain-lawful c.args.row.now by _ c.chains_at-chains_field.ensures c.in-Value-chains_field.is send-took.inside in
     let its : Chained = record {
-      pending = ((let pending-read : Located (pending_at (c.args.at)) (read_at (optional (group pending)) (c.args.row.now) (c.args.at)) c.pending_field-1.given.0.0 c.pending_field-1.given.0.1.0 = located-at (pending_at _) _ (learn pending_says c.pending_at-pending_field.ensures c.pending_field-1.given.1) in pending-read)).value;
-      send = ((let send-read : Located (send_at ((field-yes (start).so ((let pending-took : Took (optional (group pending)) (c.args.row.now) (c.args.at) ((let pending-read : Located (pending_at (c.args.at)) (read_at (optional (group pending)) (c.args.row.now) (c.args.at)) c.pending_field-1.given.0.0 c.pending_field-1.given.0.1.0 = located-at (pending_at _) _ (learn pending_says c.pending_at-pending_field.ensures c.pending_field-1.given.1) in pending-read)).value c.pending_field-1.given.0.1.0 = took _ _ (optional (group pending)) (optional-lawful (group pending) pending-lawful) ((let by : Bytes (c.args.row.now) = typed (c.args.row.now) c.shared_slice_known-1.given in by)) ((let pending-read : Located (pending_at (c.args.at)) (read_at (optional (group pending)) (c.args.row.now) (c.args.at)) c.pending_field-1.given.0.0 c.pending_field-1.given.0.1.0 = located-at (pending_at _) _ (learn pending_says c.pending_at-pending_field.ensures c.pending_field-1.given.1) in pending-read)).read in pending-took)))).here) (read_at (optional (group send)) (c.args.row.now) ((field-yes (start).so ((let pending-took : Took (optional (group pending)) (c.args.row.now) (c.args.at) ((let pending-read : Located (pending_at (c.args.at)) (read_at (optional (group pending)) (c.args.row.now) (c.args.at)) c.pending_field-1.given.0.0 c.pending_field-1.given.0.1.0 = located-at (pending_at _) _ (learn pending_says c.pending_at-pending_field.ensures c.pending_field-1.given.1) in pending-read)).value c.pending_field-1.given.0.1.0 = took _ _ (optional (group pending)) (optional-lawful (group pending) pending-lawful) ((let by : Bytes (c.args.row.now) = typed (c.args.row.now) c.shared_slice_known-1.given in by)) ((let pending-read : Located (pending_at (c.args.at)) (read_at (optional (group pending)) (c.args.row.now) (c.args.at)) c.pending_field-1.given.0.0 c.pending_field-1.given.0.1.0 = located-at (pending_at _) _ (learn pending_says c.pending_at-pending_field.ensures c.pending_field-1.given.1) in pending-read)).read in pending-took)))).here) c.send_field-1.given.0.0 c.send_field-1.given.0.1.0 = located-at (send_at _) _ (learn send_says c.IsSend-at.ensures c.send_field-1.given.1) in send-read)).value;
-      chains = list_in (group chain) (c.args.row.now) c.chains_field-1.given.0.0;
-      skipped = list_in (group skipped) (c.args.row.now) c.skipped_field-1.given.0.0;
+      pending = pending-read.value;
+      send = send-read.value;
+      chains = list_in (group chain) c.args.row.now c.in-Value-chains_field.chains;
+      skipped = list_in (group skipped) c.args.row.now c.in-Value-skipped_field.skipped;
     } in
-    (next} all inside is = ap (λ (place : ChainedAt). Value place next) is ∙ sym (ap (chained_found (c.args.at)) (takes_at (c.args.row.now) (c.args.at) (group chained) all inside))) (done-yes ((field-yes ((field-yes ((field-yes ((field-yes (start).so ((let pending-took : Took (optional (group pending)) (c.args.row.now) (c.args.at) ((let pending-read : Located (pending_at (c.args.at)) (read_at (optional (group pending)) (c.args.row.now) (c.args.at)) c.pending_field-1.given.0.0 c.pending_field-1.given.0.1.0 = located-at (pending_at _) _ (learn pending_says c.pending_at-pending_field.ensures c.pending_field-1.given.1) in pending-read)).value c.pending_field-1.given.0.1.0 = took _ _ (optional (group pending)) (optional-lawful (group pending) pending-lawful) ((let by : Bytes (c.args.row.now) = typed (c.args.row.now) c.shared_slice_known-1.given in by)) ((let pending-read : Located (pending_at (c.args.at)) (read_at (optional (group pending)) (c.args.row.now) (c.args.at)) c.pending_field-1.given.0.0 c.pending_field-1.given.0.1.0 = located-at (pending_at _) _ (learn pending_says c.pending_at-pending_field.ensures c.pending_field-1.given.1) in pending-read)).read in pending-took)))).so ((let send-took : Took (optional (group send)) (c.args.row.now) ((field-yes (start).so ((let pending-took : Took (optional (group pending)) (c.args.row.now) (c.args.at) ((let pending-read : Located (pending_at (c.args.at)) (read_at (optional (group pending)) (c.args.row.now) (c.args.at)) c.pending_field-1.given.0.0 c.pending_field-1.given.0.1.0 = located-at (pending_at _) _ (learn pending_says c.pending_at-pending_field.ensures c.pending_field-1.given.1) in pending-read)).value c.pending_field-1.given.0.1.0 = took _ _ (optional (group pending)) (optional-lawful (group pending) pending-lawful) ((let by : Bytes (c.args.row.now) = typed (c.args.row.now) c.shared_slice_known-1.given in by)) ((let pending-read : Located (pending_at (c.args.at)) (read_at (optional (group pending)) (c.args.row.now) (c.args.at)) c.pending_field-1.given.0.0 c.pending_field-1.given.0.1.0 = located-at (pending_at _) _ (learn pending_says c.pending_at-pending_field.ensures c.pending_field-1.given.1) in pending-read)).read in pending-took)))).here ((let send-read : Located (send_at ((field-yes (start).so ((let pending-took : Took (optional (group pending)) (c.args.row.now) (c.args.at) ((let pending-read : Located (pending_at (c.args.at)) (read_at (optional (group pending)) (c.args.row.now) (c.args.at)) c.pending_field-1.given.0.0 c.pending_field-1.given.0.1.0 = located-at (pending_at _) _ (learn pending_says c.pending_at-pending_field.ensures c.pending_field-1.given.1) in pending-read)).value c.pending_field-1.given.0.1.0 = took _ _ (optional (group pending)) (optional-lawful (group pending) pending-lawful) ((let by : Bytes (c.args.row.now) = typed (c.args.row.now) c.shared_slice_known-1.given in by)) ((let pending-read : Located (pending_at (c.args.at)) (read_at (optional (group pending)) (c.args.row.now) (c.args.at)) c.pending_field-1.given.0.0 c.pending_field-1.given.0.1.0 = located-at (pending_at _) _ (learn pending_says c.pending_at-pending_field.ensures c.pending_field-1.given.1) in pending-read)).read in pending-took)))).here) (read_at (optional (group send)) (c.args.row.now) ((field-yes (start).so ((let pending-took : Took (optional (group pending)) (c.args.row.now) (c.args.at) ((let pending-read : Located (pending_at (c.args.at)) (read_at (optional (group pending)) (c.args.row.now) (c.args.at)) c.pending_field-1.given.0.0 c.pending_field-1.given.0.1.0 = located-at (pending_at _) _ (learn pending_says c.pending_at-pending_field.ensures c.pending_field-1.given.1) in pending-read)).value c.pending_field-1.given.0.1.0 = took _ _ (optional (group pending)) (optional-lawful (group pending) pending-lawful) ((let by : Bytes (c.args.row.now) = typed (c.args.row.now) c.shared_slice_known-1.given in by)) ((let pending-read : Located (pending_at (c.args.at)) (read_at (optional (group pending)) (c.args.row.now) (c.args.at)) c.pending_field-1.given.0.0 c.pending_field-1.given.0.1.0 = located-at (pending_at _) _ (learn pending_says c.pending_at-pending_field.ensures c.pending_field-1.given.1) in pending-read)).read in pending-took)))).here) c.send_field-1.given.0.0 c.send_field-1.given.0.1.0 = located-at (send_at _) _ (learn send_says c.IsSend-at.ensures c.send_field-1.given.1) in send-read)).value c.send_field-1.given.0.1.0 = took _ _ (optional (group send)) (optional-lawful (group send) send-lawful) ((let by : Bytes (c.args.row.now) = typed (c.args.row.now) c.shared_slice_known-1.given in by)) ((let send-read : Located (send_at ((field-yes (start).so ((let pending-took : Took (optional (group pending)) (c.args.row.now) (c.args.at) ((let pending-read : Located (pending_at (c.args.at)) (read_at (optional (group pending)) (c.args.row.now) (c.args.at)) c.pending_field-1.given.0.0 c.pending_field-1.given.0.1.0 = located-at (pending_at _) _ (learn pending_says c.pending_at-pending_field.ensures c.pending_field-1.given.1) in pending-read)).value c.pending_field-1.given.0.1.0 = took _ _ (optional (group pending)) (optional-lawful (group pending) pending-lawful) ((let by : Bytes (c.args.row.now) = typed (c.args.row.now) c.shared_slice_known-1.given in by)) ((let pending-read : Located (pending_at (c.args.at)) (read_at (optional (group pending)) (c.args.row.now) (c.args.at)) c.pending_field-1.given.0.0 c.pending_field-1.given.0.1.0 = located-at (pending_at _) _ (learn pending_says c.pending_at-pending_field.ensures c.pending_field-1.given.1) in pending-read)).read in pending-took)))).here) (read_at (optional (group send)) (c.args.row.now) ((field-yes (start).so ((let pending-took : Took (optional (group pending)) (c.args.row.now) (c.args.at) ((let pending-read : Located (pending_at (c.args.at)) (read_at (optional (group pending)) (c.args.row.now) (c.args.at)) c.pending_field-1.given.0.0 c.pending_field-1.given.0.1.0 = located-at (pending_at _) _ (learn pending_says c.pending_at-pending_field.ensures c.pending_field-1.given.1) in pending-read)).value c.pending_field-1.given.0.1.0 = took _ _ (optional (group pending)) (optional-lawful (group pending) pending-lawful) ((let by : Bytes (c.args.row.now) = typed (c.args.row.now) c.shared_slice_known-1.given in by)) ((let pending-read : Located (pending_at (c.args.at)) (read_at (optional (group pending)) (c.args.row.now) (c.args.at)) c.pending_field-1.given.0.0 c.pending_field-1.given.0.1.0 = located-at (pending_at _) _ (learn pending_says c.pending_at-pending_field.ensures c.pending_field-1.given.1) in pending-read)).read in pending-took)))).here) c.send_field-1.given.0.0 c.send_field-1.given.0.1.0 = located-at (send_at _) _ (learn send_says c.IsSend-at.ensures c.send_field-1.given.1) in send-read)).read in send-took)))).so ((let chains-took : Took (list (group chain)) (c.args.row.now) ((field-yes ((field-yes (start).so ((let pending-took : Took (optional (group pending)) (c.args.row.now) (c.args.at) ((let pending-read : Located (pending_at (c.args.at)) (read_at (optional (group pending)) (c.args.row.now) (c.args.at)) c.pending_field-1.given.0.0 c.pending_field-1.given.0.1.0 = located-at (pending_at _) _ (learn pending_says c.pending_at-pending_field.ensures c.pending_field-1.given.1) in pending-read)).value c.pending_field-1.given.0.1.0 = took _ _ (optional (group pending)) (optional-lawful (group pending) pending-lawful) ((let by : Bytes (c.args.row.now) = typed (c.args.row.now) c.shared_slice_known-1.given in by)) ((let pending-read : Located (pending_at (c.args.at)) (read_at (optional (group pending)) (c.args.row.now) (c.args.at)) c.pending_field-1.given.0.0 c.pending_field-1.given.0.1.0 = located-at (pending_at _) _ (learn pending_says c.pending_at-pending_field.ensures c.pending_field-1.given.1) in pending-read)).read in pending-took)))).so ((let send-took : Took (optional (group send)) (c.args.row.now) ((field-yes (start).so ((let pending-took : Took (optional (group pending)) (c.args.row.now) (c.args.at) ((let pending-read : Located (pending_at (c.args.at)) (read_at (optional (group pending)) (c.args.row.now) (c.args.at)) c.pending_field-1.given.0.0 c.pending_field-1.given.0.1.0 = located-at (pending_at _) _ (learn pending_says c.pending_at-pending_field.ensures c.pending_field-1.given.1) in pending-read)).value c.pending_field-1.given.0.1.0 = took _ _ (optional (group pending)) (optional-lawful (group pending) pending-lawful) ((let by : Bytes (c.args.row.now) = typed (c.args.row.now) c.shared_slice_known-1.given in by)) ((let pending-read : Located (pending_at (c.args.at)) (read_at (optional (group pending)) (c.args.row.now) (c.args.at)) c.pending_field-1.given.0.0 c.pending_field-1.given.0.1.0 = located-at (pending_at _) _ (learn pending_says c.pending_at-pending_field.ensures c.pending_field-1.given.1) in pending-read)).read in pending-took)))).here ((let send-read : Located (send_at ((field-yes (start).so ((let pending-took : Took (optional (group pending)) (c.args.row.now) (c.args.at) ((let pending-read : Located (pending_at (c.args.at)) (read_at (optional (group pending)) (c.args.row.now) (c.args.at)) c.pending_field-1.given.0.0 c.pending_field-1.given.0.1.0 = located-at (pending_at _) _ (learn pending_says c.pending_at-pending_field.ensures c.pending_field-1.given.1) in pending-read)).value c.pending_field-1.given.0.1.0 = took _ _ (optional (group pending)) (optional-lawful (group pending) pending-lawful) ((let by : Bytes (c.args.row.now) = typed (c.args.row.now) c.shared_slice_known-1.given in by)) ((let pending-read : Located (pending_at (c.args.at)) (read_at (optional (group pending)) (c.args.row.now) (c.args.at)) c.pending_field-1.given.0.0 c.pending_field-1.given.0.1.0 = located-at (pending_at _) _ (learn pending_says c.pending_at-pending_field.ensures c.pending_field-1.given.1) in pending-read)).read in pending-took)))).here) (read_at (optional (group send)) (c.args.row.now) ((field-yes (start).so ((let pending-took : Took (optional (group pending)) (c.args.row.now) (c.args.at) ((let pending-read : Located (pending_at (c.args.at)) (read_at (optional (group pending)) (c.args.row.now) (c.args.at)) c.pending_field-1.given.0.0 c.pending_field-1.given.0.1.0 = located-at (pending_at _) _ (learn pending_says c.pending_at-pending_field.ensures c.pending_field-1.given.1) in pending-read)).value c.pending_field-1.given.0.1.0 = took _ _ (optional (group pending)) (optional-lawful (group pending) pending-lawful) ((let by : Bytes (c.args.row.now) = typed (c.args.row.now) c.shared_slice_known-1.given in by)) ((let pending-read : Located (pending_at (c.args.at)) (read_at (optional (group pending)) (c.args.row.now) (c.args.at)) c.pending_field-1.given.0.0 c.pending_field-1.given.0.1.0 = located-at (pending_at _) _ (learn pending_says c.pending_at-pending_field.ensures c.pending_field-1.given.1) in pending-read)).read in pending-took)))).here) c.send_field-1.given.0.0 c.send_field-1.given.0.1.0 = located-at (send_at _) _ (learn send_says c.IsSend-at.ensures c.send_field-1.given.1) in send-read)).value c.send_field-1.given.0.1.0 = took _ _ (optional (group send)) (optional-lawful (group send) send-lawful) ((let by : Bytes (c.args.row.now) = typed (c.args.row.now) c.shared_slice_known-1.given in by)) ((let send-read : Located (send_at ((field-yes (start).so ((let pending-took : Took (optional (group pending)) (c.args.row.now) (c.args.at) ((let pending-read : Located (pending_at (c.args.at)) (read_at (optional (group pending)) (c.args.row.now) (c.args.at)) c.pending_field-1.given.0.0 c.pending_field-1.given.0.1.0 = located-at (pending_at _) _ (learn pending_says c.pending_at-pending_field.ensures c.pending_field-1.given.1) in pending-read)).value c.pending_field-1.given.0.1.0 = took _ _ (optional (group pending)) (optional-lawful (group pending) pending-lawful) ((let by : Bytes (c.args.row.now) = typed (c.args.row.now) c.shared_slice_known-1.given in by)) ((let pending-read : Located (pending_at (c.args.at)) (read_at (optional (group pending)) (c.args.row.now) (c.args.at)) c.pending_field-1.given.0.0 c.pending_field-1.given.0.1.0 = located-at (pending_at _) _ (learn pending_says c.pending_at-pending_field.ensures c.pending_field-1.given.1) in pending-read)).read in pending-took)))).here) (read_at (optional (group send)) (c.args.row.now) ((field-yes (start).so ((let pending-took : Took (optional (group pending)) (c.args.row.now) (c.args.at) ((let pending-read : Located (pending_at (c.args.at)) (read_at (optional (group pending)) (c.args.row.now) (c.args.at)) c.pending_field-1.given.0.0 c.pending_field-1.given.0.1.0 = located-at (pending_at _) _ (learn pending_says c.pending_at-pending_field.ensures c.pending_field-1.given.1) in pending-read)).value c.pending_field-1.given.0.1.0 = took _ _ (optional (group pending)) (optional-lawful (group pending) pending-lawful) ((let by : Bytes (c.args.row.now) = typed (c.args.row.now) c.shared_slice_known-1.given in by)) ((let pending-read : Located (pending_at (c.args.at)) (read_at (optional (group pending)) (c.args.row.now) (c.args.at)) c.pending_field-1.given.0.0 c.pending_field-1.given.0.1.0 = located-at (pending_at _) _ (learn pending_says c.pending_at-pending_field.ensures c.pending_field-1.given.1) in pending-read)).read in pending-took)))).here) c.send_field-1.given.0.0 c.send_field-1.given.0.1.0 = located-at (send_at _) _ (learn send_says c.IsSend-at.ensures c.send_field-1.given.1) in send-read)).read in send-took)))).here (list_in (group chain) (c.args.row.now) c.chains_field-1.given.0.0) c.chains_field-1.given.0.0.next = list-took (group chain) chain-lawful (c.args.row.now) ((let by : Bytes (c.args.row.now) = typed (c.args.row.now) c.shared_slice_known-1.given in by)) _ c.chains_at-chains_field.ensures c.chains_field-1.given.1 in chains-took)))).so ((let skipped-took : Took (list (group skipped)) (c.args.row.now) ((field-yes ((field-yes ((field-yes (start).so ((let pending-took : Took (optional (group pending)) (c.args.row.now) (c.args.at) ((let pending-read : Located (pending_at (c.args.at)) (read_at (optional (group pending)) (c.args.row.now) (c.args.at)) c.pending_field-1.given.0.0 c.pending_field-1.given.0.1.0 = located-at (pending_at _) _ (learn pending_says c.pending_at-pending_field.ensures c.pending_field-1.given.1) in pending-read)).value c.pending_field-1.given.0.1.0 = took _ _ (optional (group pending)) (optional-lawful (group pending) pending-lawful) ((let by : Bytes (c.args.row.now) = typed (c.args.row.now) c.shared_slice_known-1.given in by)) ((let pending-read : Located (pending_at (c.args.at)) (read_at (optional (group pending)) (c.args.row.now) (c.args.at)) c.pending_field-1.given.0.0 c.pending_field-1.given.0.1.0 = located-at (pending_at _) _ (learn pending_says c.pending_at-pending_field.ensures c.pending_field-1.given.1) in pending-read)).read in pending-took)))).so ((let send-took : Took (optional (group send)) (c.args.row.now) ((field-yes (start).so ((let pending-took : Took (optional (group pending)) (c.args.row.now) (c.args.at) ((let pending-read : Located (pending_at (c.args.at)) (read_at (optional (group pending)) (c.args.row.now) (c.args.at)) c.pending_field-1.given.0.0 c.pending_field-1.given.0.1.0 = located-at (pending_at _) _ (learn pending_says c.pending_at-pending_field.ensures c.pending_field-1.given.1) in pending-read)).value c.pending_field-1.given.0.1.0 = took _ _ (optional (group pending)) (optional-lawful (group pending) pending-lawful) ((let by : Bytes (c.args.row.now) = typed (c.args.row.now) c.shared_slice_known-1.given in by)) ((let pending-read : Located (pending_at (c.args.at)) (read_at (optional (group pending)) (c.args.row.now) (c.args.at)) c.pending_field-1.given.0.0 c.pending_field-1.given.0.1.0 = located-at (pending_at _) _ (learn pending_says c.pending_at-pending_field.ensures c.pending_field-1.given.1) in pending-read)).read in pending-took)))).here ((let send-read : Located (send_at ((field-yes (start).so ((let pending-took : Took (optional (group pending)) (c.args.row.now) (c.args.at) ((let pending-read : Located (pending_at (c.args.at)) (read_at (optional (group pending)) (c.args.row.now) (c.args.at)) c.pending_field-1.given.0.0 c.pending_field-1.given.0.1.0 = located-at (pending_at _) _ (learn pending_says c.pending_at-pending_field.ensures c.pending_field-1.given.1) in pending-read)).value c.pending_field-1.given.0.1.0 = took _ _ (optional (group pending)) (optional-lawful (group pending) pending-lawful) ((let by : Bytes (c.args.row.now) = typed (c.args.row.now) c.shared_slice_known-1.given in by)) ((let pending-read : Located (pending_at (c.args.at)) (read_at (optional (group pending)) (c.args.row.now) (c.args.at)) c.pending_field-1.given.0.0 c.pending_field-1.given.0.1.0 = located-at (pending_at _) _ (learn pending_says c.pending_at-pending_field.ensures c.pending_field-1.given.1) in pending-read)).read in pending-took)))).here) (read_at (optional (group send)) (c.args.row.now) ((field-yes (start).so ((let pending-took : Took (optional (group pending)) (c.args.row.now) (c.args.at) ((let pending-read : Located (pending_at (c.args.at)) (read_at (optional (group pending)) (c.args.row.now) (c.args.at)) c.pending_field-1.given.0.0 c.pending_field-1.given.0.1.0 = located-at (pending_at _) _ (learn pending_says c.pending_at-pending_field.ensures c.pending_field-1.given.1) in pending-read)).value c.pending_field-1.given.0.1.0 = took _ _ (optional (group pending)) (optional-lawful (group pending) pending-lawful) ((let by : Bytes (c.args.row.now) = typed (c.args.row.now) c.shared_slice_known-1.given in by)) ((let pending-read : Located (pending_at (c.args.at)) (read_at (optional (group pending)) (c.args.row.now) (c.args.at)) c.pending_field-1.given.0.0 c.pending_field-1.given.0.1.0 = located-at (pending_at _) _ (learn pending_says c.pending_at-pending_field.ensures c.pending_field-1.given.1) in pending-read)).read in pending-took)))).here) c.send_field-1.given.0.0 c.send_field-1.given.0.1.0 = located-at (send_at _) _ (learn send_says c.IsSend-at.ensures c.send_field-1.given.1) in send-read)).value c.send_field-1.given.0.1.0 = took _ _ (optional (group send)) (optional-lawful (group send) send-lawful) ((let by : Bytes (c.args.row.now) = typed (c.args.row.now) c.shared_slice_known-1.given in by)) ((let send-read : Located (send_at ((field-yes (start).so ((let pending-took : Took (optional (group pending)) (c.args.row.now) (c.args.at) ((let pending-read : Located (pending_at (c.args.at)) (read_at (optional (group pending)) (c.args.row.now) (c.args.at)) c.pending_field-1.given.0.0 c.pending_field-1.given.0.1.0 = located-at (pending_at _) _ (learn pending_says c.pending_at-pending_field.ensures c.pending_field-1.given.1) in pending-read)).value c.pending_field-1.given.0.1.0 = took _ _ (optional (group pending)) (optional-lawful (group pending) pending-lawful) ((let by : Bytes (c.args.row.now) = typed (c.args.row.now) c.shared_slice_known-1.given in by)) ((let pending-read : Located (pending_at (c.args.at)) (read_at (optional (group pending)) (c.args.row.now) (c.args.at)) c.pending_field-1.given.0.0 c.pending_field-1.given.0.1.0 = located-at (pending_at _) _ (learn pending_says c.pending_at-pending_field.ensures c.pending_field-1.given.1) in pending-read)).read in pending-took)))).here) (read_at (optional (group send)) (c.args.row.now) ((field-yes (start).so ((let pending-took : Took (optional (group pending)) (c.args.row.now) (c.args.at) ((let pending-read : Located (pending_at (c.args.at)) (read_at (optional (group pending)) (c.args.row.now) (c.args.at)) c.pending_field-1.given.0.0 c.pending_field-1.given.0.1.0 = located-at (pending_at _) _ (learn pending_says c.pending_at-pending_field.ensures c.pending_field-1.given.1) in pending-read)).value c.pending_field-1.given.0.1.0 = took _ _ (optional (group pending)) (optional-lawful (group pending) pending-lawful) ((let by : Bytes (c.args.row.now) = typed (c.args.row.now) c.shared_slice_known-1.given in by)) ((let pending-read : Located (pending_at (c.args.at)) (read_at (optional (group pending)) (c.args.row.now) (c.args.at)) c.pending_field-1.given.0.0 c.pending_field-1.given.0.1.0 = located-at (pending_at _) _ (learn pending_says c.pending_at-pending_field.ensures c.pending_field-1.given.1) in pending-read)).read in pending-took)))).here) c.send_field-1.given.0.0 c.send_field-1.given.0.1.0 = located-at (send_at _) _ (learn send_says c.IsSend-at.ensures c.send_field-1.given.1) in send-read)).read in send-took)))).so ((let chains-took : Took (list (group chain)) (c.args.row.now) ((field-yes ((field-yes (start).so ((let pending-took : Took (optional (group pending)) (c.args.row.now) (c.args.at) ((let pending-read : Located (pending_at (c.args.at)) (read_at (optional (group pending)) (c.args.row.now) (c.args.at)) c.pending_field-1.given.0.0 c.pending_field-1.given.0.1.0 = located-at (pending_at _) _ (learn pending_says c.pending_at-pending_field.ensures c.pending_field-1.given.1) in pending-read)).value c.pending_field-1.given.0.1.0 = took _ _ (optional (group pending)) (optional-lawful (group pending) pending-lawful) ((let by : Bytes (c.args.row.now) = typed (c.args.row.now) c.shared_slice_known-1.given in by)) ((let pending-read : Located (pending_at (c.args.at)) (read_at (optional (group pending)) (c.args.row.now) (c.args.at)) c.pending_field-1.given.0.0 c.pending_field-1.given.0.1.0 = located-at (pending_at _) _ (learn pending_says c.pending_at-pending_field.ensures c.pending_field-1.given.1) in pending-read)).read in pending-took)))).so ((let send-took : Took (optional (group send)) (c.args.row.now) ((field-yes (start).so ((let pending-took : Took (optional (group pending)) (c.args.row.now) (c.args.at) ((let pending-read : Located (pending_at (c.args.at)) (read_at (optional (group pending)) (c.args.row.now) (c.args.at)) c.pending_field-1.given.0.0 c.pending_field-1.given.0.1.0 = located-at (pending_at _) _ (learn pending_says c.pending_at-pending_field.ensures c.pending_field-1.given.1) in pending-read)).value c.pending_field-1.given.0.1.0 = took _ _ (optional (group pending)) (optional-lawful (group pending) pending-lawful) ((let by : Bytes (c.args.row.now) = typed (c.args.row.now) c.shared_slice_known-1.given in by)) ((let pending-read : Located (pending_at (c.args.at)) (read_at (optional (group pending)) (c.args.row.now) (c.args.at)) c.pending_field-1.given.0.0 c.pending_field-1.given.0.1.0 = located-at (pending_at _) _ (learn pending_says c.pending_at-pending_field.ensures c.pending_field-1.given.1) in pending-read)).read in pending-took)))).here ((let send-read : Located (send_at ((field-yes (start).so ((let pending-took : Took (optional (group pending)) (c.args.row.now) (c.args.at) ((let pending-read : Located (pending_at (c.args.at)) (read_at (optional (group pending)) (c.args.row.now) (c.args.at)) c.pending_field-1.given.0.0 c.pending_field-1.given.0.1.0 = located-at (pending_at _) _ (learn pending_says c.pending_at-pending_field.ensures c.pending_field-1.given.1) in pending-read)).value c.pending_field-1.given.0.1.0 = took _ _ (optional (group pending)) (optional-lawful (group pending) pending-lawful) ((let by : Bytes (c.args.row.now) = typed (c.args.row.now) c.shared_slice_known-1.given in by)) ((let pending-read : Located (pending_at (c.args.at)) (read_at (optional (group pending)) (c.args.row.now) (c.args.at)) c.pending_field-1.given.0.0 c.pending_field-1.given.0.1.0 = located-at (pending_at _) _ (learn pending_says c.pending_at-pending_field.ensures c.pending_field-1.given.1) in pending-read)).read in pending-took)))).here) (read_at (optional (group send)) (c.args.row.now) ((field-yes (start).so ((let pending-took : Took (optional (group pending)) (c.args.row.now) (c.args.at) ((let pending-read : Located (pending_at (c.args.at)) (read_at (optional (group pending)) (c.args.row.now) (c.args.at)) c.pending_field-1.given.0.0 c.pending_field-1.given.0.1.0 = located-at (pending_at _) _ (learn pending_says c.pending_at-pending_field.ensures c.pending_field-1.given.1) in pending-read)).value c.pending_field-1.given.0.1.0 = took _ _ (optional (group pending)) (optional-lawful (group pending) pending-lawful) ((let by : Bytes (c.args.row.now) = typed (c.args.row.now) c.shared_slice_known-1.given in by)) ((let pending-read : Located (pending_at (c.args.at)) (read_at (optional (group pending)) (c.args.row.now) (c.args.at)) c.pending_field-1.given.0.0 c.pending_field-1.given.0.1.0 = located-at (pending_at _) _ (learn pending_says c.pending_at-pending_field.ensures c.pending_field-1.given.1) in pending-read)).read in pending-took)))).here) c.send_field-1.given.0.0 c.send_field-1.given.0.1.0 = located-at (send_at _) _ (learn send_says c.IsSend-at.ensures c.send_field-1.given.1) in send-read)).value c.send_field-1.given.0.1.0 = took _ _ (optional (group send)) (optional-lawful (group send) send-lawful) ((let by : Bytes (c.args.row.now) = typed (c.args.row.now) c.shared_slice_known-1.given in by)) ((let send-read : Located (send_at ((field-yes (start).so ((let pending-took : Took (optional (group pending)) (c.args.row.now) (c.args.at) ((let pending-read : Located (pending_at (c.args.at)) (read_at (optional (group pending)) (c.args.row.now) (c.args.at)) c.pending_field-1.given.0.0 c.pending_field-1.given.0.1.0 = located-at (pending_at _) _ (learn pending_says c.pending_at-pending_field.ensures c.pending_field-1.given.1) in pending-read)).value c.pending_field-1.given.0.1.0 = took _ _ (optional (group pending)) (optional-lawful (group pending) pending-lawful) ((let by : Bytes (c.args.row.now) = typed (c.args.row.now) c.shared_slice_known-1.given in by)) ((let pending-read : Located (pending_at (c.args.at)) (read_at (optional (group pending)) (c.args.row.now) (c.args.at)) c.pending_field-1.given.0.0 c.pending_field-1.given.0.1.0 = located-at (pending_at _) _ (learn pending_says c.pending_at-pending_field.ensures c.pending_field-1.given.1) in pending-read)).read in pending-took)))).here) (read_at (optional (group send)) (c.args.row.now) ((field-yes (start).so ((let pending-took : Took (optional (group pending)) (c.args.row.now) (c.args.at) ((let pending-read : Located (pending_at (c.args.at)) (read_at (optional (group pending)) (c.args.row.now) (c.args.at)) c.pending_field-1.given.0.0 c.pending_field-1.given.0.1.0 = located-at (pending_at _) _ (learn pending_says c.pending_at-pending_field.ensures c.pending_field-1.given.1) in pending-read)).value c.pending_field-1.given.0.1.0 = took _ _ (optional (group pending)) (optional-lawful (group pending) pending-lawful) ((let by : Bytes (c.args.row.now) = typed (c.args.row.now) c.shared_slice_known-1.given in by)) ((let pending-read : Located (pending_at (c.args.at)) (read_at (optional (group pending)) (c.args.row.now) (c.args.at)) c.pending_field-1.given.0.0 c.pending_field-1.given.0.1.0 = located-at (pending_at _) _ (learn pending_says c.pending_at-pending_field.ensures c.pending_field-1.given.1) in pending-read)).read in pending-took)))).here) c.send_field-1.given.0.0 c.send_field-1.given.0.1.0 = located-at (send_at _) _ (learn send_says c.IsSend-at.ensures c.send_field-1.given.1) in send-read)).read in send-took)))).here (list_in (group chain) (c.args.row.now) c.chains_field-1.given.0.0) c.chains_field-1.given.0.0.next = list-took (group chain) chain-lawful (c.args.row.now) ((let by : Bytes (c.args.row.now) = typed (c.args.row.now) c.shared_slice_known-1.given in by)) _ c.chains_at-chains_field.ensures c.chains_field-1.given.1 in chains-took)))).here (list_in (group skipped) (c.args.row.now) c.skipped_field-1.given.0.0) c.skipped_field-1.given.0.0.next = list-took (group skipped) skipped-lawful (c.args.row.now) ((let by : Bytes (c.args.row.now) = typed (c.args.row.now) c.shared_slice_known-1.given in by)) _ c.Skipped-at.ensures c.skipped_field-1.given.1 in skipped-took)))).so) ((let skipped-took : Took (list (group skipped)) (c.args.row.now) ((field-yes ((field-yes ((field-yes (start).so ((let pending-took : Took (optional (group pending)) (c.args.row.now) (c.args.at) ((let pending-read : Located (pending_at (c.args.at)) (read_at (optional (group pending)) (c.args.row.now) (c.args.at)) c.pending_field-1.given.0.0 c.pending_field-1.given.0.1.0 = located-at (pending_at _) _ (learn pending_says c.pending_at-pending_field.ensures c.pending_field-1.given.1) in pending-read)).value c.pending_field-1.given.0.1.0 = took _ _ (optional (group pending)) (optional-lawful (group pending) pending-lawful) ((let by : Bytes (c.args.row.now) = typed (c.args.row.now) c.shared_slice_known-1.given in by)) ((let pending-read : Located (pending_at (c.args.at)) (read_at (optional (group pending)) (c.args.row.now) (c.args.at)) c.pending_field-1.given.0.0 c.pending_field-1.given.0.1.0 = located-at (pending_at _) _ (learn pending_says c.pending_at-pending_field.ensures c.pending_field-1.given.1) in pending-read)).read in pending-took)))).so ((let send-took : Took (optional (group send)) (c.args.row.now) ((field-yes (start).so ((let pending-took : Took (optional (group pending)) (c.args.row.now) (c.args.at) ((let pending-read : Located (pending_at (c.args.at)) (read_at (optional (group pending)) (c.args.row.now) (c.args.at)) c.pending_field-1.given.0.0 c.pending_field-1.given.0.1.0 = located-at (pending_at _) _ (learn pending_says c.pending_at-pending_field.ensures c.pending_field-1.given.1) in pending-read)).value c.pending_field-1.given.0.1.0 = took _ _ (optional (group pending)) (optional-lawful (group pending) pending-lawful) ((let by : Bytes (c.args.row.now) = typed (c.args.row.now) c.shared_slice_known-1.given in by)) ((let pending-read : Located (pending_at (c.args.at)) (read_at (optional (group pending)) (c.args.row.now) (c.args.at)) c.pending_field-1.given.0.0 c.pending_field-1.given.0.1.0 = located-at (pending_at _) _ (learn pending_says c.pending_at-pending_field.ensures c.pending_field-1.given.1) in pending-read)).read in pending-took)))).here ((let send-read : Located (send_at ((field-yes (start).so ((let pending-took : Took (optional (group pending)) (c.args.row.now) (c.args.at) ((let pending-read : Located (pending_at (c.args.at)) (read_at (optional (group pending)) (c.args.row.now) (c.args.at)) c.pending_field-1.given.0.0 c.pending_field-1.given.0.1.0 = located-at (pending_at _) _ (learn pending_says c.pending_at-pending_field.ensures c.pending_field-1.given.1) in pending-read)).value c.pending_field-1.given.0.1.0 = took _ _ (optional (group pending)) (optional-lawful (group pending) pending-lawful) ((let by : Bytes (c.args.row.now) = typed (c.args.row.now) c.shared_slice_known-1.given in by)) ((let pending-read : Located (pending_at (c.args.at)) (read_at (optional (group pending)) (c.args.row.now) (c.args.at)) c.pending_field-1.given.0.0 c.pending_field-1.given.0.1.0 = located-at (pending_at _) _ (learn pending_says c.pending_at-pending_field.ensures c.pending_field-1.given.1) in pending-read)).read in pending-took)))).here) (read_at (optional (group send)) (c.args.row.now) ((field-yes (start).so ((let pending-took : Took (optional (group pending)) (c.args.row.now) (c.args.at) ((let pending-read : Located (pending_at (c.args.at)) (read_at (optional (group pending)) (c.args.row.now) (c.args.at)) c.pending_field-1.given.0.0 c.pending_field-1.given.0.1.0 = located-at (pending_at _) _ (learn pending_says c.pending_at-pending_field.ensures c.pending_field-1.given.1) in pending-read)).value c.pending_field-1.given.0.1.0 = took _ _ (optional (group pending)) (optional-lawful (group pending) pending-lawful) ((let by : Bytes (c.args.row.now) = typed (c.args.row.now) c.shared_slice_known-1.given in by)) ((let pending-read : Located (pending_at (c.args.at)) (read_at (optional (group pending)) (c.args.row.now) (c.args.at)) c.pending_field-1.given.0.0 c.pending_field-1.given.0.1.0 = located-at (pending_at _) _ (learn pending_says c.pending_at-pending_field.ensures c.pending_field-1.given.1) in pending-read)).read in pending-took)))).here) c.send_field-1.given.0.0 c.send_field-1.given.0.1.0 = located-at (send_at _) _ (learn send_says c.IsSend-at.ensures c.send_field-1.given.1) in send-read)).value c.send_field-1.given.0.1.0 = took _ _ (optional (group send)) (optional-lawful (group send) send-lawful) ((let by : Bytes (c.args.row.now) = typed (c.args.row.now) c.shared_slice_known-1.given in by)) ((let send-read : Located (send_at ((field-yes (start).so ((let pending-took : Took (optional (group pending)) (c.args.row.now) (c.args.at) ((let pending-read : Located (pending_at (c.args.at)) (read_at (optional (group pending)) (c.args.row.now) (c.args.at)) c.pending_field-1.given.0.0 c.pending_field-1.given.0.1.0 = located-at (pending_at _) _ (learn pending_says c.pending_at-pending_field.ensures c.pending_field-1.given.1) in pending-read)).value c.pending_field-1.given.0.1.0 = took _ _ (optional (group pending)) (optional-lawful (group pending) pending-lawful) ((let by : Bytes (c.args.row.now) = typed (c.args.row.now) c.shared_slice_known-1.given in by)) ((let pending-read : Located (pending_at (c.args.at)) (read_at (optional (group pending)) (c.args.row.now) (c.args.at)) c.pending_field-1.given.0.0 c.pending_field-1.given.0.1.0 = located-at (pending_at _) _ (learn pending_says c.pending_at-pending_field.ensures c.pending_field-1.given.1) in pending-read)).read in pending-took)))).here) (read_at (optional (group send)) (c.args.row.now) ((field-yes (start).so ((let pending-took : Took (optional (group pending)) (c.args.row.now) (c.args.at) ((let pending-read : Located (pending_at (c.args.at)) (read_at (optional (group pending)) (c.args.row.now) (c.args.at)) c.pending_field-1.given.0.0 c.pending_field-1.given.0.1.0 = located-at (pending_at _) _ (learn pending_says c.pending_at-pending_field.ensures c.pending_field-1.given.1) in pending-read)).value c.pending_field-1.given.0.1.0 = took _ _ (optional (group pending)) (optional-lawful (group pending) pending-lawful) ((let by : Bytes (c.args.row.now) = typed (c.args.row.now) c.shared_slice_known-1.given in by)) ((let pending-read : Located (pending_at (c.args.at)) (read_at (optional (group pending)) (c.args.row.now) (c.args.at)) c.pending_field-1.given.0.0 c.pending_field-1.given.0.1.0 = located-at (pending_at _) _ (learn pending_says c.pending_at-pending_field.ensures c.pending_field-1.given.1) in pending-read)).read in pending-took)))).here) c.send_field-1.given.0.0 c.send_field-1.given.0.1.0 = located-at (send_at _) _ (learn send_says c.IsSend-at.ensures c.send_field-1.given.1) in send-read)).read in send-took)))).so ((let chains-took : Took (list (group chain)) (c.args.row.now) ((field-yes ((field-yes (start).so ((let pending-took : Took (optional (group pending)) (c.args.row.now) (c.args.at) ((let pending-read : Located (pending_at (c.args.at)) (read_at (optional (group pending)) (c.args.row.now) (c.args.at)) c.pending_field-1.given.0.0 c.pending_field-1.given.0.1.0 = located-at (pending_at _) _ (learn pending_says c.pending_at-pending_field.ensures c.pending_field-1.given.1) in pending-read)).value c.pending_field-1.given.0.1.0 = took _ _ (optional (group pending)) (optional-lawful (group pending) pending-lawful) ((let by : Bytes (c.args.row.now) = typed (c.args.row.now) c.shared_slice_known-1.given in by)) ((let pending-read : Located (pending_at (c.args.at)) (read_at (optional (group pending)) (c.args.row.now) (c.args.at)) c.pending_field-1.given.0.0 c.pending_field-1.given.0.1.0 = located-at (pending_at _) _ (learn pending_says c.pending_at-pending_field.ensures c.pending_field-1.given.1) in pending-read)).read in pending-took)))).so ((let send-took : Took (optional (group send)) (c.args.row.now) ((field-yes (start).so ((let pending-took : Took (optional (group pending)) (c.args.row.now) (c.args.at) ((let pending-read : Located (pending_at (c.args.at)) (read_at (optional (group pending)) (c.args.row.now) (c.args.at)) c.pending_field-1.given.0.0 c.pending_field-1.given.0.1.0 = located-at (pending_at _) _ (learn pending_says c.pending_at-pending_field.ensures c.pending_field-1.given.1) in pending-read)).value c.pending_field-1.given.0.1.0 = took _ _ (optional (group pending)) (optional-lawful (group pending) pending-lawful) ((let by : Bytes (c.args.row.now) = typed (c.args.row.now) c.shared_slice_known-1.given in by)) ((let pending-read : Located (pending_at (c.args.at)) (read_at (optional (group pending)) (c.args.row.now) (c.args.at)) c.pending_field-1.given.0.0 c.pending_field-1.given.0.1.0 = located-at (pending_at _) _ (learn pending_says c.pending_at-pending_field.ensures c.pending_field-1.given.1) in pending-read)).read in pending-took)))).here ((let send-read : Located (send_at ((field-yes (start).so ((let pending-took : Took (optional (group pending)) (c.args.row.now) (c.args.at) ((let pending-read : Located (pending_at (c.args.at)) (read_at (optional (group pending)) (c.args.row.now) (c.args.at)) c.pending_field-1.given.0.0 c.pending_field-1.given.0.1.0 = located-at (pending_at _) _ (learn pending_says c.pending_at-pending_field.ensures c.pending_field-1.given.1) in pending-read)).value c.pending_field-1.given.0.1.0 = took _ _ (optional (group pending)) (optional-lawful (group pending) pending-lawful) ((let by : Bytes (c.args.row.now) = typed (c.args.row.now) c.shared_slice_known-1.given in by)) ((let pending-read : Located (pending_at (c.args.at)) (read_at (optional (group pending)) (c.args.row.now) (c.args.at)) c.pending_field-1.given.0.0 c.pending_field-1.given.0.1.0 = located-at (pending_at _) _ (learn pending_says c.pending_at-pending_field.ensures c.pending_field-1.given.1) in pending-read)).read in pending-took)))).here) (read_at (optional (group send)) (c.args.row.now) ((field-yes (start).so ((let pending-took : Took (optional (group pending)) (c.args.row.now) (c.args.at) ((let pending-read : Located (pending_at (c.args.at)) (read_at (optional (group pending)) (c.args.row.now) (c.args.at)) c.pending_field-1.given.0.0 c.pending_field-1.given.0.1.0 = located-at (pending_at _) _ (learn pending_says c.pending_at-pending_field.ensures c.pending_field-1.given.1) in pending-read)).value c.pending_field-1.given.0.1.0 = took _ _ (optional (group pending)) (optional-lawful (group pending) pending-lawful) ((let by : Bytes (c.args.row.now) = typed (c.args.row.now) c.shared_slice_known-1.given in by)) ((let pending-read : Located (pending_at (c.args.at)) (read_at (optional (group pending)) (c.args.row.now) (c.args.at)) c.pending_field-1.given.0.0 c.pending_field-1.given.0.1.0 = located-at (pending_at _) _ (learn pending_says c.pending_at-pending_field.ensures c.pending_field-1.given.1) in pending-read)).read in pending-took)))).here) c.send_field-1.given.0.0 c.send_field-1.given.0.1.0 = located-at (send_at _) _ (learn send_says c.IsSend-at.ensures c.send_field-1.given.1) in send-read)).value c.send_field-1.given.0.1.0 = took _ _ (optional (group send)) (optional-lawful (group send) send-lawful) ((let by : Bytes (c.args.row.now) = typed (c.args.row.now) c.shared_slice_known-1.given in by)) ((let send-read : Located (send_at ((field-yes (start).so ((let pending-took : Took (optional (group pending)) (c.args.row.now) (c.args.at) ((let pending-read : Located (pending_at (c.args.at)) (read_at (optional (group pending)) (c.args.row.now) (c.args.at)) c.pending_field-1.given.0.0 c.pending_field-1.given.0.1.0 = located-at (pending_at _) _ (learn pending_says c.pending_at-pending_field.ensures c.pending_field-1.given.1) in pending-read)).value c.pending_field-1.given.0.1.0 = took _ _ (optional (group pending)) (optional-lawful (group pending) pending-lawful) ((let by : Bytes (c.args.row.now) = typed (c.args.row.now) c.shared_slice_known-1.given in by)) ((let pending-read : Located (pending_at (c.args.at)) (read_at (optional (group pending)) (c.args.row.now) (c.args.at)) c.pending_field-1.given.0.0 c.pending_field-1.given.0.1.0 = located-at (pending_at _) _ (learn pending_says c.pending_at-pending_field.ensures c.pending_field-1.given.1) in pending-read)).read in pending-took)))).here) (read_at (optional (group send)) (c.args.row.now) ((field-yes (start).so ((let pending-took : Took (optional (group pending)) (c.args.row.now) (c.args.at) ((let pending-read : Located (pending_at (c.args.at)) (read_at (optional (group pending)) (c.args.row.now) (c.args.at)) c.pending_field-1.given.0.0 c.pending_field-1.given.0.1.0 = located-at (pending_at _) _ (learn pending_says c.pending_at-pending_field.ensures c.pending_field-1.given.1) in pending-read)).value c.pending_field-1.given.0.1.0 = took _ _ (optional (group pending)) (optional-lawful (group pending) pending-lawful) ((let by : Bytes (c.args.row.now) = typed (c.args.row.now) c.shared_slice_known-1.given in by)) ((let pending-read : Located (pending_at (c.args.at)) (read_at (optional (group pending)) (c.args.row.now) (c.args.at)) c.pending_field-1.given.0.0 c.pending_field-1.given.0.1.0 = located-at (pending_at _) _ (learn pending_says c.pending_at-pending_field.ensures c.pending_field-1.given.1) in pending-read)).read in pending-took)))).here) c.send_field-1.given.0.0 c.send_field-1.given.0.1.0 = located-at (send_at _) _ (learn send_says c.IsSend-at.ensures c.send_field-1.given.1) in send-read)).read in send-took)))).here (list_in (group chain) (c.args.row.now) c.chains_field-1.given.0.0) c.chains_field-1.given.0.0.next = list-took (group chain) chain-lawful (c.args.row.now) ((let by : Bytes (c.args.row.now) = typed (c.args.row.now) c.shared_slice_known-1.given in by)) _ c.chains_at-chains_field.ensures c.chains_field-1.given.1 in chains-took)))).here (list_in (group skipped) (c.args.row.now) c.skipped_field-1.given.0.0) c.skipped_field-1.given.0.0.next = list-took (group skipped) skipped-lawful (c.args.row.now) ((let by : Bytes (c.args.row.now) = typed (c.args.row.now) c.shared_slice_known-1.given in by)) _ c.Skipped-at.ensures c.skipped_field-1.given.1 in skipped-took)).inside
-    (its-places (c.args.at) its
-    ((let chains-starts : c.chains_field-1.given.0.0 ≡ list_at (group chain) ((field-yes ((field-yes (start).so ((let pending-took : Took (optional (group pending)) (c.args.row.now) (c.args.at) ((let pending-read : Located (pending_at (c.args.at)) (read_at (optional (group pending)) (c.args.row.now) (c.args.at)) c.pending_field-1.given.0.0 c.pending_field-1.given.0.1.0 = located-at (pending_at _) _ (learn pending_says c.pending_at-pending_field.ensures c.pending_field-1.given.1) in pending-read)).value c.pending_field-1.given.0.1.0 = took _ _ (optional (group pending)) (optional-lawful (group pending) pending-lawful) ((let by : Bytes (c.args.row.now) = typed (c.args.row.now) c.shared_slice_known-1.given in by)) ((let pending-read : Located (pending_at (c.args.at)) (read_at (optional (group pending)) (c.args.row.now) (c.args.at)) c.pending_field-1.given.0.0 c.pending_field-1.given.0.1.0 = located-at (pending_at _) _ (learn pending_says c.pending_at-pending_field.ensures c.pending_field-1.given.1) in pending-read)).read in pending-took)))).so ((let send-took : Took (optional (group send)) (c.args.row.now) ((field-yes (start).so ((let pending-took : Took (optional (group pending)) (c.args.row.now) (c.args.at) ((let pending-read : Located (pending_at (c.args.at)) (read_at (optional (group pending)) (c.args.row.now) (c.args.at)) c.pending_field-1.given.0.0 c.pending_field-1.given.0.1.0 = located-at (pending_at _) _ (learn pending_says c.pending_at-pending_field.ensures c.pending_field-1.given.1) in pending-read)).value c.pending_field-1.given.0.1.0 = took _ _ (optional (group pending)) (optional-lawful (group pending) pending-lawful) ((let by : Bytes (c.args.row.now) = typed (c.args.row.now) c.shared_slice_known-1.given in by)) ((let pending-read : Located (pending_at (c.args.at)) (read_at (optional (group pending)) (c.args.row.now) (c.args.at)) c.pending_field-1.given.0.0 c.pending_field-1.given.0.1.0 = located-at (pending_at _) _ (learn pending_says c.pending_at-pending_field.ensures c.pending_field-1.given.1) in pending-read)).read in pending-took)))).here ((let send-read : Located (send_at ((field-yes (start).so ((let pending-took : Took (optional (group pending)) (c.args.row.now) (c.args.at) ((let pending-read : Located (pending_at (c.args.at)) (read_at (optional (group pending)) (c.args.row.now) (c.args.at)) c.pending_field-1.given.0.0 c.pending_field-1.given.0.1.0 = located-at (pending_at _) _ (learn pending_says c.pending_at-pending_field.ensures c.pending_field-1.given.1) in pending-read)).value c.pending_field-1.given.0.1.0 = took _ _ (optional (group pending)) (optional-lawful (group pending) pending-lawful) ((let by : Bytes (c.args.row.now) = typed (c.args.row.now) c.shared_slice_known-1.given in by)) ((let pending-read : Located (pending_at (c.args.at)) (read_at (optional (group pending)) (c.args.row.now) (c.args.at)) c.pending_field-1.given.0.0 c.pending_field-1.given.0.1.0 = located-at (pending_at _) _ (learn pending_says c.pending_at-pending_field.ensures c.pending_field-1.given.1) in pending-read)).read in pending-took)))).here) (read_at (optional (group send)) (c.args.row.now) ((field-yes (start).so ((let pending-took : Took (optional (group pending)) (c.args.row.now) (c.args.at) ((let pending-read : Located (pending_at (c.args.at)) (read_at (optional (group pending)) (c.args.row.now) (c.args.at)) c.pending_field-1.given.0.0 c.pending_field-1.given.0.1.0 = located-at (pending_at _) _ (learn pending_says c.pending_at-pending_field.ensures c.pending_field-1.given.1) in pending-read)).value c.pending_field-1.given.0.1.0 = took _ _ (optional (group pending)) (optional-lawful (group pending) pending-lawful) ((let by : Bytes (c.args.row.now) = typed (c.args.row.now) c.shared_slice_known-1.given in by)) ((let pending-read : Located (pending_at (c.args.at)) (read_at (optional (group pending)) (c.args.row.now) (c.args.at)) c.pending_field-1.given.0.0 c.pending_field-1.given.0.1.0 = located-at (pending_at _) _ (learn pending_says c.pending_at-pending_field.ensures c.pending_field-1.given.1) in pending-read)).read in pending-took)))).here) c.send_field-1.given.0.0 c.send_field-1.given.0.1.0 = located-at (send_at _) _ (learn send_says c.IsSend-at.ensures c.send_field-1.given.1) in send-read)).value c.send_field-1.given.0.1.0 = took _ _ (optional (group send)) (optional-lawful (group send) send-lawful) ((let by : Bytes (c.args.row.now) = typed (c.args.row.now) c.shared_slice_known-1.given in by)) ((let send-read : Located (send_at ((field-yes (start).so ((let pending-took : Took (optional (group pending)) (c.args.row.now) (c.args.at) ((let pending-read : Located (pending_at (c.args.at)) (read_at (optional (group pending)) (c.args.row.now) (c.args.at)) c.pending_field-1.given.0.0 c.pending_field-1.given.0.1.0 = located-at (pending_at _) _ (learn pending_says c.pending_at-pending_field.ensures c.pending_field-1.given.1) in pending-read)).value c.pending_field-1.given.0.1.0 = took _ _ (optional (group pending)) (optional-lawful (group pending) pending-lawful) ((let by : Bytes (c.args.row.now) = typed (c.args.row.now) c.shared_slice_known-1.given in by)) ((let pending-read : Located (pending_at (c.args.at)) (read_at (optional (group pending)) (c.args.row.now) (c.args.at)) c.pending_field-1.given.0.0 c.pending_field-1.given.0.1.0 = located-at (pending_at _) _ (learn pending_says c.pending_at-pending_field.ensures c.pending_field-1.given.1) in pending-read)).read in pending-took)))).here) (read_at (optional (group send)) (c.args.row.now) ((field-yes (start).so ((let pending-took : Took (optional (group pending)) (c.args.row.now) (c.args.at) ((let pending-read : Located (pending_at (c.args.at)) (read_at (optional (group pending)) (c.args.row.now) (c.args.at)) c.pending_field-1.given.0.0 c.pending_field-1.given.0.1.0 = located-at (pending_at _) _ (learn pending_says c.pending_at-pending_field.ensures c.pending_field-1.given.1) in pending-read)).value c.pending_field-1.given.0.1.0 = took _ _ (optional (group pending)) (optional-lawful (group pending) pending-lawful) ((let by : Bytes (c.args.row.now) = typed (c.args.row.now) c.shared_slice_known-1.given in by)) ((let pending-read : Located (pending_at (c.args.at)) (read_at (optional (group pending)) (c.args.row.now) (c.args.at)) c.pending_field-1.given.0.0 c.pending_field-1.given.0.1.0 = located-at (pending_at _) _ (learn pending_says c.pending_at-pending_field.ensures c.pending_field-1.given.1) in pending-read)).read in pending-took)))).here) c.send_field-1.given.0.0 c.send_field-1.given.0.1.0 = located-at (send_at _) _ (learn send_says c.IsSend-at.ensures c.send_field-1.given.1) in send-read)).read in send-took)))).here (list_in (group chain) (c.args.row.now) c.chains_field-1.given.0.0) = list-starts (group chain) chain-lawful (c.args.row.now) ((let by : Bytes (c.args.row.now) = typed (c.args.row.now) c.shared_slice_known-1.given in by)) _ c.chains_at-chains_field.ensures c.chains_field-1.given.1 ((let send-took : Took (optional (group send)) (c.args.row.now) ((field-yes (start).so ((let pending-took : Took (optional (group pending)) (c.args.row.now) (c.args.at) ((let pending-read : Located (pending_at (c.args.at)) (read_at (optional (group pending)) (c.args.row.now) (c.args.at)) c.pending_field-1.given.0.0 c.pending_field-1.given.0.1.0 = located-at (pending_at _) _ (learn pending_says c.pending_at-pending_field.ensures c.pending_field-1.given.1) in pending-read)).value c.pending_field-1.given.0.1.0 = took _ _ (optional (group pending)) (optional-lawful (group pending) pending-lawful) ((let by : Bytes (c.args.row.now) = typed (c.args.row.now) c.shared_slice_known-1.given in by)) ((let pending-read : Located (pending_at (c.args.at)) (read_at (optional (group pending)) (c.args.row.now) (c.args.at)) c.pending_field-1.given.0.0 c.pending_field-1.given.0.1.0 = located-at (pending_at _) _ (learn pending_says c.pending_at-pending_field.ensures c.pending_field-1.given.1) in pending-read)).read in pending-took)))).here ((let send-read : Located (send_at ((field-yes (start).so ((let pending-took : Took (optional (group pending)) (c.args.row.now) (c.args.at) ((let pending-read : Located (pending_at (c.args.at)) (read_at (optional (group pending)) (c.args.row.now) (c.args.at)) c.pending_field-1.given.0.0 c.pending_field-1.given.0.1.0 = located-at (pending_at _) _ (learn pending_says c.pending_at-pending_field.ensures c.pending_field-1.given.1) in pending-read)).value c.pending_field-1.given.0.1.0 = took _ _ (optional (group pending)) (optional-lawful (group pending) pending-lawful) ((let by : Bytes (c.args.row.now) = typed (c.args.row.now) c.shared_slice_known-1.given in by)) ((let pending-read : Located (pending_at (c.args.at)) (read_at (optional (group pending)) (c.args.row.now) (c.args.at)) c.pending_field-1.given.0.0 c.pending_field-1.given.0.1.0 = located-at (pending_at _) _ (learn pending_says c.pending_at-pending_field.ensures c.pending_field-1.given.1) in pending-read)).read in pending-took)))).here) (read_at (optional (group send)) (c.args.row.now) ((field-yes (start).so ((let pending-took : Took (optional (group pending)) (c.args.row.now) (c.args.at) ((let pending-read : Located (pending_at (c.args.at)) (read_at (optional (group pending)) (c.args.row.now) (c.args.at)) c.pending_field-1.given.0.0 c.pending_field-1.given.0.1.0 = located-at (pending_at _) _ (learn pending_says c.pending_at-pending_field.ensures c.pending_field-1.given.1) in pending-read)).value c.pending_field-1.given.0.1.0 = took _ _ (optional (group pending)) (optional-lawful (group pending) pending-lawful) ((let by : Bytes (c.args.row.now) = typed (c.args.row.now) c.shared_slice_known-1.given in by)) ((let pending-read : Located (pending_at (c.args.at)) (read_at (optional (group pending)) (c.args.row.now) (c.args.at)) c.pending_field-1.given.0.0 c.pending_field-1.given.0.1.0 = located-at (pending_at _) _ (learn pending_says c.pending_at-pending_field.ensures c.pending_field-1.given.1) in pending-read)).read in pending-took)))).here) c.send_field-1.given.0.0 c.send_field-1.given.0.1.0 = located-at (send_at _) _ (learn send_says c.IsSend-at.ensures c.send_field-1.given.1) in send-read)).value c.send_field-1.given.0.1.0 = took _ _ (optional (group send)) (optional-lawful (group send) send-lawful) ((let by : Bytes (c.args.row.now) = typed (c.args.row.now) c.shared_slice_known-1.given in by)) ((let send-read : Located (send_at ((field-yes (start).so ((let pending-took : Took (optional (group pending)) (c.args.row.now) (c.args.at) ((let pending-read : Located (pending_at (c.args.at)) (read_at (optional (group pending)) (c.args.row.now) (c.args.at)) c.pending_field-1.given.0.0 c.pending_field-1.given.0.1.0 = located-at (pending_at _) _ (learn pending_says c.pending_at-pending_field.ensures c.pending_field-1.given.1) in pending-read)).value c.pending_field-1.given.0.1.0 = took _ _ (optional (group pending)) (optional-lawful (group pending) pending-lawful) ((let by : Bytes (c.args.row.now) = typed (c.args.row.now) c.shared_slice_known-1.given in by)) ((let pending-read : Located (pending_at (c.args.at)) (read_at (optional (group pending)) (c.args.row.now) (c.args.at)) c.pending_field-1.given.0.0 c.pending_field-1.given.0.1.0 = located-at (pending_at _) _ (learn pending_says c.pending_at-pending_field.ensures c.pending_field-1.given.1) in pending-read)).read in pending-took)))).here) (read_at (optional (group send)) (c.args.row.now) ((field-yes (start).so ((let pending-took : Took (optional (group pending)) (c.args.row.now) (c.args.at) ((let pending-read : Located (pending_at (c.args.at)) (read_at (optional (group pending)) (c.args.row.now) (c.args.at)) c.pending_field-1.given.0.0 c.pending_field-1.given.0.1.0 = located-at (pending_at _) _ (learn pending_says c.pending_at-pending_field.ensures c.pending_field-1.given.1) in pending-read)).value c.pending_field-1.given.0.1.0 = took _ _ (optional (group pending)) (optional-lawful (group pending) pending-lawful) ((let by : Bytes (c.args.row.now) = typed (c.args.row.now) c.shared_slice_known-1.given in by)) ((let pending-read : Located (pending_at (c.args.at)) (read_at (optional (group pending)) (c.args.row.now) (c.args.at)) c.pending_field-1.given.0.0 c.pending_field-1.given.0.1.0 = located-at (pending_at _) _ (learn pending_says c.pending_at-pending_field.ensures c.pending_field-1.given.1) in pending-read)).read in pending-took)))).here) c.send_field-1.given.0.0 c.send_field-1.given.0.1.0 = located-at (send_at _) _ (learn send_says c.IsSend-at.ensures c.send_field-1.given.1) in send-read)).read in send-took)).inside in chains-starts))
-    (omega (arith, (let pending_next : c.pending_field-1.given.0.1.0 ≡ c.args.at + length ((optional (group pending)).print ((let pending-read : Located (pending_at (c.args.at)) (read_at (optional (group pending)) (c.args.row.now) (c.args.at)) c.pending_field-1.given.0.0 c.pending_field-1.given.0.1.0 = located-at (pending_at _) _ (learn pending_says c.pending_at-pending_field.ensures c.pending_field-1.given.1) in pending-read)).value) = took-next _ _ (optional (group pending)) (optional-lawful (group pending) pending-lawful) ((let by : Bytes (c.args.row.now) = typed (c.args.row.now) c.shared_slice_known-1.given in by)) ((let pending-read : Located (pending_at (c.args.at)) (read_at (optional (group pending)) (c.args.row.now) (c.args.at)) c.pending_field-1.given.0.0 c.pending_field-1.given.0.1.0 = located-at (pending_at _) _ (learn pending_says c.pending_at-pending_field.ensures c.pending_field-1.given.1) in pending-read)).read (optional-not-past _ _ (group pending) ((let pending-read : Located (pending_at (c.args.at)) (read_at (optional (group pending)) (c.args.row.now) (c.args.at)) c.pending_field-1.given.0.0 c.pending_field-1.given.0.1.0 = located-at (pending_at _) _ (learn pending_says c.pending_at-pending_field.ensures c.pending_field-1.given.1) in pending-read)).read) in pending_next), (let send-next : c.send_field-1.given.0.1.0 ≡ ((field-yes (start).so ((let pending-took : Took (optional (group pending)) (c.args.row.now) (c.args.at) ((let pending-read : Located (pending_at (c.args.at)) (read_at (optional (group pending)) (c.args.row.now) (c.args.at)) c.pending_field-1.given.0.0 c.pending_field-1.given.0.1.0 = located-at (pending_at _) _ (learn pending_says c.pending_at-pending_field.ensures c.pending_field-1.given.1) in pending-read)).value c.pending_field-1.given.0.1.0 = took _ _ (optional (group pending)) (optional-lawful (group pending) pending-lawful) ((let by : Bytes (c.args.row.now) = typed (c.args.row.now) c.shared_slice_known-1.given in by)) ((let pending-read : Located (pending_at (c.args.at)) (read_at (optional (group pending)) (c.args.row.now) (c.args.at)) c.pending_field-1.given.0.0 c.pending_field-1.given.0.1.0 = located-at (pending_at _) _ (learn pending_says c.pending_at-pending_field.ensures c.pending_field-1.given.1) in pending-read)).read in pending-took)))).here + length ((optional (group send)).print ((let send-read : Located (send_at ((field-yes (start).so ((let pending-took : Took (optional (group pending)) (c.args.row.now) (c.args.at) ((let pending-read : Located (pending_at (c.args.at)) (read_at (optional (group pending)) (c.args.row.now) (c.args.at)) c.pending_field-1.given.0.0 c.pending_field-1.given.0.1.0 = located-at (pending_at _) _ (learn pending_says c.pending_at-pending_field.ensures c.pending_field-1.given.1) in pending-read)).value c.pending_field-1.given.0.1.0 = took _ _ (optional (group pending)) (optional-lawful (group pending) pending-lawful) ((let by : Bytes (c.args.row.now) = typed (c.args.row.now) c.shared_slice_known-1.given in by)) ((let pending-read : Located (pending_at (c.args.at)) (read_at (optional (group pending)) (c.args.row.now) (c.args.at)) c.pending_field-1.given.0.0 c.pending_field-1.given.0.1.0 = located-at (pending_at _) _ (learn pending_says c.pending_at-pending_field.ensures c.pending_field-1.given.1) in pending-read)).read in pending-took)))).here) (read_at (optional (group send)) (c.args.row.now) ((field-yes (start).so ((let pending-took : Took (optional (group pending)) (c.args.row.now) (c.args.at) ((let pending-read : Located (pending_at (c.args.at)) (read_at (optional (group pending)) (c.args.row.now) (c.args.at)) c.pending_field-1.given.0.0 c.pending_field-1.given.0.1.0 = located-at (pending_at _) _ (learn pending_says c.pending_at-pending_field.ensures c.pending_field-1.given.1) in pending-read)).value c.pending_field-1.given.0.1.0 = took _ _ (optional (group pending)) (optional-lawful (group pending) pending-lawful) ((let by : Bytes (c.args.row.now) = typed (c.args.row.now) c.shared_slice_known-1.given in by)) ((let pending-read : Located (pending_at (c.args.at)) (read_at (optional (group pending)) (c.args.row.now) (c.args.at)) c.pending_field-1.given.0.0 c.pending_field-1.given.0.1.0 = located-at (pending_at _) _ (learn pending_says c.pending_at-pending_field.ensures c.pending_field-1.given.1) in pending-read)).read in pending-took)))).here) c.send_field-1.given.0.0 c.send_field-1.given.0.1.0 = located-at (send_at _) _ (learn send_says c.IsSend-at.ensures c.send_field-1.given.1) in send-read)).value) = took-next _ _ (optional (group send)) (optional-lawful (group send) send-lawful) ((let by : Bytes (c.args.row.now) = typed (c.args.row.now) c.shared_slice_known-1.given in by)) ((let send-read : Located (send_at ((field-yes (start).so ((let pending-took : Took (optional (group pending)) (c.args.row.now) (c.args.at) ((let pending-read : Located (pending_at (c.args.at)) (read_at (optional (group pending)) (c.args.row.now) (c.args.at)) c.pending_field-1.given.0.0 c.pending_field-1.given.0.1.0 = located-at (pending_at _) _ (learn pending_says c.pending_at-pending_field.ensures c.pending_field-1.given.1) in pending-read)).value c.pending_field-1.given.0.1.0 = took _ _ (optional (group pending)) (optional-lawful (group pending) pending-lawful) ((let by : Bytes (c.args.row.now) = typed (c.args.row.now) c.shared_slice_known-1.given in by)) ((let pending-read : Located (pending_at (c.args.at)) (read_at (optional (group pending)) (c.args.row.now) (c.args.at)) c.pending_field-1.given.0.0 c.pending_field-1.given.0.1.0 = located-at (pending_at _) _ (learn pending_says c.pending_at-pending_field.ensures c.pending_field-1.given.1) in pending-read)).read in pending-took)))).here) (read_at (optional (group send)) (c.args.row.now) ((field-yes (start).so ((let pending-took : Took (optional (group pending)) (c.args.row.now) (c.args.at) ((let pending-read : Located (pending_at (c.args.at)) (read_at (optional (group pending)) (c.args.row.now) (c.args.at)) c.pending_field-1.given.0.0 c.pending_field-1.given.0.1.0 = located-at (pending_at _) _ (learn pending_says c.pending_at-pending_field.ensures c.pending_field-1.given.1) in pending-read)).value c.pending_field-1.given.0.1.0 = took _ _ (optional (group pending)) (optional-lawful (group pending) pending-lawful) ((let by : Bytes (c.args.row.now) = typed (c.args.row.now) c.shared_slice_known-1.given in by)) ((let pending-read : Located (pending_at (c.args.at)) (read_at (optional (group pending)) (c.args.row.now) (c.args.at)) c.pending_field-1.given.0.0 c.pending_field-1.given.0.1.0 = located-at (pending_at _) _ (learn pending_says c.pending_at-pending_field.ensures c.pending_field-1.given.1) in pending-read)).read in pending-took)))).here) c.send_field-1.given.0.0 c.send_field-1.given.0.1.0 = located-at (send_at _) _ (learn send_says c.IsSend-at.ensures c.send_field-1.given.1) in send-read)).read ((let pending-took : Took (optional (group pending)) (c.args.row.now) (c.args.at) ((let pending-read : Located (pending_at (c.args.at)) (read_at (optional (group pending)) (c.args.row.now) (c.args.at)) c.pending_field-1.given.0.0 c.pending_field-1.given.0.1.0 = located-at (pending_at _) _ (learn pending_says c.pending_at-pending_field.ensures c.pending_field-1.given.1) in pending-read)).value c.pending_field-1.given.0.1.0 = took _ _ (optional (group pending)) (optional-lawful (group pending) pending-lawful) ((let by : Bytes (c.args.row.now) = typed (c.args.row.now) c.shared_slice_known-1.given in by)) ((let pending-read : Located (pending_at (c.args.at)) (read_at (optional (group pending)) (c.args.row.now) (c.args.at)) c.pending_field-1.given.0.0 c.pending_field-1.given.0.1.0 = located-at (pending_at _) _ (learn pending_says c.pending_at-pending_field.ensures c.pending_field-1.given.1) in pending-read)).read in pending-took)).inside in send-next)))
-    ((let skipped-starts : c.skipped_field-1.given.0.0 ≡ list_at (group skipped) ((field-yes ((field-yes ((field-yes (start).so ((let pending-took : Took (optional (group pending)) (c.args.row.now) (c.args.at) ((let pending-read : Located (pending_at (c.args.at)) (read_at (optional (group pending)) (c.args.row.now) (c.args.at)) c.pending_field-1.given.0.0 c.pending_field-1.given.0.1.0 = located-at (pending_at _) _ (learn pending_says c.pending_at-pending_field.ensures c.pending_field-1.given.1) in pending-read)).value c.pending_field-1.given.0.1.0 = took _ _ (optional (group pending)) (optional-lawful (group pending) pending-lawful) ((let by : Bytes (c.args.row.now) = typed (c.args.row.now) c.shared_slice_known-1.given in by)) ((let pending-read : Located (pending_at (c.args.at)) (read_at (optional (group pending)) (c.args.row.now) (c.args.at)) c.pending_field-1.given.0.0 c.pending_field-1.given.0.1.0 = located-at (pending_at _) _ (learn pending_says c.pending_at-pending_field.ensures c.pending_field-1.given.1) in pending-read)).read in pending-took)))).so ((let send-took : Took (optional (group send)) (c.args.row.now) ((field-yes (start).so ((let pending-took : Took (optional (group pending)) (c.args.row.now) (c.args.at) ((let pending-read : Located (pending_at (c.args.at)) (read_at (optional (group pending)) (c.args.row.now) (c.args.at)) c.pending_field-1.given.0.0 c.pending_field-1.given.0.1.0 = located-at (pending_at _) _ (learn pending_says c.pending_at-pending_field.ensures c.pending_field-1.given.1) in pending-read)).value c.pending_field-1.given.0.1.0 = took _ _ (optional (group pending)) (optional-lawful (group pending) pending-lawful) ((let by : Bytes (c.args.row.now) = typed (c.args.row.now) c.shared_slice_known-1.given in by)) ((let pending-read : Located (pending_at (c.args.at)) (read_at (optional (group pending)) (c.args.row.now) (c.args.at)) c.pending_field-1.given.0.0 c.pending_field-1.given.0.1.0 = located-at (pending_at _) _ (learn pending_says c.pending_at-pending_field.ensures c.pending_field-1.given.1) in pending-read)).read in pending-took)))).here ((let send-read : Located (send_at ((field-yes (start).so ((let pending-took : Took (optional (group pending)) (c.args.row.now) (c.args.at) ((let pending-read : Located (pending_at (c.args.at)) (read_at (optional (group pending)) (c.args.row.now) (c.args.at)) c.pending_field-1.given.0.0 c.pending_field-1.given.0.1.0 = located-at (pending_at _) _ (learn pending_says c.pending_at-pending_field.ensures c.pending_field-1.given.1) in pending-read)).value c.pending_field-1.given.0.1.0 = took _ _ (optional (group pending)) (optional-lawful (group pending) pending-lawful) ((let by : Bytes (c.args.row.now) = typed (c.args.row.now) c.shared_slice_known-1.given in by)) ((let pending-read : Located (pending_at (c.args.at)) (read_at (optional (group pending)) (c.args.row.now) (c.args.at)) c.pending_field-1.given.0.0 c.pending_field-1.given.0.1.0 = located-at (pending_at _) _ (learn pending_says c.pending_at-pending_field.ensures c.pending_field-1.given.1) in pending-read)).read in pending-took)))).here) (read_at (optional (group send)) (c.args.row.now) ((field-yes (start).so ((let pending-took : Took (optional (group pending)) (c.args.row.now) (c.args.at) ((let pending-read : Located (pending_at (c.args.at)) (read_at (optional (group pending)) (c.args.row.now) (c.args.at)) c.pending_field-1.given.0.0 c.pending_field-1.given.0.1.0 = located-at (pending_at _) _ (learn pending_says c.pending_at-pending_field.ensures c.pending_field-1.given.1) in pending-read)).value c.pending_field-1.given.0.1.0 = took _ _ (optional (group pending)) (optional-lawful (group pending) pending-lawful) ((let by : Bytes (c.args.row.now) = typed (c.args.row.now) c.shared_slice_known-1.given in by)) ((let pending-read : Located (pending_at (c.args.at)) (read_at (optional (group pending)) (c.args.row.now) (c.args.at)) c.pending_field-1.given.0.0 c.pending_field-1.given.0.1.0 = located-at (pending_at _) _ (learn pending_says c.pending_at-pending_field.ensures c.pending_field-1.given.1) in pending-read)).read in pending-took)))).here) c.send_field-1.given.0.0 c.send_field-1.given.0.1.0 = located-at (send_at _) _ (learn send_says c.IsSend-at.ensures c.send_field-1.given.1) in send-read)).value c.send_field-1.given.0.1.0 = took _ _ (optional (group send)) (optional-lawful (group send) send-lawful) ((let by : Bytes (c.args.row.now) = typed (c.args.row.now) c.shared_slice_known-1.given in by)) ((let send-read : Located (send_at ((field-yes (start).so ((let pending-took : Took (optional (group pending)) (c.args.row.now) (c.args.at) ((let pending-read : Located (pending_at (c.args.at)) (read_at (optional (group pending)) (c.args.row.now) (c.args.at)) c.pending_field-1.given.0.0 c.pending_field-1.given.0.1.0 = located-at (pending_at _) _ (learn pending_says c.pending_at-pending_field.ensures c.pending_field-1.given.1) in pending-read)).value c.pending_field-1.given.0.1.0 = took _ _ (optional (group pending)) (optional-lawful (group pending) pending-lawful) ((let by : Bytes (c.args.row.now) = typed (c.args.row.now) c.shared_slice_known-1.given in by)) ((let pending-read : Located (pending_at (c.args.at)) (read_at (optional (group pending)) (c.args.row.now) (c.args.at)) c.pending_field-1.given.0.0 c.pending_field-1.given.0.1.0 = located-at (pending_at _) _ (learn pending_says c.pending_at-pending_field.ensures c.pending_field-1.given.1) in pending-read)).read in pending-took)))).here) (read_at (optional (group send)) (c.args.row.now) ((field-yes (start).so ((let pending-took : Took (optional (group pending)) (c.args.row.now) (c.args.at) ((let pending-read : Located (pending_at (c.args.at)) (read_at (optional (group pending)) (c.args.row.now) (c.args.at)) c.pending_field-1.given.0.0 c.pending_field-1.given.0.1.0 = located-at (pending_at _) _ (learn pending_says c.pending_at-pending_field.ensures c.pending_field-1.given.1) in pending-read)).value c.pending_field-1.given.0.1.0 = took _ _ (optional (group pending)) (optional-lawful (group pending) pending-lawful) ((let by : Bytes (c.args.row.now) = typed (c.args.row.now) c.shared_slice_known-1.given in by)) ((let pending-read : Located (pending_at (c.args.at)) (read_at (optional (group pending)) (c.args.row.now) (c.args.at)) c.pending_field-1.given.0.0 c.pending_field-1.given.0.1.0 = located-at (pending_at _) _ (learn pending_says c.pending_at-pending_field.ensures c.pending_field-1.given.1) in pending-read)).read in pending-took)))).here) c.send_field-1.given.0.0 c.send_field-1.given.0.1.0 = located-at (send_at _) _ (learn send_says c.IsSend-at.ensures c.send_field-1.given.1) in send-read)).read in send-took)))).so ((let chains-took : Took (list (group chain)) (c.args.row.now) ((field-yes ((field-yes (start).so ((let pending-took : Took (optional (group pending)) (c.args.row.now) (c.args.at) ((let pending-read : Located (pending_at (c.args.at)) (read_at (optional (group pending)) (c.args.row.now) (c.args.at)) c.pending_field-1.given.0.0 c.pending_field-1.given.0.1.0 = located-at (pending_at _) _ (learn pending_says c.pending_at-pending_field.ensures c.pending_field-1.given.1) in pending-read)).value c.pending_field-1.given.0.1.0 = took _ _ (optional (group pending)) (optional-lawful (group pending) pending-lawful) ((let by : Bytes (c.args.row.now) = typed (c.args.row.now) c.shared_slice_known-1.given in by)) ((let pending-read : Located (pending_at (c.args.at)) (read_at (optional (group pending)) (c.args.row.now) (c.args.at)) c.pending_field-1.given.0.0 c.pending_field-1.given.0.1.0 = located-at (pending_at _) _ (learn pending_says c.pending_at-pending_field.ensures c.pending_field-1.given.1) in pending-read)).read in pending-took)))).so ((let send-took : Took (optional (group send)) (c.args.row.now) ((field-yes (start).so ((let pending-took : Took (optional (group pending)) (c.args.row.now) (c.args.at) ((let pending-read : Located (pending_at (c.args.at)) (read_at (optional (group pending)) (c.args.row.now) (c.args.at)) c.pending_field-1.given.0.0 c.pending_field-1.given.0.1.0 = located-at (pending_at _) _ (learn pending_says c.pending_at-pending_field.ensures c.pending_field-1.given.1) in pending-read)).value c.pending_field-1.given.0.1.0 = took _ _ (optional (group pending)) (optional-lawful (group pending) pending-lawful) ((let by : Bytes (c.args.row.now) = typed (c.args.row.now) c.shared_slice_known-1.given in by)) ((let pending-read : Located (pending_at (c.args.at)) (read_at (optional (group pending)) (c.args.row.now) (c.args.at)) c.pending_field-1.given.0.0 c.pending_field-1.given.0.1.0 = located-at (pending_at _) _ (learn pending_says c.pending_at-pending_field.ensures c.pending_field-1.given.1) in pending-read)).read in pending-took)))).here ((let send-read : Located (send_at ((field-yes (start).so ((let pending-took : Took (optional (group pending)) (c.args.row.now) (c.args.at) ((let pending-read : Located (pending_at (c.args.at)) (read_at (optional (group pending)) (c.args.row.now) (c.args.at)) c.pending_field-1.given.0.0 c.pending_field-1.given.0.1.0 = located-at (pending_at _) _ (learn pending_says c.pending_at-pending_field.ensures c.pending_field-1.given.1) in pending-read)).value c.pending_field-1.given.0.1.0 = took _ _ (optional (group pending)) (optional-lawful (group pending) pending-lawful) ((let by : Bytes (c.args.row.now) = typed (c.args.row.now) c.shared_slice_known-1.given in by)) ((let pending-read : Located (pending_at (c.args.at)) (read_at (optional (group pending)) (c.args.row.now) (c.args.at)) c.pending_field-1.given.0.0 c.pending_field-1.given.0.1.0 = located-at (pending_at _) _ (learn pending_says c.pending_at-pending_field.ensures c.pending_field-1.given.1) in pending-read)).read in pending-took)))).here) (read_at (optional (group send)) (c.args.row.now) ((field-yes (start).so ((let pending-took : Took (optional (group pending)) (c.args.row.now) (c.args.at) ((let pending-read : Located (pending_at (c.args.at)) (read_at (optional (group pending)) (c.args.row.now) (c.args.at)) c.pending_field-1.given.0.0 c.pending_field-1.given.0.1.0 = located-at (pending_at _) _ (learn pending_says c.pending_at-pending_field.ensures c.pending_field-1.given.1) in pending-read)).value c.pending_field-1.given.0.1.0 = took _ _ (optional (group pending)) (optional-lawful (group pending) pending-lawful) ((let by : Bytes (c.args.row.now) = typed (c.args.row.now) c.shared_slice_known-1.given in by)) ((let pending-read : Located (pending_at (c.args.at)) (read_at (optional (group pending)) (c.args.row.now) (c.args.at)) c.pending_field-1.given.0.0 c.pending_field-1.given.0.1.0 = located-at (pending_at _) _ (learn pending_says c.pending_at-pending_field.ensures c.pending_field-1.given.1) in pending-read)).read in pending-took)))).here) c.send_field-1.given.0.0 c.send_field-1.given.0.1.0 = located-at (send_at _) _ (learn send_says c.IsSend-at.ensures c.send_field-1.given.1) in send-read)).value c.send_field-1.given.0.1.0 = took _ _ (optional (group send)) (optional-lawful (group send) send-lawful) ((let by : Bytes (c.args.row.now) = typed (c.args.row.now) c.shared_slice_known-1.given in by)) ((let send-read : Located (send_at ((field-yes (start).so ((let pending-took : Took (optional (group pending)) (c.args.row.now) (c.args.at) ((let pending-read : Located (pending_at (c.args.at)) (read_at (optional (group pending)) (c.args.row.now) (c.args.at)) c.pending_field-1.given.0.0 c.pending_field-1.given.0.1.0 = located-at (pending_at _) _ (learn pending_says c.pending_at-pending_field.ensures c.pending_field-1.given.1) in pending-read)).value c.pending_field-1.given.0.1.0 = took _ _ (optional (group pending)) (optional-lawful (group pending) pending-lawful) ((let by : Bytes (c.args.row.now) = typed (c.args.row.now) c.shared_slice_known-1.given in by)) ((let pending-read : Located (pending_at (c.args.at)) (read_at (optional (group pending)) (c.args.row.now) (c.args.at)) c.pending_field-1.given.0.0 c.pending_field-1.given.0.1.0 = located-at (pending_at _) _ (learn pending_says c.pending_at-pending_field.ensures c.pending_field-1.given.1) in pending-read)).read in pending-took)))).here) (read_at (optional (group send)) (c.args.row.now) ((field-yes (start).so ((let pending-took : Took (optional (group pending)) (c.args.row.now) (c.args.at) ((let pending-read : Located (pending_at (c.args.at)) (read_at (optional (group pending)) (c.args.row.now) (c.args.at)) c.pending_field-1.given.0.0 c.pending_field-1.given.0.1.0 = located-at (pending_at _) _ (learn pending_says c.pending_at-pending_field.ensures c.pending_field-1.given.1) in pending-read)).value c.pending_field-1.given.0.1.0 = took _ _ (optional (group pending)) (optional-lawful (group pending) pending-lawful) ((let by : Bytes (c.args.row.now) = typed (c.args.row.now) c.shared_slice_known-1.given in by)) ((let pending-read : Located (pending_at (c.args.at)) (read_at (optional (group pending)) (c.args.row.now) (c.args.at)) c.pending_field-1.given.0.0 c.pending_field-1.given.0.1.0 = located-at (pending_at _) _ (learn pending_says c.pending_at-pending_field.ensures c.pending_field-1.given.1) in pending-read)).read in pending-took)))).here) c.send_field-1.given.0.0 c.send_field-1.given.0.1.0 = located-at (send_at _) _ (learn send_says c.IsSend-at.ensures c.send_field-1.given.1) in send-read)).read in send-took)))).here (list_in (group chain) (c.args.row.now) c.chains_field-1.given.0.0) c.chains_field-1.given.0.0.next = list-took (group chain) chain-lawful (c.args.row.now) ((let by : Bytes (c.args.row.now) = typed (c.args.row.now) c.shared_slice_known-1.given in by)) _ c.chains_at-chains_field.ensures c.chains_field-1.given.1 in chains-took)))).here (list_in (group skipped) (c.args.row.now) c.skipped_field-1.given.0.0) = list-starts (group skipped) skipped-lawful (c.args.row.now) ((let by : Bytes (c.args.row.now) = typed (c.args.row.now) c.shared_slice_known-1.given in by)) _ c.Skipped-at.ensures c.skipped_field-1.given.1 ((let chains-took : Took (list (group chain)) (c.args.row.now) ((field-yes ((field-yes (start).so ((let pending-took : Took (optional (group pending)) (c.args.row.now) (c.args.at) ((let pending-read : Located (pending_at (c.args.at)) (read_at (optional (group pending)) (c.args.row.now) (c.args.at)) c.pending_field-1.given.0.0 c.pending_field-1.given.0.1.0 = located-at (pending_at _) _ (learn pending_says c.pending_at-pending_field.ensures c.pending_field-1.given.1) in pending-read)).value c.pending_field-1.given.0.1.0 = took _ _ (optional (group pending)) (optional-lawful (group pending) pending-lawful) ((let by : Bytes (c.args.row.now) = typed (c.args.row.now) c.shared_slice_known-1.given in by)) ((let pending-read : Located (pending_at (c.args.at)) (read_at (optional (group pending)) (c.args.row.now) (c.args.at)) c.pending_field-1.given.0.0 c.pending_field-1.given.0.1.0 = located-at (pending_at _) _ (learn pending_says c.pending_at-pending_field.ensures c.pending_field-1.given.1) in pending-read)).read in pending-took)))).so ((let send-took : Took (optional (group send)) (c.args.row.now) ((field-yes (start).so ((let pending-took : Took (optional (group pending)) (c.args.row.now) (c.args.at) ((let pending-read : Located (pending_at (c.args.at)) (read_at (optional (group pending)) (c.args.row.now) (c.args.at)) c.pending_field-1.given.0.0 c.pending_field-1.given.0.1.0 = located-at (pending_at _) _ (learn pending_says c.pending_at-pending_field.ensures c.pending_field-1.given.1) in pending-read)).value c.pending_field-1.given.0.1.0 = took _ _ (optional (group pending)) (optional-lawful (group pending) pending-lawful) ((let by : Bytes (c.args.row.now) = typed (c.args.row.now) c.shared_slice_known-1.given in by)) ((let pending-read : Located (pending_at (c.args.at)) (read_at (optional (group pending)) (c.args.row.now) (c.args.at)) c.pending_field-1.given.0.0 c.pending_field-1.given.0.1.0 = located-at (pending_at _) _ (learn pending_says c.pending_at-pending_field.ensures c.pending_field-1.given.1) in pending-read)).read in pending-took)))).here ((let send-read : Located (send_at ((field-yes (start).so ((let pending-took : Took (optional (group pending)) (c.args.row.now) (c.args.at) ((let pending-read : Located (pending_at (c.args.at)) (read_at (optional (group pending)) (c.args.row.now) (c.args.at)) c.pending_field-1.given.0.0 c.pending_field-1.given.0.1.0 = located-at (pending_at _) _ (learn pending_says c.pending_at-pending_field.ensures c.pending_field-1.given.1) in pending-read)).value c.pending_field-1.given.0.1.0 = took _ _ (optional (group pending)) (optional-lawful (group pending) pending-lawful) ((let by : Bytes (c.args.row.now) = typed (c.args.row.now) c.shared_slice_known-1.given in by)) ((let pending-read : Located (pending_at (c.args.at)) (read_at (optional (group pending)) (c.args.row.now) (c.args.at)) c.pending_field-1.given.0.0 c.pending_field-1.given.0.1.0 = located-at (pending_at _) _ (learn pending_says c.pending_at-pending_field.ensures c.pending_field-1.given.1) in pending-read)).read in pending-took)))).here) (read_at (optional (group send)) (c.args.row.now) ((field-yes (start).so ((let pending-took : Took (optional (group pending)) (c.args.row.now) (c.args.at) ((let pending-read : Located (pending_at (c.args.at)) (read_at (optional (group pending)) (c.args.row.now) (c.args.at)) c.pending_field-1.given.0.0 c.pending_field-1.given.0.1.0 = located-at (pending_at _) _ (learn pending_says c.pending_at-pending_field.ensures c.pending_field-1.given.1) in pending-read)).value c.pending_field-1.given.0.1.0 = took _ _ (optional (group pending)) (optional-lawful (group pending) pending-lawful) ((let by : Bytes (c.args.row.now) = typed (c.args.row.now) c.shared_slice_known-1.given in by)) ((let pending-read : Located (pending_at (c.args.at)) (read_at (optional (group pending)) (c.args.row.now) (c.args.at)) c.pending_field-1.given.0.0 c.pending_field-1.given.0.1.0 = located-at (pending_at _) _ (learn pending_says c.pending_at-pending_field.ensures c.pending_field-1.given.1) in pending-read)).read in pending-took)))).here) c.send_field-1.given.0.0 c.send_field-1.given.0.1.0 = located-at (send_at _) _ (learn send_says c.IsSend-at.ensures c.send_field-1.given.1) in send-read)).value c.send_field-1.given.0.1.0 = took _ _ (optional (group send)) (optional-lawful (group send) send-lawful) ((let by : Bytes (c.args.row.now) = typed (c.args.row.now) c.shared_slice_known-1.given in by)) ((let send-read : Located (send_at ((field-yes (start).so ((let pending-took : Took (optional (group pending)) (c.args.row.now) (c.args.at) ((let pending-read : Located (pending_at (c.args.at)) (read_at (optional (group pending)) (c.args.row.now) (c.args.at)) c.pending_field-1.given.0.0 c.pending_field-1.given.0.1.0 = located-at (pending_at _) _ (learn pending_says c.pending_at-pending_field.ensures c.pending_field-1.given.1) in pending-read)).value c.pending_field-1.given.0.1.0 = took _ _ (optional (group pending)) (optional-lawful (group pending) pending-lawful) ((let by : Bytes (c.args.row.now) = typed (c.args.row.now) c.shared_slice_known-1.given in by)) ((let pending-read : Located (pending_at (c.args.at)) (read_at (optional (group pending)) (c.args.row.now) (c.args.at)) c.pending_field-1.given.0.0 c.pending_field-1.given.0.1.0 = located-at (pending_at _) _ (learn pending_says c.pending_at-pending_field.ensures c.pending_field-1.given.1) in pending-read)).read in pending-took)))).here) (read_at (optional (group send)) (c.args.row.now) ((field-yes (start).so ((let pending-took : Took (optional (group pending)) (c.args.row.now) (c.args.at) ((let pending-read : Located (pending_at (c.args.at)) (read_at (optional (group pending)) (c.args.row.now) (c.args.at)) c.pending_field-1.given.0.0 c.pending_field-1.given.0.1.0 = located-at (pending_at _) _ (learn pending_says c.pending_at-pending_field.ensures c.pending_field-1.given.1) in pending-read)).value c.pending_field-1.given.0.1.0 = took _ _ (optional (group pending)) (optional-lawful (group pending) pending-lawful) ((let by : Bytes (c.args.row.now) = typed (c.args.row.now) c.shared_slice_known-1.given in by)) ((let pending-read : Located (pending_at (c.args.at)) (read_at (optional (group pending)) (c.args.row.now) (c.args.at)) c.pending_field-1.given.0.0 c.pending_field-1.given.0.1.0 = located-at (pending_at _) _ (learn pending_says c.pending_at-pending_field.ensures c.pending_field-1.given.1) in pending-read)).read in pending-took)))).here) c.send_field-1.given.0.0 c.send_field-1.given.0.1.0 = located-at (send_at _) _ (learn send_says c.IsSend-at.ensures c.send_field-1.given.1) in send-read)).read in send-took)))).here (list_in (group chain) (c.args.row.now) c.chains_field-1.given.0.0) c.chains_field-1.given.0.0.next = list-took (group chain) chain-lawful (c.args.row.now) ((let by : Bytes (c.args.row.now) = typed (c.args.row.now) c.shared_slice_known-1.given in by)) _ c.chains_at-chains_field.ensures c.chains_field-1.given.1 in chains-took)).inside in skipped-starts))
-    (omega (arith, (let pending_next : c.pending_field-1.given.0.1.0 ≡ c.args.at + length ((optional (group pending)).print ((let pending-read : Located (pending_at (c.args.at)) (read_at (optional (group pending)) (c.args.row.now) (c.args.at)) c.pending_field-1.given.0.0 c.pending_field-1.given.0.1.0 = located-at (pending_at _) _ (learn pending_says c.pending_at-pending_field.ensures c.pending_field-1.given.1) in pending-read)).value) = took-next _ _ (optional (group pending)) (optional-lawful (group pending) pending-lawful) ((let by : Bytes (c.args.row.now) = typed (c.args.row.now) c.shared_slice_known-1.given in by)) ((let pending-read : Located (pending_at (c.args.at)) (read_at (optional (group pending)) (c.args.row.now) (c.args.at)) c.pending_field-1.given.0.0 c.pending_field-1.given.0.1.0 = located-at (pending_at _) _ (learn pending_says c.pending_at-pending_field.ensures c.pending_field-1.given.1) in pending-read)).read (optional-not-past _ _ (group pending) ((let pending-read : Located (pending_at (c.args.at)) (read_at (optional (group pending)) (c.args.row.now) (c.args.at)) c.pending_field-1.given.0.0 c.pending_field-1.given.0.1.0 = located-at (pending_at _) _ (learn pending_says c.pending_at-pending_field.ensures c.pending_field-1.given.1) in pending-read)).read) in pending_next), (let send-next : c.send_field-1.given.0.1.0 ≡ ((field-yes (start).so ((let pending-took : Took (optional (group pending)) (c.args.row.now) (c.args.at) ((let pending-read : Located (pending_at (c.args.at)) (read_at (optional (group pending)) (c.args.row.now) (c.args.at)) c.pending_field-1.given.0.0 c.pending_field-1.given.0.1.0 = located-at (pending_at _) _ (learn pending_says c.pending_at-pending_field.ensures c.pending_field-1.given.1) in pending-read)).value c.pending_field-1.given.0.1.0 = took _ _ (optional (group pending)) (optional-lawful (group pending) pending-lawful) ((let by : Bytes (c.args.row.now) = typed (c.args.row.now) c.shared_slice_known-1.given in by)) ((let pending-read : Located (pending_at (c.args.at)) (read_at (optional (group pending)) (c.args.row.now) (c.args.at)) c.pending_field-1.given.0.0 c.pending_field-1.given.0.1.0 = located-at (pending_at _) _ (learn pending_says c.pending_at-pending_field.ensures c.pending_field-1.given.1) in pending-read)).read in pending-took)))).here + length ((optional (group send)).print ((let send-read : Located (send_at ((field-yes (start).so ((let pending-took : Took (optional (group pending)) (c.args.row.now) (c.args.at) ((let pending-read : Located (pending_at (c.args.at)) (read_at (optional (group pending)) (c.args.row.now) (c.args.at)) c.pending_field-1.given.0.0 c.pending_field-1.given.0.1.0 = located-at (pending_at _) _ (learn pending_says c.pending_at-pending_field.ensures c.pending_field-1.given.1) in pending-read)).value c.pending_field-1.given.0.1.0 = took _ _ (optional (group pending)) (optional-lawful (group pending) pending-lawful) ((let by : Bytes (c.args.row.now) = typed (c.args.row.now) c.shared_slice_known-1.given in by)) ((let pending-read : Located (pending_at (c.args.at)) (read_at (optional (group pending)) (c.args.row.now) (c.args.at)) c.pending_field-1.given.0.0 c.pending_field-1.given.0.1.0 = located-at (pending_at _) _ (learn pending_says c.pending_at-pending_field.ensures c.pending_field-1.given.1) in pending-read)).read in pending-took)))).here) (read_at (optional (group send)) (c.args.row.now) ((field-yes (start).so ((let pending-took : Took (optional (group pending)) (c.args.row.now) (c.args.at) ((let pending-read : Located (pending_at (c.args.at)) (read_at (optional (group pending)) (c.args.row.now) (c.args.at)) c.pending_field-1.given.0.0 c.pending_field-1.given.0.1.0 = located-at (pending_at _) _ (learn pending_says c.pending_at-pending_field.ensures c.pending_field-1.given.1) in pending-read)).value c.pending_field-1.given.0.1.0 = took _ _ (optional (group pending)) (optional-lawful (group pending) pending-lawful) ((let by : Bytes (c.args.row.now) = typed (c.args.row.now) c.shared_slice_known-1.given in by)) ((let pending-read : Located (pending_at (c.args.at)) (read_at (optional (group pending)) (c.args.row.now) (c.args.at)) c.pending_field-1.given.0.0 c.pending_field-1.given.0.1.0 = located-at (pending_at _) _ (learn pending_says c.pending_at-pending_field.ensures c.pending_field-1.given.1) in pending-read)).read in pending-took)))).here) c.send_field-1.given.0.0 c.send_field-1.given.0.1.0 = located-at (send_at _) _ (learn send_says c.IsSend-at.ensures c.send_field-1.given.1) in send-read)).value) = took-next _ _ (optional (group send)) (optional-lawful (group send) send-lawful) ((let by : Bytes (c.args.row.now) = typed (c.args.row.now) c.shared_slice_known-1.given in by)) ((let send-read : Located (send_at ((field-yes (start).so ((let pending-took : Took (optional (group pending)) (c.args.row.now) (c.args.at) ((let pending-read : Located (pending_at (c.args.at)) (read_at (optional (group pending)) (c.args.row.now) (c.args.at)) c.pending_field-1.given.0.0 c.pending_field-1.given.0.1.0 = located-at (pending_at _) _ (learn pending_says c.pending_at-pending_field.ensures c.pending_field-1.given.1) in pending-read)).value c.pending_field-1.given.0.1.0 = took _ _ (optional (group pending)) (optional-lawful (group pending) pending-lawful) ((let by : Bytes (c.args.row.now) = typed (c.args.row.now) c.shared_slice_known-1.given in by)) ((let pending-read : Located (pending_at (c.args.at)) (read_at (optional (group pending)) (c.args.row.now) (c.args.at)) c.pending_field-1.given.0.0 c.pending_field-1.given.0.1.0 = located-at (pending_at _) _ (learn pending_says c.pending_at-pending_field.ensures c.pending_field-1.given.1) in pending-read)).read in pending-took)))).here) (read_at (optional (group send)) (c.args.row.now) ((field-yes (start).so ((let pending-took : Took (optional (group pending)) (c.args.row.now) (c.args.at) ((let pending-read : Located (pending_at (c.args.at)) (read_at (optional (group pending)) (c.args.row.now) (c.args.at)) c.pending_field-1.given.0.0 c.pending_field-1.given.0.1.0 = located-at (pending_at _) _ (learn pending_says c.pending_at-pending_field.ensures c.pending_field-1.given.1) in pending-read)).value c.pending_field-1.given.0.1.0 = took _ _ (optional (group pending)) (optional-lawful (group pending) pending-lawful) ((let by : Bytes (c.args.row.now) = typed (c.args.row.now) c.shared_slice_known-1.given in by)) ((let pending-read : Located (pending_at (c.args.at)) (read_at (optional (group pending)) (c.args.row.now) (c.args.at)) c.pending_field-1.given.0.0 c.pending_field-1.given.0.1.0 = located-at (pending_at _) _ (learn pending_says c.pending_at-pending_field.ensures c.pending_field-1.given.1) in pending-read)).read in pending-took)))).here) c.send_field-1.given.0.0 c.send_field-1.given.0.1.0 = located-at (send_at _) _ (learn send_says c.IsSend-at.ensures c.send_field-1.given.1) in send-read)).read ((let pending-took : Took (optional (group pending)) (c.args.row.now) (c.args.at) ((let pending-read : Located (pending_at (c.args.at)) (read_at (optional (group pending)) (c.args.row.now) (c.args.at)) c.pending_field-1.given.0.0 c.pending_field-1.given.0.1.0 = located-at (pending_at _) _ (learn pending_says c.pending_at-pending_field.ensures c.pending_field-1.given.1) in pending-read)).value c.pending_field-1.given.0.1.0 = took _ _ (optional (group pending)) (optional-lawful (group pending) pending-lawful) ((let by : Bytes (c.args.row.now) = typed (c.args.row.now) c.shared_slice_known-1.given in by)) ((let pending-read : Located (pending_at (c.args.at)) (read_at (optional (group pending)) (c.args.row.now) (c.args.at)) c.pending_field-1.given.0.0 c.pending_field-1.given.0.1.0 = located-at (pending_at _) _ (learn pending_says c.pending_at-pending_field.ensures c.pending_field-1.given.1) in pending-read)).read in pending-took)).inside in send-next), (let chains-next : c.chains_field-1.given.0.0.next ≡ ((field-yes ((field-yes (start).so ((let pending-took : Took (optional (group pending)) (c.args.row.now) (c.args.at) ((let pending-read : Located (pending_at (c.args.at)) (read_at (optional (group pending)) (c.args.row.now) (c.args.at)) c.pending_field-1.given.0.0 c.pending_field-1.given.0.1.0 = located-at (pending_at _) _ (learn pending_says c.pending_at-pending_field.ensures c.pending_field-1.given.1) in pending-read)).value c.pending_field-1.given.0.1.0 = took _ _ (optional (group pending)) (optional-lawful (group pending) pending-lawful) ((let by : Bytes (c.args.row.now) = typed (c.args.row.now) c.shared_slice_known-1.given in by)) ((let pending-read : Located (pending_at (c.args.at)) (read_at (optional (group pending)) (c.args.row.now) (c.args.at)) c.pending_field-1.given.0.0 c.pending_field-1.given.0.1.0 = located-at (pending_at _) _ (learn pending_says c.pending_at-pending_field.ensures c.pending_field-1.given.1) in pending-read)).read in pending-took)))).so ((let send-took : Took (optional (group send)) (c.args.row.now) ((field-yes (start).so ((let pending-took : Took (optional (group pending)) (c.args.row.now) (c.args.at) ((let pending-read : Located (pending_at (c.args.at)) (read_at (optional (group pending)) (c.args.row.now) (c.args.at)) c.pending_field-1.given.0.0 c.pending_field-1.given.0.1.0 = located-at (pending_at _) _ (learn pending_says c.pending_at-pending_field.ensures c.pending_field-1.given.1) in pending-read)).value c.pending_field-1.given.0.1.0 = took _ _ (optional (group pending)) (optional-lawful (group pending) pending-lawful) ((let by : Bytes (c.args.row.now) = typed (c.args.row.now) c.shared_slice_known-1.given in by)) ((let pending-read : Located (pending_at (c.args.at)) (read_at (optional (group pending)) (c.args.row.now) (c.args.at)) c.pending_field-1.given.0.0 c.pending_field-1.given.0.1.0 = located-at (pending_at _) _ (learn pending_says c.pending_at-pending_field.ensures c.pending_field-1.given.1) in pending-read)).read in pending-took)))).here ((let send-read : Located (send_at ((field-yes (start).so ((let pending-took : Took (optional (group pending)) (c.args.row.now) (c.args.at) ((let pending-read : Located (pending_at (c.args.at)) (read_at (optional (group pending)) (c.args.row.now) (c.args.at)) c.pending_field-1.given.0.0 c.pending_field-1.given.0.1.0 = located-at (pending_at _) _ (learn pending_says c.pending_at-pending_field.ensures c.pending_field-1.given.1) in pending-read)).value c.pending_field-1.given.0.1.0 = took _ _ (optional (group pending)) (optional-lawful (group pending) pending-lawful) ((let by : Bytes (c.args.row.now) = typed (c.args.row.now) c.shared_slice_known-1.given in by)) ((let pending-read : Located (pending_at (c.args.at)) (read_at (optional (group pending)) (c.args.row.now) (c.args.at)) c.pending_field-1.given.0.0 c.pending_field-1.given.0.1.0 = located-at (pending_at _) _ (learn pending_says c.pending_at-pending_field.ensures c.pending_field-1.given.1) in pending-read)).read in pending-took)))).here) (read_at (optional (group send)) (c.args.row.now) ((field-yes (start).so ((let pending-took : Took (optional (group pending)) (c.args.row.now) (c.args.at) ((let pending-read : Located (pending_at (c.args.at)) (read_at (optional (group pending)) (c.args.row.now) (c.args.at)) c.pending_field-1.given.0.0 c.pending_field-1.given.0.1.0 = located-at (pending_at _) _ (learn pending_says c.pending_at-pending_field.ensures c.pending_field-1.given.1) in pending-read)).value c.pending_field-1.given.0.1.0 = took _ _ (optional (group pending)) (optional-lawful (group pending) pending-lawful) ((let by : Bytes (c.args.row.now) = typed (c.args.row.now) c.shared_slice_known-1.given in by)) ((let pending-read : Located (pending_at (c.args.at)) (read_at (optional (group pending)) (c.args.row.now) (c.args.at)) c.pending_field-1.given.0.0 c.pending_field-1.given.0.1.0 = located-at (pending_at _) _ (learn pending_says c.pending_at-pending_field.ensures c.pending_field-1.given.1) in pending-read)).read in pending-took)))).here) c.send_field-1.given.0.0 c.send_field-1.given.0.1.0 = located-at (send_at _) _ (learn send_says c.IsSend-at.ensures c.send_field-1.given.1) in send-read)).value c.send_field-1.given.0.1.0 = took _ _ (optional (group send)) (optional-lawful (group send) send-lawful) ((let by : Bytes (c.args.row.now) = typed (c.args.row.now) c.shared_slice_known-1.given in by)) ((let send-read : Located (send_at ((field-yes (start).so ((let pending-took : Took (optional (group pending)) (c.args.row.now) (c.args.at) ((let pending-read : Located (pending_at (c.args.at)) (read_at (optional (group pending)) (c.args.row.now) (c.args.at)) c.pending_field-1.given.0.0 c.pending_field-1.given.0.1.0 = located-at (pending_at _) _ (learn pending_says c.pending_at-pending_field.ensures c.pending_field-1.given.1) in pending-read)).value c.pending_field-1.given.0.1.0 = took _ _ (optional (group pending)) (optional-lawful (group pending) pending-lawful) ((let by : Bytes (c.args.row.now) = typed (c.args.row.now) c.shared_slice_known-1.given in by)) ((let pending-read : Located (pending_at (c.args.at)) (read_at (optional (group pending)) (c.args.row.now) (c.args.at)) c.pending_field-1.given.0.0 c.pending_field-1.given.0.1.0 = located-at (pending_at _) _ (learn pending_says c.pending_at-pending_field.ensures c.pending_field-1.given.1) in pending-read)).read in pending-took)))).here) (read_at (optional (group send)) (c.args.row.now) ((field-yes (start).so ((let pending-took : Took (optional (group pending)) (c.args.row.now) (c.args.at) ((let pending-read : Located (pending_at (c.args.at)) (read_at (optional (group pending)) (c.args.row.now) (c.args.at)) c.pending_field-1.given.0.0 c.pending_field-1.given.0.1.0 = located-at (pending_at _) _ (learn pending_says c.pending_at-pending_field.ensures c.pending_field-1.given.1) in pending-read)).value c.pending_field-1.given.0.1.0 = took _ _ (optional (group pending)) (optional-lawful (group pending) pending-lawful) ((let by : Bytes (c.args.row.now) = typed (c.args.row.now) c.shared_slice_known-1.given in by)) ((let pending-read : Located (pending_at (c.args.at)) (read_at (optional (group pending)) (c.args.row.now) (c.args.at)) c.pending_field-1.given.0.0 c.pending_field-1.given.0.1.0 = located-at (pending_at _) _ (learn pending_says c.pending_at-pending_field.ensures c.pending_field-1.given.1) in pending-read)).read in pending-took)))).here) c.send_field-1.given.0.0 c.send_field-1.given.0.1.0 = located-at (send_at _) _ (learn send_says c.IsSend-at.ensures c.send_field-1.given.1) in send-read)).read in send-took)))).here + length ((list (group chain)).print (list_in (group chain) (c.args.row.now) c.chains_field-1.given.0.0)) = list-next (group chain) chain-lawful (c.args.row.now) ((let by : Bytes (c.args.row.now) = typed (c.args.row.now) c.shared_slice_known-1.given in by)) _ c.chains_at-chains_field.ensures c.chains_field-1.given.1 ((let send-took : Took (optional (group send)) (c.args.row.now) ((field-yes (start).so ((let pending-took : Took (optional (group pending)) (c.args.row.now) (c.args.at) ((let pending-read : Located (pending_at (c.args.at)) (read_at (optional (group pending)) (c.args.row.now) (c.args.at)) c.pending_field-1.given.0.0 c.pending_field-1.given.0.1.0 = located-at (pending_at _) _ (learn pending_says c.pending_at-pending_field.ensures c.pending_field-1.given.1) in pending-read)).value c.pending_field-1.given.0.1.0 = took _ _ (optional (group pending)) (optional-lawful (group pending) pending-lawful) ((let by : Bytes (c.args.row.now) = typed (c.args.row.now) c.shared_slice_known-1.given in by)) ((let pending-read : Located (pending_at (c.args.at)) (read_at (optional (group pending)) (c.args.row.now) (c.args.at)) c.pending_field-1.given.0.0 c.pending_field-1.given.0.1.0 = located-at (pending_at _) _ (learn pending_says c.pending_at-pending_field.ensures c.pending_field-1.given.1) in pending-read)).read in pending-took)))).here ((let send-read : Located (send_at ((field-yes (start).so ((let pending-took : Took (optional (group pending)) (c.args.row.now) (c.args.at) ((let pending-read : Located (pending_at (c.args.at)) (read_at (optional (group pending)) (c.args.row.now) (c.args.at)) c.pending_field-1.given.0.0 c.pending_field-1.given.0.1.0 = located-at (pending_at _) _ (learn pending_says c.pending_at-pending_field.ensures c.pending_field-1.given.1) in pending-read)).value c.pending_field-1.given.0.1.0 = took _ _ (optional (group pending)) (optional-lawful (group pending) pending-lawful) ((let by : Bytes (c.args.row.now) = typed (c.args.row.now) c.shared_slice_known-1.given in by)) ((let pending-read : Located (pending_at (c.args.at)) (read_at (optional (group pending)) (c.args.row.now) (c.args.at)) c.pending_field-1.given.0.0 c.pending_field-1.given.0.1.0 = located-at (pending_at _) _ (learn pending_says c.pending_at-pending_field.ensures c.pending_field-1.given.1) in pending-read)).read in pending-took)))).here) (read_at (optional (group send)) (c.args.row.now) ((field-yes (start).so ((let pending-took : Took (optional (group pending)) (c.args.row.now) (c.args.at) ((let pending-read : Located (pending_at (c.args.at)) (read_at (optional (group pending)) (c.args.row.now) (c.args.at)) c.pending_field-1.given.0.0 c.pending_field-1.given.0.1.0 = located-at (pending_at _) _ (learn pending_says c.pending_at-pending_field.ensures c.pending_field-1.given.1) in pending-read)).value c.pending_field-1.given.0.1.0 = took _ _ (optional (group pending)) (optional-lawful (group pending) pending-lawful) ((let by : Bytes (c.args.row.now) = typed (c.args.row.now) c.shared_slice_known-1.given in by)) ((let pending-read : Located (pending_at (c.args.at)) (read_at (optional (group pending)) (c.args.row.now) (c.args.at)) c.pending_field-1.given.0.0 c.pending_field-1.given.0.1.0 = located-at (pending_at _) _ (learn pending_says c.pending_at-pending_field.ensures c.pending_field-1.given.1) in pending-read)).read in pending-took)))).here) c.send_field-1.given.0.0 c.send_field-1.given.0.1.0 = located-at (send_at _) _ (learn send_says c.IsSend-at.ensures c.send_field-1.given.1) in send-read)).value c.send_field-1.given.0.1.0 = took _ _ (optional (group send)) (optional-lawful (group send) send-lawful) ((let by : Bytes (c.args.row.now) = typed (c.args.row.now) c.shared_slice_known-1.given in by)) ((let send-read : Located (send_at ((field-yes (start).so ((let pending-took : Took (optional (group pending)) (c.args.row.now) (c.args.at) ((let pending-read : Located (pending_at (c.args.at)) (read_at (optional (group pending)) (c.args.row.now) (c.args.at)) c.pending_field-1.given.0.0 c.pending_field-1.given.0.1.0 = located-at (pending_at _) _ (learn pending_says c.pending_at-pending_field.ensures c.pending_field-1.given.1) in pending-read)).value c.pending_field-1.given.0.1.0 = took _ _ (optional (group pending)) (optional-lawful (group pending) pending-lawful) ((let by : Bytes (c.args.row.now) = typed (c.args.row.now) c.shared_slice_known-1.given in by)) ((let pending-read : Located (pending_at (c.args.at)) (read_at (optional (group pending)) (c.args.row.now) (c.args.at)) c.pending_field-1.given.0.0 c.pending_field-1.given.0.1.0 = located-at (pending_at _) _ (learn pending_says c.pending_at-pending_field.ensures c.pending_field-1.given.1) in pending-read)).read in pending-took)))).here) (read_at (optional (group send)) (c.args.row.now) ((field-yes (start).so ((let pending-took : Took (optional (group pending)) (c.args.row.now) (c.args.at) ((let pending-read : Located (pending_at (c.args.at)) (read_at (optional (group pending)) (c.args.row.now) (c.args.at)) c.pending_field-1.given.0.0 c.pending_field-1.given.0.1.0 = located-at (pending_at _) _ (learn pending_says c.pending_at-pending_field.ensures c.pending_field-1.given.1) in pending-read)).value c.pending_field-1.given.0.1.0 = took _ _ (optional (group pending)) (optional-lawful (group pending) pending-lawful) ((let by : Bytes (c.args.row.now) = typed (c.args.row.now) c.shared_slice_known-1.given in by)) ((let pending-read : Located (pending_at (c.args.at)) (read_at (optional (group pending)) (c.args.row.now) (c.args.at)) c.pending_field-1.given.0.0 c.pending_field-1.given.0.1.0 = located-at (pending_at _) _ (learn pending_says c.pending_at-pending_field.ensures c.pending_field-1.given.1) in pending-read)).read in pending-took)))).here) c.send_field-1.given.0.0 c.send_field-1.given.0.1.0 = located-at (send_at _) _ (learn send_says c.IsSend-at.ensures c.send_field-1.given.1) in send-read)).read in send-took)).inside in chains-next)))
-    ((let pending-read : Located (pending_at (c.args.at)) (read_at (optional (group pending)) (c.args.row.now) (c.args.at)) c.pending_field-1.given.0.0 c.pending_field-1.given.0.1.0 = located-at (pending_at _) _ (learn pending_says c.pending_at-pending_field.ensures c.pending_field-1.given.1) in pending-read)).place
+    (next} all inside is = ap (λ (place : ChainedAt). Value place next) is ∙ sym (ap (chained_found c.args.at) (takes_at c.args.row.now c.args.at (group chained) all inside))) (done-yes r4.so) skipped-took.inside
+    (its-places c.args.at its
+    chains-starts
+    (omega (arith, pending_next, send-next))
+    skipped-starts
+    (omega (arith, pending_next, send-next, chains-next))
+    pending-read.place
     (omega arith)
-    ((let send-read : Located (send_at ((field-yes (start).so ((let pending-took : Took (optional (group pending)) (c.args.row.now) (c.args.at) ((let pending-read : Located (pending_at (c.args.at)) (read_at (optional (group pending)) (c.args.row.now) (c.args.at)) c.pending_field-1.given.0.0 c.pending_field-1.given.0.1.0 = located-at (pending_at _) _ (learn pending_says c.pending_at-pending_field.ensures c.pending_field-1.given.1) in pending-read)).value c.pending_field-1.given.0.1.0 = took _ _ (optional (group pending)) (optional-lawful (group pending) pending-lawful) ((let by : Bytes (c.args.row.now) = typed (c.args.row.now) c.shared_slice_known-1.given in by)) ((let pending-read : Located (pending_at (c.args.at)) (read_at (optional (group pending)) (c.args.row.now) (c.args.at)) c.pending_field-1.given.0.0 c.pending_field-1.given.0.1.0 = located-at (pending_at _) _ (learn pending_says c.pending_at-pending_field.ensures c.pending_field-1.given.1) in pending-read)).read in pending-took)))).here) (read_at (optional (group send)) (c.args.row.now) ((field-yes (start).so ((let pending-took : Took (optional (group pending)) (c.args.row.now) (c.args.at) ((let pending-read : Located (pending_at (c.args.at)) (read_at (optional (group pending)) (c.args.row.now) (c.args.at)) c.pending_field-1.given.0.0 c.pending_field-1.given.0.1.0 = located-at (pending_at _) _ (learn pending_says c.pending_at-pending_field.ensures c.pending_field-1.given.1) in pending-read)).value c.pending_field-1.given.0.1.0 = took _ _ (optional (group pending)) (optional-lawful (group pending) pending-lawful) ((let by : Bytes (c.args.row.now) = typed (c.args.row.now) c.shared_slice_known-1.given in by)) ((let pending-read : Located (pending_at (c.args.at)) (read_at (optional (group pending)) (c.args.row.now) (c.args.at)) c.pending_field-1.given.0.0 c.pending_field-1.given.0.1.0 = located-at (pending_at _) _ (learn pending_says c.pending_at-pending_field.ensures c.pending_field-1.given.1) in pending-read)).read in pending-took)))).here) c.send_field-1.given.0.0 c.send_field-1.given.0.1.0 = located-at (send_at _) _ (learn send_says c.IsSend-at.ensures c.send_field-1.given.1) in send-read)).place
-    (omega (arith, (let pending_next : c.pending_field-1.given.0.1.0 ≡ c.args.at + length ((optional (group pending)).print ((let pending-read : Located (pending_at (c.args.at)) (read_at (optional (group pending)) (c.args.row.now) (c.args.at)) c.pending_field-1.given.0.0 c.pending_field-1.given.0.1.0 = located-at (pending_at _) _ (learn pending_says c.pending_at-pending_field.ensures c.pending_field-1.given.1) in pending-read)).value) = took-next _ _ (optional (group pending)) (optional-lawful (group pending) pending-lawful) ((let by : Bytes (c.args.row.now) = typed (c.args.row.now) c.shared_slice_known-1.given in by)) ((let pending-read : Located (pending_at (c.args.at)) (read_at (optional (group pending)) (c.args.row.now) (c.args.at)) c.pending_field-1.given.0.0 c.pending_field-1.given.0.1.0 = located-at (pending_at _) _ (learn pending_says c.pending_at-pending_field.ensures c.pending_field-1.given.1) in pending-read)).read (optional-not-past _ _ (group pending) ((let pending-read : Located (pending_at (c.args.at)) (read_at (optional (group pending)) (c.args.row.now) (c.args.at)) c.pending_field-1.given.0.0 c.pending_field-1.given.0.1.0 = located-at (pending_at _) _ (learn pending_says c.pending_at-pending_field.ensures c.pending_field-1.given.1) in pending-read)).read) in pending_next))))
+    send-read.place
+    (omega (arith, pending_next)))

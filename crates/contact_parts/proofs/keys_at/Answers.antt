@@ -11,7 +11,7 @@ use Rattle.layout.specs.Field.{takes, read_at}
 use Rattle.layout.specs.RowLaws.{Bytes}
 use Rattle.layout.proofs.Front.{number-lawful}
 use Rattle.layout.proofs.At.{learn, Took, typed, took, took-next, refused-at, takes_at, refuses-at}
-use Rattle.layout.proofs.Steps.{start, field-yes, field-no, done-yes}
+use Rattle.layout.proofs.Steps.{Reached, start, field-yes, field-no, done-yes}
 use Rattle.fields.specs.Says.{u32_says, u64_says}
 use Rattle.fields.proofs.Runs.{run-took, run_short}
 use Rattle.offsets.specs.Offset.{offset}
@@ -32,47 +32,94 @@ its-places from v door-a-to-b-at door-b-to-a-at route-key-at chain-key-at = λ i
 
 pub returns-in_default : goal.returns-in_default
 returns-in_default c =
-    let stop = field-no (start).so (run_short _ _ veiled 32 c.run_at.ensures.0 c.enum_told-1.given.1) in
-    (sym (ap (keys_found (c.args.at)) (refuses-at (c.args.row.now) (c.args.at) (group keys) stop)))
+    let r0 : (Reached keys c.args.row.now c.args.at) = start in
+    let stop = field-no r0.so (run_short _ _ veiled 32 c.run_at.ensures.0 c.in_default.is) in
+    (sym (ap (keys_found c.args.at) (refuses-at c.args.row.now c.args.at (group keys) stop)))
 
 pub returns-in_default-run_at : goal.returns-in_default-run_at
 returns-in_default-run_at c =
-    let stop = field-no ((field-yes (start).so (run-took _ _ veiled 32 c.run_at.ensures.0 ((let by : Bytes (c.args.row.now) = typed (c.args.row.now) c.shared_slice_known-1.given in by)) c.door_a_to_b-1.given.1))).so (run_short _ _ veiled 32 c.run_at-2.ensures.0 c.enum_told-in_default-run_at-1.given.1) in
-    (sym (ap (keys_found (c.args.at)) (refuses-at (c.args.row.now) (c.args.at) (group keys) stop)))
+    let r0 : (Reached keys c.args.row.now c.args.at) = start in
+    let by : Bytes c.args.row.now = typed c.args.row.now c.type_inv.row in
+    let r1 : (Reached keys c.args.row.now c.args.at) = field-yes r0.so (run-took _ _ veiled 32 c.run_at.ensures.0 by c.in-Value.is) in
+    let stop = field-no r1.so (run_short _ _ veiled 32 c.run_at-2.ensures.0 c.in_default-run_at.is) in
+    (sym (ap (keys_found c.args.at) (refuses-at c.args.row.now c.args.at (group keys) stop)))
 
 pub returns-in_default-run_at-2 : goal.returns-in_default-run_at-2
 returns-in_default-run_at-2 c =
-    let stop = field-no ((field-yes ((field-yes (start).so (run-took _ _ veiled 32 c.run_at.ensures.0 ((let by : Bytes (c.args.row.now) = typed (c.args.row.now) c.shared_slice_known-1.given in by)) c.door_a_to_b-1.given.1))).so (run-took _ _ veiled 32 c.run_at-2.ensures.0 ((let by : Bytes (c.args.row.now) = typed (c.args.row.now) c.shared_slice_known-1.given in by)) c.door_b_to_a-1.given.1))).so (run_short _ _ veiled 32 c.run_at-3.ensures.0 c.enum_told-in_default-run_at-2-1.given.1) in
-    (sym (ap (keys_found (c.args.at)) (refuses-at (c.args.row.now) (c.args.at) (group keys) stop)))
+    let r0 : (Reached keys c.args.row.now c.args.at) = start in
+    let by : Bytes c.args.row.now = typed c.args.row.now c.type_inv.row in
+    let r1 : (Reached keys c.args.row.now c.args.at) = field-yes r0.so (run-took _ _ veiled 32 c.run_at.ensures.0 by c.in-Value.is) in
+    let r2 : (Reached keys c.args.row.now c.args.at) = field-yes r1.so (run-took _ _ veiled 32 c.run_at-2.ensures.0 by c.in-Value-run_at.is) in
+    let stop = field-no r2.so (run_short _ _ veiled 32 c.run_at-3.ensures.0 c.in_default-run_at-2.is) in
+    (sym (ap (keys_found c.args.at) (refuses-at c.args.row.now c.args.at (group keys) stop)))
 
 pub returns-in_default-u64_at : goal.returns-in_default-u64_at
 returns-in_default-u64_at c =
-    let stop = field-no ((field-yes ((field-yes ((field-yes (start).so (run-took _ _ veiled 32 c.run_at.ensures.0 ((let by : Bytes (c.args.row.now) = typed (c.args.row.now) c.shared_slice_known-1.given in by)) c.door_a_to_b-1.given.1))).so (run-took _ _ veiled 32 c.run_at-2.ensures.0 ((let by : Bytes (c.args.row.now) = typed (c.args.row.now) c.shared_slice_known-1.given in by)) c.door_b_to_a-1.given.1))).so ((let route-key-took : Took (bytes veiled 32) (c.args.row.now) ((field-yes ((field-yes (start).so (run-took _ _ veiled 32 c.run_at.ensures.0 ((let by : Bytes (c.args.row.now) = typed (c.args.row.now) c.shared_slice_known-1.given in by)) c.door_a_to_b-1.given.1))).so (run-took _ _ veiled 32 c.run_at-2.ensures.0 ((let by : Bytes (c.args.row.now) = typed (c.args.row.now) c.shared_slice_known-1.given in by)) c.door_b_to_a-1.given.1))).here (take 32 (drop c.route_key-1.given.0.0 (c.args.row.now))) c.route_key-1.given.0.1.0 = run-took _ _ veiled 32 c.run_at-3.ensures.0 ((let by : Bytes (c.args.row.now) = typed (c.args.row.now) c.shared_slice_known-1.given in by)) c.route_key-1.given.1 in route-key-took)))).so (refused-at _ _ u64 (learn u64_says c.u64_at.ensures c.enum_told-in_default-u64_at-1.given.1)) in
-    (sym (ap (keys_found (c.args.at)) (refuses-at (c.args.row.now) (c.args.at) (group keys) stop)))
+    let r0 : (Reached keys c.args.row.now c.args.at) = start in
+    let by : Bytes c.args.row.now = typed c.args.row.now c.type_inv.row in
+    let r1 : (Reached keys c.args.row.now c.args.at) = field-yes r0.so (run-took _ _ veiled 32 c.run_at.ensures.0 by c.in-Value.is) in
+    let r2 : (Reached keys c.args.row.now c.args.at) = field-yes r1.so (run-took _ _ veiled 32 c.run_at-2.ensures.0 by c.in-Value-run_at.is) in
+    let route-key-took : Took (bytes veiled 32) c.args.row.now r2.here (take 32 (drop c.in-Value-run_at-2.route_key c.args.row.now)) c.in-Value-run_at-2.at3 = run-took _ _ veiled 32 c.run_at-3.ensures.0 by c.in-Value-run_at-2.is in
+    let r3 : (Reached keys c.args.row.now c.args.at) = field-yes r2.so route-key-took in
+    let stop = field-no r3.so (refused-at _ _ u64 (learn u64_says c.u64_at.ensures c.in_default-u64_at.is)) in
+    (sym (ap (keys_found c.args.at) (refuses-at c.args.row.now c.args.at (group keys) stop)))
 
 pub returns-in_default-run_at-3 : goal.returns-in_default-run_at-3
 returns-in_default-run_at-3 c =
-    let stop = field-no ((field-yes ((field-yes ((field-yes ((field-yes (start).so (run-took _ _ veiled 32 c.run_at.ensures.0 ((let by : Bytes (c.args.row.now) = typed (c.args.row.now) c.shared_slice_known-1.given in by)) c.door_a_to_b-1.given.1))).so (run-took _ _ veiled 32 c.run_at-2.ensures.0 ((let by : Bytes (c.args.row.now) = typed (c.args.row.now) c.shared_slice_known-1.given in by)) c.door_b_to_a-1.given.1))).so ((let route-key-took : Took (bytes veiled 32) (c.args.row.now) ((field-yes ((field-yes (start).so (run-took _ _ veiled 32 c.run_at.ensures.0 ((let by : Bytes (c.args.row.now) = typed (c.args.row.now) c.shared_slice_known-1.given in by)) c.door_a_to_b-1.given.1))).so (run-took _ _ veiled 32 c.run_at-2.ensures.0 ((let by : Bytes (c.args.row.now) = typed (c.args.row.now) c.shared_slice_known-1.given in by)) c.door_b_to_a-1.given.1))).here (take 32 (drop c.route_key-1.given.0.0 (c.args.row.now))) c.route_key-1.given.0.1.0 = run-took _ _ veiled 32 c.run_at-3.ensures.0 ((let by : Bytes (c.args.row.now) = typed (c.args.row.now) c.shared_slice_known-1.given in by)) c.route_key-1.given.1 in route-key-took)))).so (took _ _ u64 (number-lawful 8) ((let by : Bytes (c.args.row.now) = typed (c.args.row.now) c.shared_slice_known-1.given in by)) ((let resume-index-read : read_at u64 (c.args.row.now) ((field-yes ((field-yes ((field-yes (start).so (run-took _ _ veiled 32 c.run_at.ensures.0 ((let by : Bytes (c.args.row.now) = typed (c.args.row.now) c.shared_slice_known-1.given in by)) c.door_a_to_b-1.given.1))).so (run-took _ _ veiled 32 c.run_at-2.ensures.0 ((let by : Bytes (c.args.row.now) = typed (c.args.row.now) c.shared_slice_known-1.given in by)) c.door_b_to_a-1.given.1))).so ((let route-key-took : Took (bytes veiled 32) (c.args.row.now) ((field-yes ((field-yes (start).so (run-took _ _ veiled 32 c.run_at.ensures.0 ((let by : Bytes (c.args.row.now) = typed (c.args.row.now) c.shared_slice_known-1.given in by)) c.door_a_to_b-1.given.1))).so (run-took _ _ veiled 32 c.run_at-2.ensures.0 ((let by : Bytes (c.args.row.now) = typed (c.args.row.now) c.shared_slice_known-1.given in by)) c.door_b_to_a-1.given.1))).here (take 32 (drop c.route_key-1.given.0.0 (c.args.row.now))) c.route_key-1.given.0.1.0 = run-took _ _ veiled 32 c.run_at-3.ensures.0 ((let by : Bytes (c.args.row.now) = typed (c.args.row.now) c.shared_slice_known-1.given in by)) c.route_key-1.given.1 in route-key-took)))).here ≡ takes c.resume_index-1.given.0.0 c.resume_index-1.given.0.1.0 = learn u64_says c.u64_at.ensures c.resume_index-1.given.1 in resume-index-read))))).so (run_short _ _ veiled 32 c.run_at-4.ensures.0 c.enum_told-in_default-run_at-3-1.given.1) in
-    (sym (ap (keys_found (c.args.at)) (refuses-at (c.args.row.now) (c.args.at) (group keys) stop)))
+    let r0 : (Reached keys c.args.row.now c.args.at) = start in
+    let by : Bytes c.args.row.now = typed c.args.row.now c.type_inv.row in
+    let r1 : (Reached keys c.args.row.now c.args.at) = field-yes r0.so (run-took _ _ veiled 32 c.run_at.ensures.0 by c.in-Value.is) in
+    let r2 : (Reached keys c.args.row.now c.args.at) = field-yes r1.so (run-took _ _ veiled 32 c.run_at-2.ensures.0 by c.in-Value-run_at.is) in
+    let route-key-took : Took (bytes veiled 32) c.args.row.now r2.here (take 32 (drop c.in-Value-run_at-2.route_key c.args.row.now)) c.in-Value-run_at-2.at3 = run-took _ _ veiled 32 c.run_at-3.ensures.0 by c.in-Value-run_at-2.is in
+    let r3 : (Reached keys c.args.row.now c.args.at) = field-yes r2.so route-key-took in
+    let resume-index-read : read_at u64 c.args.row.now r3.here ≡ takes c.in-Value-u64_at.resume_index c.in-Value-u64_at.at4 = learn u64_says c.u64_at.ensures c.in-Value-u64_at.is in
+    let r4 : (Reached keys c.args.row.now c.args.at) = field-yes r3.so (took _ _ u64 (number-lawful 8) by resume-index-read) in
+    let stop = field-no r4.so (run_short _ _ veiled 32 c.run_at-4.ensures.0 c.in_default-run_at-3.is) in
+    (sym (ap (keys_found c.args.at) (refuses-at c.args.row.now c.args.at (group keys) stop)))
 
 pub returns-in_default-u32_at : goal.returns-in_default-u32_at
 returns-in_default-u32_at c =
-    let stop = field-no ((field-yes ((field-yes ((field-yes ((field-yes ((field-yes (start).so (run-took _ _ veiled 32 c.run_at.ensures.0 ((let by : Bytes (c.args.row.now) = typed (c.args.row.now) c.shared_slice_known-1.given in by)) c.door_a_to_b-1.given.1))).so (run-took _ _ veiled 32 c.run_at-2.ensures.0 ((let by : Bytes (c.args.row.now) = typed (c.args.row.now) c.shared_slice_known-1.given in by)) c.door_b_to_a-1.given.1))).so ((let route-key-took : Took (bytes veiled 32) (c.args.row.now) ((field-yes ((field-yes (start).so (run-took _ _ veiled 32 c.run_at.ensures.0 ((let by : Bytes (c.args.row.now) = typed (c.args.row.now) c.shared_slice_known-1.given in by)) c.door_a_to_b-1.given.1))).so (run-took _ _ veiled 32 c.run_at-2.ensures.0 ((let by : Bytes (c.args.row.now) = typed (c.args.row.now) c.shared_slice_known-1.given in by)) c.door_b_to_a-1.given.1))).here (take 32 (drop c.route_key-1.given.0.0 (c.args.row.now))) c.route_key-1.given.0.1.0 = run-took _ _ veiled 32 c.run_at-3.ensures.0 ((let by : Bytes (c.args.row.now) = typed (c.args.row.now) c.shared_slice_known-1.given in by)) c.route_key-1.given.1 in route-key-took)))).so (took _ _ u64 (number-lawful 8) ((let by : Bytes (c.args.row.now) = typed (c.args.row.now) c.shared_slice_known-1.given in by)) ((let resume-index-read : read_at u64 (c.args.row.now) ((field-yes ((field-yes ((field-yes (start).so (run-took _ _ veiled 32 c.run_at.ensures.0 ((let by : Bytes (c.args.row.now) = typed (c.args.row.now) c.shared_slice_known-1.given in by)) c.door_a_to_b-1.given.1))).so (run-took _ _ veiled 32 c.run_at-2.ensures.0 ((let by : Bytes (c.args.row.now) = typed (c.args.row.now) c.shared_slice_known-1.given in by)) c.door_b_to_a-1.given.1))).so ((let route-key-took : Took (bytes veiled 32) (c.args.row.now) ((field-yes ((field-yes (start).so (run-took _ _ veiled 32 c.run_at.ensures.0 ((let by : Bytes (c.args.row.now) = typed (c.args.row.now) c.shared_slice_known-1.given in by)) c.door_a_to_b-1.given.1))).so (run-took _ _ veiled 32 c.run_at-2.ensures.0 ((let by : Bytes (c.args.row.now) = typed (c.args.row.now) c.shared_slice_known-1.given in by)) c.door_b_to_a-1.given.1))).here (take 32 (drop c.route_key-1.given.0.0 (c.args.row.now))) c.route_key-1.given.0.1.0 = run-took _ _ veiled 32 c.run_at-3.ensures.0 ((let by : Bytes (c.args.row.now) = typed (c.args.row.now) c.shared_slice_known-1.given in by)) c.route_key-1.given.1 in route-key-took)))).here ≡ takes c.resume_index-1.given.0.0 c.resume_index-1.given.0.1.0 = learn u64_says c.u64_at.ensures c.resume_index-1.given.1 in resume-index-read))))).so (run-took _ _ veiled 32 c.run_at-4.ensures.0 ((let by : Bytes (c.args.row.now) = typed (c.args.row.now) c.shared_slice_known-1.given in by)) c.chain_key-1.given.1))).so (refused-at _ _ u32 (learn u32_says c.u32_at.ensures c.enum_told-in_default-u32_at-1.given.1)) in
-    (sym (ap (keys_found (c.args.at)) (refuses-at (c.args.row.now) (c.args.at) (group keys) stop)))
+    let r0 : (Reached keys c.args.row.now c.args.at) = start in
+    let by : Bytes c.args.row.now = typed c.args.row.now c.type_inv.row in
+    let r1 : (Reached keys c.args.row.now c.args.at) = field-yes r0.so (run-took _ _ veiled 32 c.run_at.ensures.0 by c.in-Value.is) in
+    let r2 : (Reached keys c.args.row.now c.args.at) = field-yes r1.so (run-took _ _ veiled 32 c.run_at-2.ensures.0 by c.in-Value-run_at.is) in
+    let route-key-took : Took (bytes veiled 32) c.args.row.now r2.here (take 32 (drop c.in-Value-run_at-2.route_key c.args.row.now)) c.in-Value-run_at-2.at3 = run-took _ _ veiled 32 c.run_at-3.ensures.0 by c.in-Value-run_at-2.is in
+    let r3 : (Reached keys c.args.row.now c.args.at) = field-yes r2.so route-key-took in
+    let resume-index-read : read_at u64 c.args.row.now r3.here ≡ takes c.in-Value-u64_at.resume_index c.in-Value-u64_at.at4 = learn u64_says c.u64_at.ensures c.in-Value-u64_at.is in
+    let r4 : (Reached keys c.args.row.now c.args.at) = field-yes r3.so (took _ _ u64 (number-lawful 8) by resume-index-read) in
+    let r5 : (Reached keys c.args.row.now c.args.at) = field-yes r4.so (run-took _ _ veiled 32 c.run_at-4.ensures.0 by c.in-Value-run_at-3.is) in
+    let stop = field-no r5.so (refused-at _ _ u32 (learn u32_says c.u32_at.ensures c.in_default-u32_at.is)) in
+    (sym (ap (keys_found c.args.at) (refuses-at c.args.row.now c.args.at (group keys) stop)))
 
 pub returns : goal.returns
 returns c =
+    let r0 : (Reached keys c.args.row.now c.args.at) = start in
+    let by : Bytes c.args.row.now = typed c.args.row.now c.type_inv.row in
+    let r1 : (Reached keys c.args.row.now c.args.at) = field-yes r0.so (run-took _ _ veiled 32 c.run_at.ensures.0 by c.in-Value.is) in
+    let r2 : (Reached keys c.args.row.now c.args.at) = field-yes r1.so (run-took _ _ veiled 32 c.run_at-2.ensures.0 by c.in-Value-run_at.is) in
+    let route-key-took : Took (bytes veiled 32) c.args.row.now r2.here (take 32 (drop c.in-Value-run_at-2.route_key c.args.row.now)) c.in-Value-run_at-2.at3 = run-took _ _ veiled 32 c.run_at-3.ensures.0 by c.in-Value-run_at-2.is in
+    let r3 : (Reached keys c.args.row.now c.args.at) = field-yes r2.so route-key-took in
+    let resume-index-read : read_at u64 c.args.row.now r3.here ≡ takes c.in-Value-u64_at.resume_index c.in-Value-u64_at.at4 = learn u64_says c.u64_at.ensures c.in-Value-u64_at.is in
+    let r4 : (Reached keys c.args.row.now c.args.at) = field-yes r3.so (took _ _ u64 (number-lawful 8) by resume-index-read) in
+    let r5 : (Reached keys c.args.row.now c.args.at) = field-yes r4.so (run-took _ _ veiled 32 c.run_at-4.ensures.0 by c.in-Value-run_at-3.is) in
+    let sent-msgno-took : Took u32 c.args.row.now r5.here c.in-Value-u32_at.sent_msgno c.in-Value-u32_at.at6 = took _ _ u32 (number-lawful 4) by (learn u32_says c.u32_at.ensures c.in-Value-u32_at.is) in
+    let r6 : (Reached keys c.args.row.now c.args.at) = field-yes r5.so sent-msgno-took in
+    let door-a-to-b-run : Run c.args.at (take 32 (drop c.in-Value.door_a_to_b c.args.row.now)) c.in-Value.door_a_to_b c.in-Value.at1 = run-starts _ _ 32 by (omega arith) c.run_at.ensures c.in-Value.is in
+    let door-b-to-a-run : Run r1.here (take 32 (drop c.in-Value-run_at.door_b_to_a c.args.row.now)) c.in-Value-run_at.door_b_to_a c.in-Value-run_at.at2 = run-starts _ _ 32 by (omega arith) c.run_at-2.ensures c.in-Value-run_at.is in
+    let route-key-run : Run r2.here (take 32 (drop c.in-Value-run_at-2.route_key c.args.row.now)) c.in-Value-run_at-2.route_key c.in-Value-run_at-2.at3 = run-starts _ _ 32 by (omega arith) c.run_at-3.ensures c.in-Value-run_at-2.is in
+    let resume-index-next : c.in-Value-u64_at.at4 ≡ r3.here + length (u64.print c.in-Value-u64_at.resume_index) = took-next _ _ u64 (number-lawful 8) by resume-index-read route-key-took.inside in
+    let chain-key-run : Run r4.here (take 32 (drop c.in-Value-run_at-3.chain_key c.args.row.now)) c.in-Value-run_at-3.chain_key c.in-Value-run_at-3.at5 = run-starts _ _ 32 by (omega arith) c.run_at-4.ensures c.in-Value-run_at-3.is in
     let its : Keys = record {
-      door_a_to_b = take 32 (drop c.door_a_to_b-1.given.0.0 (c.args.row.now));
-      door_b_to_a = take 32 (drop c.door_b_to_a-1.given.0.0 (c.args.row.now));
-      route_key = take 32 (drop c.route_key-1.given.0.0 (c.args.row.now));
-      resume_index = c.resume_index-1.given.0.0;
-      chain_key = take 32 (drop c.chain_key-1.given.0.0 (c.args.row.now));
-      sent_msgno = c.sent_msgno-1.given.0.0;
+      door_a_to_b = take 32 (drop c.in-Value.door_a_to_b c.args.row.now);
+      door_b_to_a = take 32 (drop c.in-Value-run_at.door_b_to_a c.args.row.now);
+      route_key = take 32 (drop c.in-Value-run_at-2.route_key c.args.row.now);
+      resume_index = c.in-Value-u64_at.resume_index;
+      chain_key = take 32 (drop c.in-Value-run_at-3.chain_key c.args.row.now);
+      sent_msgno = c.in-Value-u32_at.sent_msgno;
     } in
-    (next} all inside is = ap (λ (place : KeysAt). Value place next) is ∙ sym (ap (keys_found (c.args.at)) (takes_at (c.args.row.now) (c.args.at) (group keys) all inside))) (done-yes ((field-yes ((field-yes ((field-yes ((field-yes ((field-yes ((field-yes (start).so (run-took _ _ veiled 32 c.run_at.ensures.0 ((let by : Bytes (c.args.row.now) = typed (c.args.row.now) c.shared_slice_known-1.given in by)) c.door_a_to_b-1.given.1))).so (run-took _ _ veiled 32 c.run_at-2.ensures.0 ((let by : Bytes (c.args.row.now) = typed (c.args.row.now) c.shared_slice_known-1.given in by)) c.door_b_to_a-1.given.1))).so ((let route-key-took : Took (bytes veiled 32) (c.args.row.now) ((field-yes ((field-yes (start).so (run-took _ _ veiled 32 c.run_at.ensures.0 ((let by : Bytes (c.args.row.now) = typed (c.args.row.now) c.shared_slice_known-1.given in by)) c.door_a_to_b-1.given.1))).so (run-took _ _ veiled 32 c.run_at-2.ensures.0 ((let by : Bytes (c.args.row.now) = typed (c.args.row.now) c.shared_slice_known-1.given in by)) c.door_b_to_a-1.given.1))).here (take 32 (drop c.route_key-1.given.0.0 (c.args.row.now))) c.route_key-1.given.0.1.0 = run-took _ _ veiled 32 c.run_at-3.ensures.0 ((let by : Bytes (c.args.row.now) = typed (c.args.row.now) c.shared_slice_known-1.given in by)) c.route_key-1.given.1 in route-key-took)))).so (took _ _ u64 (number-lawful 8) ((let by : Bytes (c.args.row.now) = typed (c.args.row.now) c.shared_slice_known-1.given in by)) ((let resume-index-read : read_at u64 (c.args.row.now) ((field-yes ((field-yes ((field-yes (start).so (run-took _ _ veiled 32 c.run_at.ensures.0 ((let by : Bytes (c.args.row.now) = typed (c.args.row.now) c.shared_slice_known-1.given in by)) c.door_a_to_b-1.given.1))).so (run-took _ _ veiled 32 c.run_at-2.ensures.0 ((let by : Bytes (c.args.row.now) = typed (c.args.row.now) c.shared_slice_known-1.given in by)) c.door_b_to_a-1.given.1))).so ((let route-key-took : Took (bytes veiled 32) (c.args.row.now) ((field-yes ((field-yes (start).so (run-took _ _ veiled 32 c.run_at.ensures.0 ((let by : Bytes (c.args.row.now) = typed (c.args.row.now) c.shared_slice_known-1.given in by)) c.door_a_to_b-1.given.1))).so (run-took _ _ veiled 32 c.run_at-2.ensures.0 ((let by : Bytes (c.args.row.now) = typed (c.args.row.now) c.shared_slice_known-1.given in by)) c.door_b_to_a-1.given.1))).here (take 32 (drop c.route_key-1.given.0.0 (c.args.row.now))) c.route_key-1.given.0.1.0 = run-took _ _ veiled 32 c.run_at-3.ensures.0 ((let by : Bytes (c.args.row.now) = typed (c.args.row.now) c.shared_slice_known-1.given in by)) c.route_key-1.given.1 in route-key-took)))).here ≡ takes c.resume_index-1.given.0.0 c.resume_index-1.given.0.1.0 = learn u64_says c.u64_at.ensures c.resume_index-1.given.1 in resume-index-read))))).so (run-took _ _ veiled 32 c.run_at-4.ensures.0 ((let by : Bytes (c.args.row.now) = typed (c.args.row.now) c.shared_slice_known-1.given in by)) c.chain_key-1.given.1))).so ((let sent-msgno-took : Took u32 (c.args.row.now) ((field-yes ((field-yes ((field-yes ((field-yes ((field-yes (start).so (run-took _ _ veiled 32 c.run_at.ensures.0 ((let by : Bytes (c.args.row.now) = typed (c.args.row.now) c.shared_slice_known-1.given in by)) c.door_a_to_b-1.given.1))).so (run-took _ _ veiled 32 c.run_at-2.ensures.0 ((let by : Bytes (c.args.row.now) = typed (c.args.row.now) c.shared_slice_known-1.given in by)) c.door_b_to_a-1.given.1))).so ((let route-key-took : Took (bytes veiled 32) (c.args.row.now) ((field-yes ((field-yes (start).so (run-took _ _ veiled 32 c.run_at.ensures.0 ((let by : Bytes (c.args.row.now) = typed (c.args.row.now) c.shared_slice_known-1.given in by)) c.door_a_to_b-1.given.1))).so (run-took _ _ veiled 32 c.run_at-2.ensures.0 ((let by : Bytes (c.args.row.now) = typed (c.args.row.now) c.shared_slice_known-1.given in by)) c.door_b_to_a-1.given.1))).here (take 32 (drop c.route_key-1.given.0.0 (c.args.row.now))) c.route_key-1.given.0.1.0 = run-took _ _ veiled 32 c.run_at-3.ensures.0 ((let by : Bytes (c.args.row.now) = typed (c.args.row.now) c.shared_slice_known-1.given in by)) c.route_key-1.given.1 in route-key-took)))).so (took _ _ u64 (number-lawful 8) ((let by : Bytes (c.args.row.now) = typed (c.args.row.now) c.shared_slice_known-1.given in by)) ((let resume-index-read : read_at u64 (c.args.row.now) ((field-yes ((field-yes ((field-yes (start).so (run-took _ _ veiled 32 c.run_at.ensures.0 ((let by : Bytes (c.args.row.now) = typed (c.args.row.now) c.shared_slice_known-1.given in by)) c.door_a_to_b-1.given.1))).so (run-took _ _ veiled 32 c.run_at-2.ensures.0 ((let by : Bytes (c.args.row.now) = typed (c.args.row.now) c.shared_slice_known-1.given in by)) c.door_b_to_a-1.given.1))).so ((let route-key-took : Took (bytes veiled 32) (c.args.row.now) ((field-yes ((field-yes (start).so (run-took _ _ veiled 32 c.run_at.ensures.0 ((let by : Bytes (c.args.row.now) = typed (c.args.row.now) c.shared_slice_known-1.given in by)) c.door_a_to_b-1.given.1))).so (run-took _ _ veiled 32 c.run_at-2.ensures.0 ((let by : Bytes (c.args.row.now) = typed (c.args.row.now) c.shared_slice_known-1.given in by)) c.door_b_to_a-1.given.1))).here (take 32 (drop c.route_key-1.given.0.0 (c.args.row.now))) c.route_key-1.given.0.1.0 = run-took _ _ veiled 32 c.run_at-3.ensures.0 ((let by : Bytes (c.args.row.now) = typed (c.args.row.now) c.shared_slice_known-1.given in by)) c.route_key-1.given.1 in route-key-took)))).here ≡ takes c.resume_index-1.given.0.0 c.resume_index-1.given.0.1.0 = learn u64_says c.u64_at.ensures c.resume_index-1.given.1 in resume-index-read))))).so (run-took _ _ veiled 32 c.run_at-4.ensures.0 ((let by : Bytes (c.args.row.now) = typed (c.args.row.now) c.shared_slice_known-1.given in by)) c.chain_key-1.given.1))).here c.sent_msgno-1.given.0.0 c.sent_msgno-1.given.0.1.0 = took _ _ u32 (number-lawful 4) ((let by : Bytes (c.args.row.now) = typed (c.args.row.now) c.shared_slice_known-1.given in by)) (learn u32_says c.u32_at.ensures c.sent_msgno-1.given.1) in sent-msgno-took)))).so) ((let sent-msgno-took : Took u32 (c.args.row.now) ((field-yes ((field-yes ((field-yes ((field-yes ((field-yes (start).so (run-took _ _ veiled 32 c.run_at.ensures.0 ((let by : Bytes (c.args.row.now) = typed (c.args.row.now) c.shared_slice_known-1.given in by)) c.door_a_to_b-1.given.1))).so (run-took _ _ veiled 32 c.run_at-2.ensures.0 ((let by : Bytes (c.args.row.now) = typed (c.args.row.now) c.shared_slice_known-1.given in by)) c.door_b_to_a-1.given.1))).so ((let route-key-took : Took (bytes veiled 32) (c.args.row.now) ((field-yes ((field-yes (start).so (run-took _ _ veiled 32 c.run_at.ensures.0 ((let by : Bytes (c.args.row.now) = typed (c.args.row.now) c.shared_slice_known-1.given in by)) c.door_a_to_b-1.given.1))).so (run-took _ _ veiled 32 c.run_at-2.ensures.0 ((let by : Bytes (c.args.row.now) = typed (c.args.row.now) c.shared_slice_known-1.given in by)) c.door_b_to_a-1.given.1))).here (take 32 (drop c.route_key-1.given.0.0 (c.args.row.now))) c.route_key-1.given.0.1.0 = run-took _ _ veiled 32 c.run_at-3.ensures.0 ((let by : Bytes (c.args.row.now) = typed (c.args.row.now) c.shared_slice_known-1.given in by)) c.route_key-1.given.1 in route-key-took)))).so (took _ _ u64 (number-lawful 8) ((let by : Bytes (c.args.row.now) = typed (c.args.row.now) c.shared_slice_known-1.given in by)) ((let resume-index-read : read_at u64 (c.args.row.now) ((field-yes ((field-yes ((field-yes (start).so (run-took _ _ veiled 32 c.run_at.ensures.0 ((let by : Bytes (c.args.row.now) = typed (c.args.row.now) c.shared_slice_known-1.given in by)) c.door_a_to_b-1.given.1))).so (run-took _ _ veiled 32 c.run_at-2.ensures.0 ((let by : Bytes (c.args.row.now) = typed (c.args.row.now) c.shared_slice_known-1.given in by)) c.door_b_to_a-1.given.1))).so ((let route-key-took : Took (bytes veiled 32) (c.args.row.now) ((field-yes ((field-yes (start).so (run-took _ _ veiled 32 c.run_at.ensures.0 ((let by : Bytes (c.args.row.now) = typed (c.args.row.now) c.shared_slice_known-1.given in by)) c.door_a_to_b-1.given.1))).so (run-took _ _ veiled 32 c.run_at-2.ensures.0 ((let by : Bytes (c.args.row.now) = typed (c.args.row.now) c.shared_slice_known-1.given in by)) c.door_b_to_a-1.given.1))).here (take 32 (drop c.route_key-1.given.0.0 (c.args.row.now))) c.route_key-1.given.0.1.0 = run-took _ _ veiled 32 c.run_at-3.ensures.0 ((let by : Bytes (c.args.row.now) = typed (c.args.row.now) c.shared_slice_known-1.given in by)) c.route_key-1.given.1 in route-key-took)))).here ≡ takes c.resume_index-1.given.0.0 c.resume_index-1.given.0.1.0 = learn u64_says c.u64_at.ensures c.resume_index-1.given.1 in resume-index-read))))).so (run-took _ _ veiled 32 c.run_at-4.ensures.0 ((let by : Bytes (c.args.row.now) = typed (c.args.row.now) c.shared_slice_known-1.given in by)) c.chain_key-1.given.1))).here c.sent_msgno-1.given.0.0 c.sent_msgno-1.given.0.1.0 = took _ _ u32 (number-lawful 4) ((let by : Bytes (c.args.row.now) = typed (c.args.row.now) c.shared_slice_known-1.given in by)) (learn u32_says c.u32_at.ensures c.sent_msgno-1.given.1) in sent-msgno-took)).inside
-    (its-places (c.args.at) its
-    (omega (arith, ((let door-a-to-b-run : Run (c.args.at) (take 32 (drop c.door_a_to_b-1.given.0.0 (c.args.row.now))) c.door_a_to_b-1.given.0.0 c.door_a_to_b-1.given.0.1.0 = run-starts _ _ 32 ((let by : Bytes (c.args.row.now) = typed (c.args.row.now) c.shared_slice_known-1.given in by)) (omega arith) c.run_at.ensures c.door_a_to_b-1.given.1 in door-a-to-b-run)).starts))
-    (omega (arith, ((let door-a-to-b-run : Run (c.args.at) (take 32 (drop c.door_a_to_b-1.given.0.0 (c.args.row.now))) c.door_a_to_b-1.given.0.0 c.door_a_to_b-1.given.0.1.0 = run-starts _ _ 32 ((let by : Bytes (c.args.row.now) = typed (c.args.row.now) c.shared_slice_known-1.given in by)) (omega arith) c.run_at.ensures c.door_a_to_b-1.given.1 in door-a-to-b-run)).ends, ((let door-b-to-a-run : Run ((field-yes (start).so (run-took _ _ veiled 32 c.run_at.ensures.0 ((let by : Bytes (c.args.row.now) = typed (c.args.row.now) c.shared_slice_known-1.given in by)) c.door_a_to_b-1.given.1))).here (take 32 (drop c.door_b_to_a-1.given.0.0 (c.args.row.now))) c.door_b_to_a-1.given.0.0 c.door_b_to_a-1.given.0.1.0 = run-starts _ _ 32 ((let by : Bytes (c.args.row.now) = typed (c.args.row.now) c.shared_slice_known-1.given in by)) (omega arith) c.run_at-2.ensures c.door_b_to_a-1.given.1 in door-b-to-a-run)).starts))
-    (omega (arith, ((let door-a-to-b-run : Run (c.args.at) (take 32 (drop c.door_a_to_b-1.given.0.0 (c.args.row.now))) c.door_a_to_b-1.given.0.0 c.door_a_to_b-1.given.0.1.0 = run-starts _ _ 32 ((let by : Bytes (c.args.row.now) = typed (c.args.row.now) c.shared_slice_known-1.given in by)) (omega arith) c.run_at.ensures c.door_a_to_b-1.given.1 in door-a-to-b-run)).ends, ((let door-b-to-a-run : Run ((field-yes (start).so (run-took _ _ veiled 32 c.run_at.ensures.0 ((let by : Bytes (c.args.row.now) = typed (c.args.row.now) c.shared_slice_known-1.given in by)) c.door_a_to_b-1.given.1))).here (take 32 (drop c.door_b_to_a-1.given.0.0 (c.args.row.now))) c.door_b_to_a-1.given.0.0 c.door_b_to_a-1.given.0.1.0 = run-starts _ _ 32 ((let by : Bytes (c.args.row.now) = typed (c.args.row.now) c.shared_slice_known-1.given in by)) (omega arith) c.run_at-2.ensures c.door_b_to_a-1.given.1 in door-b-to-a-run)).ends, ((let route-key-run : Run ((field-yes ((field-yes (start).so (run-took _ _ veiled 32 c.run_at.ensures.0 ((let by : Bytes (c.args.row.now) = typed (c.args.row.now) c.shared_slice_known-1.given in by)) c.door_a_to_b-1.given.1))).so (run-took _ _ veiled 32 c.run_at-2.ensures.0 ((let by : Bytes (c.args.row.now) = typed (c.args.row.now) c.shared_slice_known-1.given in by)) c.door_b_to_a-1.given.1))).here (take 32 (drop c.route_key-1.given.0.0 (c.args.row.now))) c.route_key-1.given.0.0 c.route_key-1.given.0.1.0 = run-starts _ _ 32 ((let by : Bytes (c.args.row.now) = typed (c.args.row.now) c.shared_slice_known-1.given in by)) (omega arith) c.run_at-3.ensures c.route_key-1.given.1 in route-key-run)).starts))
-    (omega (arith, ((let door-a-to-b-run : Run (c.args.at) (take 32 (drop c.door_a_to_b-1.given.0.0 (c.args.row.now))) c.door_a_to_b-1.given.0.0 c.door_a_to_b-1.given.0.1.0 = run-starts _ _ 32 ((let by : Bytes (c.args.row.now) = typed (c.args.row.now) c.shared_slice_known-1.given in by)) (omega arith) c.run_at.ensures c.door_a_to_b-1.given.1 in door-a-to-b-run)).ends, ((let door-b-to-a-run : Run ((field-yes (start).so (run-took _ _ veiled 32 c.run_at.ensures.0 ((let by : Bytes (c.args.row.now) = typed (c.args.row.now) c.shared_slice_known-1.given in by)) c.door_a_to_b-1.given.1))).here (take 32 (drop c.door_b_to_a-1.given.0.0 (c.args.row.now))) c.door_b_to_a-1.given.0.0 c.door_b_to_a-1.given.0.1.0 = run-starts _ _ 32 ((let by : Bytes (c.args.row.now) = typed (c.args.row.now) c.shared_slice_known-1.given in by)) (omega arith) c.run_at-2.ensures c.door_b_to_a-1.given.1 in door-b-to-a-run)).ends, ((let route-key-run : Run ((field-yes ((field-yes (start).so (run-took _ _ veiled 32 c.run_at.ensures.0 ((let by : Bytes (c.args.row.now) = typed (c.args.row.now) c.shared_slice_known-1.given in by)) c.door_a_to_b-1.given.1))).so (run-took _ _ veiled 32 c.run_at-2.ensures.0 ((let by : Bytes (c.args.row.now) = typed (c.args.row.now) c.shared_slice_known-1.given in by)) c.door_b_to_a-1.given.1))).here (take 32 (drop c.route_key-1.given.0.0 (c.args.row.now))) c.route_key-1.given.0.0 c.route_key-1.given.0.1.0 = run-starts _ _ 32 ((let by : Bytes (c.args.row.now) = typed (c.args.row.now) c.shared_slice_known-1.given in by)) (omega arith) c.run_at-3.ensures c.route_key-1.given.1 in route-key-run)).ends, (let resume-index-next : c.resume_index-1.given.0.1.0 ≡ ((field-yes ((field-yes ((field-yes (start).so (run-took _ _ veiled 32 c.run_at.ensures.0 ((let by : Bytes (c.args.row.now) = typed (c.args.row.now) c.shared_slice_known-1.given in by)) c.door_a_to_b-1.given.1))).so (run-took _ _ veiled 32 c.run_at-2.ensures.0 ((let by : Bytes (c.args.row.now) = typed (c.args.row.now) c.shared_slice_known-1.given in by)) c.door_b_to_a-1.given.1))).so ((let route-key-took : Took (bytes veiled 32) (c.args.row.now) ((field-yes ((field-yes (start).so (run-took _ _ veiled 32 c.run_at.ensures.0 ((let by : Bytes (c.args.row.now) = typed (c.args.row.now) c.shared_slice_known-1.given in by)) c.door_a_to_b-1.given.1))).so (run-took _ _ veiled 32 c.run_at-2.ensures.0 ((let by : Bytes (c.args.row.now) = typed (c.args.row.now) c.shared_slice_known-1.given in by)) c.door_b_to_a-1.given.1))).here (take 32 (drop c.route_key-1.given.0.0 (c.args.row.now))) c.route_key-1.given.0.1.0 = run-took _ _ veiled 32 c.run_at-3.ensures.0 ((let by : Bytes (c.args.row.now) = typed (c.args.row.now) c.shared_slice_known-1.given in by)) c.route_key-1.given.1 in route-key-took)))).here + length (u64.print c.resume_index-1.given.0.0) = took-next _ _ u64 (number-lawful 8) ((let by : Bytes (c.args.row.now) = typed (c.args.row.now) c.shared_slice_known-1.given in by)) ((let resume-index-read : read_at u64 (c.args.row.now) ((field-yes ((field-yes ((field-yes (start).so (run-took _ _ veiled 32 c.run_at.ensures.0 ((let by : Bytes (c.args.row.now) = typed (c.args.row.now) c.shared_slice_known-1.given in by)) c.door_a_to_b-1.given.1))).so (run-took _ _ veiled 32 c.run_at-2.ensures.0 ((let by : Bytes (c.args.row.now) = typed (c.args.row.now) c.shared_slice_known-1.given in by)) c.door_b_to_a-1.given.1))).so ((let route-key-took : Took (bytes veiled 32) (c.args.row.now) ((field-yes ((field-yes (start).so (run-took _ _ veiled 32 c.run_at.ensures.0 ((let by : Bytes (c.args.row.now) = typed (c.args.row.now) c.shared_slice_known-1.given in by)) c.door_a_to_b-1.given.1))).so (run-took _ _ veiled 32 c.run_at-2.ensures.0 ((let by : Bytes (c.args.row.now) = typed (c.args.row.now) c.shared_slice_known-1.given in by)) c.door_b_to_a-1.given.1))).here (take 32 (drop c.route_key-1.given.0.0 (c.args.row.now))) c.route_key-1.given.0.1.0 = run-took _ _ veiled 32 c.run_at-3.ensures.0 ((let by : Bytes (c.args.row.now) = typed (c.args.row.now) c.shared_slice_known-1.given in by)) c.route_key-1.given.1 in route-key-took)))).here ≡ takes c.resume_index-1.given.0.0 c.resume_index-1.given.0.1.0 = learn u64_says c.u64_at.ensures c.resume_index-1.given.1 in resume-index-read)) ((let route-key-took : Took (bytes veiled 32) (c.args.row.now) ((field-yes ((field-yes (start).so (run-took _ _ veiled 32 c.run_at.ensures.0 ((let by : Bytes (c.args.row.now) = typed (c.args.row.now) c.shared_slice_known-1.given in by)) c.door_a_to_b-1.given.1))).so (run-took _ _ veiled 32 c.run_at-2.ensures.0 ((let by : Bytes (c.args.row.now) = typed (c.args.row.now) c.shared_slice_known-1.given in by)) c.door_b_to_a-1.given.1))).here (take 32 (drop c.route_key-1.given.0.0 (c.args.row.now))) c.route_key-1.given.0.1.0 = run-took _ _ veiled 32 c.run_at-3.ensures.0 ((let by : Bytes (c.args.row.now) = typed (c.args.row.now) c.shared_slice_known-1.given in by)) c.route_key-1.given.1 in route-key-took)).inside in resume-index-next), ((let chain-key-run : Run ((field-yes ((field-yes ((field-yes ((field-yes (start).so (run-took _ _ veiled 32 c.run_at.ensures.0 ((let by : Bytes (c.args.row.now) = typed (c.args.row.now) c.shared_slice_known-1.given in by)) c.door_a_to_b-1.given.1))).so (run-took _ _ veiled 32 c.run_at-2.ensures.0 ((let by : Bytes (c.args.row.now) = typed (c.args.row.now) c.shared_slice_known-1.given in by)) c.door_b_to_a-1.given.1))).so ((let route-key-took : Took (bytes veiled 32) (c.args.row.now) ((field-yes ((field-yes (start).so (run-took _ _ veiled 32 c.run_at.ensures.0 ((let by : Bytes (c.args.row.now) = typed (c.args.row.now) c.shared_slice_known-1.given in by)) c.door_a_to_b-1.given.1))).so (run-took _ _ veiled 32 c.run_at-2.ensures.0 ((let by : Bytes (c.args.row.now) = typed (c.args.row.now) c.shared_slice_known-1.given in by)) c.door_b_to_a-1.given.1))).here (take 32 (drop c.route_key-1.given.0.0 (c.args.row.now))) c.route_key-1.given.0.1.0 = run-took _ _ veiled 32 c.run_at-3.ensures.0 ((let by : Bytes (c.args.row.now) = typed (c.args.row.now) c.shared_slice_known-1.given in by)) c.route_key-1.given.1 in route-key-took)))).so (took _ _ u64 (number-lawful 8) ((let by : Bytes (c.args.row.now) = typed (c.args.row.now) c.shared_slice_known-1.given in by)) ((let resume-index-read : read_at u64 (c.args.row.now) ((field-yes ((field-yes ((field-yes (start).so (run-took _ _ veiled 32 c.run_at.ensures.0 ((let by : Bytes (c.args.row.now) = typed (c.args.row.now) c.shared_slice_known-1.given in by)) c.door_a_to_b-1.given.1))).so (run-took _ _ veiled 32 c.run_at-2.ensures.0 ((let by : Bytes (c.args.row.now) = typed (c.args.row.now) c.shared_slice_known-1.given in by)) c.door_b_to_a-1.given.1))).so ((let route-key-took : Took (bytes veiled 32) (c.args.row.now) ((field-yes ((field-yes (start).so (run-took _ _ veiled 32 c.run_at.ensures.0 ((let by : Bytes (c.args.row.now) = typed (c.args.row.now) c.shared_slice_known-1.given in by)) c.door_a_to_b-1.given.1))).so (run-took _ _ veiled 32 c.run_at-2.ensures.0 ((let by : Bytes (c.args.row.now) = typed (c.args.row.now) c.shared_slice_known-1.given in by)) c.door_b_to_a-1.given.1))).here (take 32 (drop c.route_key-1.given.0.0 (c.args.row.now))) c.route_key-1.given.0.1.0 = run-took _ _ veiled 32 c.run_at-3.ensures.0 ((let by : Bytes (c.args.row.now) = typed (c.args.row.now) c.shared_slice_known-1.given in by)) c.route_key-1.given.1 in route-key-took)))).here ≡ takes c.resume_index-1.given.0.0 c.resume_index-1.given.0.1.0 = learn u64_says c.u64_at.ensures c.resume_index-1.given.1 in resume-index-read))))).here (take 32 (drop c.chain_key-1.given.0.0 (c.args.row.now))) c.chain_key-1.given.0.0 c.chain_key-1.given.0.1.0 = run-starts _ _ 32 ((let by : Bytes (c.args.row.now) = typed (c.args.row.now) c.shared_slice_known-1.given in by)) (omega arith) c.run_at-4.ensures c.chain_key-1.given.1 in chain-key-run)).starts)))
+    (next} all inside is = ap (λ (place : KeysAt). Value place next) is ∙ sym (ap (keys_found c.args.at) (takes_at c.args.row.now c.args.at (group keys) all inside))) (done-yes r6.so) sent-msgno-took.inside
+    (its-places c.args.at its
+    (omega (arith, door-a-to-b-run.starts))
+    (omega (arith, door-a-to-b-run.ends, door-b-to-a-run.starts))
+    (omega (arith, door-a-to-b-run.ends, door-b-to-a-run.ends, route-key-run.starts))
+    (omega (arith, door-a-to-b-run.ends, door-b-to-a-run.ends, route-key-run.ends, resume-index-next, chain-key-run.starts)))

@@ -10,7 +10,7 @@ use Rattle.layout.specs.Field.{takes, read_at}
 use Rattle.layout.specs.RowLaws.{Bytes}
 use Rattle.layout.proofs.Front.{number-lawful}
 use Rattle.layout.proofs.At.{learn, Took, typed, took, took-next, refused-at, takes_at, refuses-at}
-use Rattle.layout.proofs.Steps.{start, field-yes, field-no, done-yes}
+use Rattle.layout.proofs.Steps.{Reached, start, field-yes, field-no, done-yes}
 use Rattle.rows.specs.Rows.{range}
 use Rattle.rows.proofs.Lawful.{range-lawful}
 use Rattle.fields.specs.Says.{u32_says}
@@ -34,55 +34,157 @@ its-places from v above_at above-here unacked-at unacked-here expired-at expired
 
 pub returns-in_default : goal.returns-in_default
 returns-in_default c =
-    let stop = field-no (start).so (refused-at _ _ u32 (learn u32_says c.u32_at.ensures c.enum_told-1.given.1)) in
-    (sym (ap (numbers_found (c.args.at)) (refuses-at (c.args.row.now) (c.args.at) (group numbers) stop)))
+    let r0 : (Reached numbers c.args.row.now c.args.at) = start in
+    let stop = field-no r0.so (refused-at _ _ u32 (learn u32_says c.u32_at.ensures c.in_default.is)) in
+    (sym (ap (numbers_found c.args.at) (refuses-at c.args.row.now c.args.at (group numbers) stop)))
 
 pub returns-in_default-u32_at : goal.returns-in_default-u32_at
 returns-in_default-u32_at c =
-    let stop = field-no ((field-yes (start).so ((let peer-acked-took : Took u32 (c.args.row.now) (c.args.at) c.peer_acked-1.given.0.0 c.peer_acked-1.given.0.1.0 = took _ _ u32 (number-lawful 4) ((let by : Bytes (c.args.row.now) = typed (c.args.row.now) c.shared_slice_known-1.given in by)) ((let peer-acked-read : read_at u32 (c.args.row.now) (c.args.at) ≡ takes c.peer_acked-1.given.0.0 c.peer_acked-1.given.0.1.0 = learn u32_says c.u32_at.ensures c.peer_acked-1.given.1 in peer-acked-read)) in peer-acked-took)))).so (refused-at _ _ u32 (learn u32_says c.u32_at-2.ensures c.enum_told-in_default-u32_at-1.given.1)) in
-    (sym (ap (numbers_found (c.args.at)) (refuses-at (c.args.row.now) (c.args.at) (group numbers) stop)))
+    let r0 : (Reached numbers c.args.row.now c.args.at) = start in
+    let by : Bytes c.args.row.now = typed c.args.row.now c.type_inv.row in
+    let peer-acked-read : read_at u32 c.args.row.now c.args.at ≡ takes c.in-Value.peer_acked c.in-Value.at1 = learn u32_says c.u32_at.ensures c.in-Value.is in
+    let peer-acked-took : Took u32 c.args.row.now c.args.at c.in-Value.peer_acked c.in-Value.at1 = took _ _ u32 (number-lawful 4) by peer-acked-read in
+    let r1 : (Reached numbers c.args.row.now c.args.at) = field-yes r0.so peer-acked-took in
+    let stop = field-no r1.so (refused-at _ _ u32 (learn u32_says c.u32_at-2.ensures c.in_default-u32_at.is)) in
+    (sym (ap (numbers_found c.args.at) (refuses-at c.args.row.now c.args.at (group numbers) stop)))
 
 pub returns-in_default-u32_at-2 : goal.returns-in_default-u32_at-2
 returns-in_default-u32_at-2 c =
-    let stop = field-no ((field-yes ((field-yes (start).so ((let peer-acked-took : Took u32 (c.args.row.now) (c.args.at) c.peer_acked-1.given.0.0 c.peer_acked-1.given.0.1.0 = took _ _ u32 (number-lawful 4) ((let by : Bytes (c.args.row.now) = typed (c.args.row.now) c.shared_slice_known-1.given in by)) ((let peer-acked-read : read_at u32 (c.args.row.now) (c.args.at) ≡ takes c.peer_acked-1.given.0.0 c.peer_acked-1.given.0.1.0 = learn u32_says c.u32_at.ensures c.peer_acked-1.given.1 in peer-acked-read)) in peer-acked-took)))).so ((let peer-read-took : Took u32 (c.args.row.now) ((field-yes (start).so ((let peer-acked-took : Took u32 (c.args.row.now) (c.args.at) c.peer_acked-1.given.0.0 c.peer_acked-1.given.0.1.0 = took _ _ u32 (number-lawful 4) ((let by : Bytes (c.args.row.now) = typed (c.args.row.now) c.shared_slice_known-1.given in by)) ((let peer-acked-read : read_at u32 (c.args.row.now) (c.args.at) ≡ takes c.peer_acked-1.given.0.0 c.peer_acked-1.given.0.1.0 = learn u32_says c.u32_at.ensures c.peer_acked-1.given.1 in peer-acked-read)) in peer-acked-took)))).here c.peer_read-1.given.0.0 c.peer_read-1.given.0.1.0 = took _ _ u32 (number-lawful 4) ((let by : Bytes (c.args.row.now) = typed (c.args.row.now) c.shared_slice_known-1.given in by)) ((let peer-read-read : read_at u32 (c.args.row.now) ((field-yes (start).so ((let peer-acked-took : Took u32 (c.args.row.now) (c.args.at) c.peer_acked-1.given.0.0 c.peer_acked-1.given.0.1.0 = took _ _ u32 (number-lawful 4) ((let by : Bytes (c.args.row.now) = typed (c.args.row.now) c.shared_slice_known-1.given in by)) ((let peer-acked-read : read_at u32 (c.args.row.now) (c.args.at) ≡ takes c.peer_acked-1.given.0.0 c.peer_acked-1.given.0.1.0 = learn u32_says c.u32_at.ensures c.peer_acked-1.given.1 in peer-acked-read)) in peer-acked-took)))).here ≡ takes c.peer_read-1.given.0.0 c.peer_read-1.given.0.1.0 = learn u32_says c.u32_at-2.ensures c.peer_read-1.given.1 in peer-read-read)) in peer-read-took)))).so (refused-at _ _ u32 (learn u32_says c.u32_at-3.ensures c.enum_told-in_default-u32_at-2-1.given.1)) in
-    (sym (ap (numbers_found (c.args.at)) (refuses-at (c.args.row.now) (c.args.at) (group numbers) stop)))
+    let r0 : (Reached numbers c.args.row.now c.args.at) = start in
+    let by : Bytes c.args.row.now = typed c.args.row.now c.type_inv.row in
+    let peer-acked-read : read_at u32 c.args.row.now c.args.at ≡ takes c.in-Value.peer_acked c.in-Value.at1 = learn u32_says c.u32_at.ensures c.in-Value.is in
+    let peer-acked-took : Took u32 c.args.row.now c.args.at c.in-Value.peer_acked c.in-Value.at1 = took _ _ u32 (number-lawful 4) by peer-acked-read in
+    let r1 : (Reached numbers c.args.row.now c.args.at) = field-yes r0.so peer-acked-took in
+    let peer-read-read : read_at u32 c.args.row.now r1.here ≡ takes c.in-Value-u32_at.peer_read c.in-Value-u32_at.at2 = learn u32_says c.u32_at-2.ensures c.in-Value-u32_at.is in
+    let peer-read-took : Took u32 c.args.row.now r1.here c.in-Value-u32_at.peer_read c.in-Value-u32_at.at2 = took _ _ u32 (number-lawful 4) by peer-read-read in
+    let r2 : (Reached numbers c.args.row.now c.args.at) = field-yes r1.so peer-read-took in
+    let stop = field-no r2.so (refused-at _ _ u32 (learn u32_says c.u32_at-3.ensures c.in_default-u32_at-2.is)) in
+    (sym (ap (numbers_found c.args.at) (refuses-at c.args.row.now c.args.at (group numbers) stop)))
 
 pub returns-in_default-u32_at-3 : goal.returns-in_default-u32_at-3
 returns-in_default-u32_at-3 c =
-    let stop = field-no ((field-yes ((field-yes ((field-yes (start).so ((let peer-acked-took : Took u32 (c.args.row.now) (c.args.at) c.peer_acked-1.given.0.0 c.peer_acked-1.given.0.1.0 = took _ _ u32 (number-lawful 4) ((let by : Bytes (c.args.row.now) = typed (c.args.row.now) c.shared_slice_known-1.given in by)) ((let peer-acked-read : read_at u32 (c.args.row.now) (c.args.at) ≡ takes c.peer_acked-1.given.0.0 c.peer_acked-1.given.0.1.0 = learn u32_says c.u32_at.ensures c.peer_acked-1.given.1 in peer-acked-read)) in peer-acked-took)))).so ((let peer-read-took : Took u32 (c.args.row.now) ((field-yes (start).so ((let peer-acked-took : Took u32 (c.args.row.now) (c.args.at) c.peer_acked-1.given.0.0 c.peer_acked-1.given.0.1.0 = took _ _ u32 (number-lawful 4) ((let by : Bytes (c.args.row.now) = typed (c.args.row.now) c.shared_slice_known-1.given in by)) ((let peer-acked-read : read_at u32 (c.args.row.now) (c.args.at) ≡ takes c.peer_acked-1.given.0.0 c.peer_acked-1.given.0.1.0 = learn u32_says c.u32_at.ensures c.peer_acked-1.given.1 in peer-acked-read)) in peer-acked-took)))).here c.peer_read-1.given.0.0 c.peer_read-1.given.0.1.0 = took _ _ u32 (number-lawful 4) ((let by : Bytes (c.args.row.now) = typed (c.args.row.now) c.shared_slice_known-1.given in by)) ((let peer-read-read : read_at u32 (c.args.row.now) ((field-yes (start).so ((let peer-acked-took : Took u32 (c.args.row.now) (c.args.at) c.peer_acked-1.given.0.0 c.peer_acked-1.given.0.1.0 = took _ _ u32 (number-lawful 4) ((let by : Bytes (c.args.row.now) = typed (c.args.row.now) c.shared_slice_known-1.given in by)) ((let peer-acked-read : read_at u32 (c.args.row.now) (c.args.at) ≡ takes c.peer_acked-1.given.0.0 c.peer_acked-1.given.0.1.0 = learn u32_says c.u32_at.ensures c.peer_acked-1.given.1 in peer-acked-read)) in peer-acked-took)))).here ≡ takes c.peer_read-1.given.0.0 c.peer_read-1.given.0.1.0 = learn u32_says c.u32_at-2.ensures c.peer_read-1.given.1 in peer-read-read)) in peer-read-took)))).so ((let read-marked-took : Took u32 (c.args.row.now) ((field-yes ((field-yes (start).so ((let peer-acked-took : Took u32 (c.args.row.now) (c.args.at) c.peer_acked-1.given.0.0 c.peer_acked-1.given.0.1.0 = took _ _ u32 (number-lawful 4) ((let by : Bytes (c.args.row.now) = typed (c.args.row.now) c.shared_slice_known-1.given in by)) ((let peer-acked-read : read_at u32 (c.args.row.now) (c.args.at) ≡ takes c.peer_acked-1.given.0.0 c.peer_acked-1.given.0.1.0 = learn u32_says c.u32_at.ensures c.peer_acked-1.given.1 in peer-acked-read)) in peer-acked-took)))).so ((let peer-read-took : Took u32 (c.args.row.now) ((field-yes (start).so ((let peer-acked-took : Took u32 (c.args.row.now) (c.args.at) c.peer_acked-1.given.0.0 c.peer_acked-1.given.0.1.0 = took _ _ u32 (number-lawful 4) ((let by : Bytes (c.args.row.now) = typed (c.args.row.now) c.shared_slice_known-1.given in by)) ((let peer-acked-read : read_at u32 (c.args.row.now) (c.args.at) ≡ takes c.peer_acked-1.given.0.0 c.peer_acked-1.given.0.1.0 = learn u32_says c.u32_at.ensures c.peer_acked-1.given.1 in peer-acked-read)) in peer-acked-took)))).here c.peer_read-1.given.0.0 c.peer_read-1.given.0.1.0 = took _ _ u32 (number-lawful 4) ((let by : Bytes (c.args.row.now) = typed (c.args.row.now) c.shared_slice_known-1.given in by)) ((let peer-read-read : read_at u32 (c.args.row.now) ((field-yes (start).so ((let peer-acked-took : Took u32 (c.args.row.now) (c.args.at) c.peer_acked-1.given.0.0 c.peer_acked-1.given.0.1.0 = took _ _ u32 (number-lawful 4) ((let by : Bytes (c.args.row.now) = typed (c.args.row.now) c.shared_slice_known-1.given in by)) ((let peer-acked-read : read_at u32 (c.args.row.now) (c.args.at) ≡ takes c.peer_acked-1.given.0.0 c.peer_acked-1.given.0.1.0 = learn u32_says c.u32_at.ensures c.peer_acked-1.given.1 in peer-acked-read)) in peer-acked-took)))).here ≡ takes c.peer_read-1.given.0.0 c.peer_read-1.given.0.1.0 = learn u32_says c.u32_at-2.ensures c.peer_read-1.given.1 in peer-read-read)) in peer-read-took)))).here c.read_marked-1.given.0.0 c.read_marked-1.given.0.1.0 = took _ _ u32 (number-lawful 4) ((let by : Bytes (c.args.row.now) = typed (c.args.row.now) c.shared_slice_known-1.given in by)) ((let read-marked-read : read_at u32 (c.args.row.now) ((field-yes ((field-yes (start).so ((let peer-acked-took : Took u32 (c.args.row.now) (c.args.at) c.peer_acked-1.given.0.0 c.peer_acked-1.given.0.1.0 = took _ _ u32 (number-lawful 4) ((let by : Bytes (c.args.row.now) = typed (c.args.row.now) c.shared_slice_known-1.given in by)) ((let peer-acked-read : read_at u32 (c.args.row.now) (c.args.at) ≡ takes c.peer_acked-1.given.0.0 c.peer_acked-1.given.0.1.0 = learn u32_says c.u32_at.ensures c.peer_acked-1.given.1 in peer-acked-read)) in peer-acked-took)))).so ((let peer-read-took : Took u32 (c.args.row.now) ((field-yes (start).so ((let peer-acked-took : Took u32 (c.args.row.now) (c.args.at) c.peer_acked-1.given.0.0 c.peer_acked-1.given.0.1.0 = took _ _ u32 (number-lawful 4) ((let by : Bytes (c.args.row.now) = typed (c.args.row.now) c.shared_slice_known-1.given in by)) ((let peer-acked-read : read_at u32 (c.args.row.now) (c.args.at) ≡ takes c.peer_acked-1.given.0.0 c.peer_acked-1.given.0.1.0 = learn u32_says c.u32_at.ensures c.peer_acked-1.given.1 in peer-acked-read)) in peer-acked-took)))).here c.peer_read-1.given.0.0 c.peer_read-1.given.0.1.0 = took _ _ u32 (number-lawful 4) ((let by : Bytes (c.args.row.now) = typed (c.args.row.now) c.shared_slice_known-1.given in by)) ((let peer-read-read : read_at u32 (c.args.row.now) ((field-yes (start).so ((let peer-acked-took : Took u32 (c.args.row.now) (c.args.at) c.peer_acked-1.given.0.0 c.peer_acked-1.given.0.1.0 = took _ _ u32 (number-lawful 4) ((let by : Bytes (c.args.row.now) = typed (c.args.row.now) c.shared_slice_known-1.given in by)) ((let peer-acked-read : read_at u32 (c.args.row.now) (c.args.at) ≡ takes c.peer_acked-1.given.0.0 c.peer_acked-1.given.0.1.0 = learn u32_says c.u32_at.ensures c.peer_acked-1.given.1 in peer-acked-read)) in peer-acked-took)))).here ≡ takes c.peer_read-1.given.0.0 c.peer_read-1.given.0.1.0 = learn u32_says c.u32_at-2.ensures c.peer_read-1.given.1 in peer-read-read)) in peer-read-took)))).here ≡ takes c.read_marked-1.given.0.0 c.read_marked-1.given.0.1.0 = learn u32_says c.u32_at-3.ensures c.read_marked-1.given.1 in read-marked-read)) in read-marked-took)))).so (refused-at _ _ u32 (learn u32_says c.u32_at-4.ensures c.enum_told-in_default-u32_at-3-1.given.1)) in
-    (sym (ap (numbers_found (c.args.at)) (refuses-at (c.args.row.now) (c.args.at) (group numbers) stop)))
+    let r0 : (Reached numbers c.args.row.now c.args.at) = start in
+    let by : Bytes c.args.row.now = typed c.args.row.now c.type_inv.row in
+    let peer-acked-read : read_at u32 c.args.row.now c.args.at ≡ takes c.in-Value.peer_acked c.in-Value.at1 = learn u32_says c.u32_at.ensures c.in-Value.is in
+    let peer-acked-took : Took u32 c.args.row.now c.args.at c.in-Value.peer_acked c.in-Value.at1 = took _ _ u32 (number-lawful 4) by peer-acked-read in
+    let r1 : (Reached numbers c.args.row.now c.args.at) = field-yes r0.so peer-acked-took in
+    let peer-read-read : read_at u32 c.args.row.now r1.here ≡ takes c.in-Value-u32_at.peer_read c.in-Value-u32_at.at2 = learn u32_says c.u32_at-2.ensures c.in-Value-u32_at.is in
+    let peer-read-took : Took u32 c.args.row.now r1.here c.in-Value-u32_at.peer_read c.in-Value-u32_at.at2 = took _ _ u32 (number-lawful 4) by peer-read-read in
+    let r2 : (Reached numbers c.args.row.now c.args.at) = field-yes r1.so peer-read-took in
+    let read-marked-read : read_at u32 c.args.row.now r2.here ≡ takes c.in-Value-u32_at-2.read_marked c.in-Value-u32_at-2.at3 = learn u32_says c.u32_at-3.ensures c.in-Value-u32_at-2.is in
+    let read-marked-took : Took u32 c.args.row.now r2.here c.in-Value-u32_at-2.read_marked c.in-Value-u32_at-2.at3 = took _ _ u32 (number-lawful 4) by read-marked-read in
+    let r3 : (Reached numbers c.args.row.now c.args.at) = field-yes r2.so read-marked-took in
+    let stop = field-no r3.so (refused-at _ _ u32 (learn u32_says c.u32_at-4.ensures c.in_default-u32_at-3.is)) in
+    (sym (ap (numbers_found c.args.at) (refuses-at c.args.row.now c.args.at (group numbers) stop)))
 
 pub returns-in_default-above_field : goal.returns-in_default-above_field
 returns-in_default-above_field c =
-    let stop = field-no ((field-yes ((field-yes ((field-yes ((field-yes (start).so ((let peer-acked-took : Took u32 (c.args.row.now) (c.args.at) c.peer_acked-1.given.0.0 c.peer_acked-1.given.0.1.0 = took _ _ u32 (number-lawful 4) ((let by : Bytes (c.args.row.now) = typed (c.args.row.now) c.shared_slice_known-1.given in by)) ((let peer-acked-read : read_at u32 (c.args.row.now) (c.args.at) ≡ takes c.peer_acked-1.given.0.0 c.peer_acked-1.given.0.1.0 = learn u32_says c.u32_at.ensures c.peer_acked-1.given.1 in peer-acked-read)) in peer-acked-took)))).so ((let peer-read-took : Took u32 (c.args.row.now) ((field-yes (start).so ((let peer-acked-took : Took u32 (c.args.row.now) (c.args.at) c.peer_acked-1.given.0.0 c.peer_acked-1.given.0.1.0 = took _ _ u32 (number-lawful 4) ((let by : Bytes (c.args.row.now) = typed (c.args.row.now) c.shared_slice_known-1.given in by)) ((let peer-acked-read : read_at u32 (c.args.row.now) (c.args.at) ≡ takes c.peer_acked-1.given.0.0 c.peer_acked-1.given.0.1.0 = learn u32_says c.u32_at.ensures c.peer_acked-1.given.1 in peer-acked-read)) in peer-acked-took)))).here c.peer_read-1.given.0.0 c.peer_read-1.given.0.1.0 = took _ _ u32 (number-lawful 4) ((let by : Bytes (c.args.row.now) = typed (c.args.row.now) c.shared_slice_known-1.given in by)) ((let peer-read-read : read_at u32 (c.args.row.now) ((field-yes (start).so ((let peer-acked-took : Took u32 (c.args.row.now) (c.args.at) c.peer_acked-1.given.0.0 c.peer_acked-1.given.0.1.0 = took _ _ u32 (number-lawful 4) ((let by : Bytes (c.args.row.now) = typed (c.args.row.now) c.shared_slice_known-1.given in by)) ((let peer-acked-read : read_at u32 (c.args.row.now) (c.args.at) ≡ takes c.peer_acked-1.given.0.0 c.peer_acked-1.given.0.1.0 = learn u32_says c.u32_at.ensures c.peer_acked-1.given.1 in peer-acked-read)) in peer-acked-took)))).here ≡ takes c.peer_read-1.given.0.0 c.peer_read-1.given.0.1.0 = learn u32_says c.u32_at-2.ensures c.peer_read-1.given.1 in peer-read-read)) in peer-read-took)))).so ((let read-marked-took : Took u32 (c.args.row.now) ((field-yes ((field-yes (start).so ((let peer-acked-took : Took u32 (c.args.row.now) (c.args.at) c.peer_acked-1.given.0.0 c.peer_acked-1.given.0.1.0 = took _ _ u32 (number-lawful 4) ((let by : Bytes (c.args.row.now) = typed (c.args.row.now) c.shared_slice_known-1.given in by)) ((let peer-acked-read : read_at u32 (c.args.row.now) (c.args.at) ≡ takes c.peer_acked-1.given.0.0 c.peer_acked-1.given.0.1.0 = learn u32_says c.u32_at.ensures c.peer_acked-1.given.1 in peer-acked-read)) in peer-acked-took)))).so ((let peer-read-took : Took u32 (c.args.row.now) ((field-yes (start).so ((let peer-acked-took : Took u32 (c.args.row.now) (c.args.at) c.peer_acked-1.given.0.0 c.peer_acked-1.given.0.1.0 = took _ _ u32 (number-lawful 4) ((let by : Bytes (c.args.row.now) = typed (c.args.row.now) c.shared_slice_known-1.given in by)) ((let peer-acked-read : read_at u32 (c.args.row.now) (c.args.at) ≡ takes c.peer_acked-1.given.0.0 c.peer_acked-1.given.0.1.0 = learn u32_says c.u32_at.ensures c.peer_acked-1.given.1 in peer-acked-read)) in peer-acked-took)))).here c.peer_read-1.given.0.0 c.peer_read-1.given.0.1.0 = took _ _ u32 (number-lawful 4) ((let by : Bytes (c.args.row.now) = typed (c.args.row.now) c.shared_slice_known-1.given in by)) ((let peer-read-read : read_at u32 (c.args.row.now) ((field-yes (start).so ((let peer-acked-took : Took u32 (c.args.row.now) (c.args.at) c.peer_acked-1.given.0.0 c.peer_acked-1.given.0.1.0 = took _ _ u32 (number-lawful 4) ((let by : Bytes (c.args.row.now) = typed (c.args.row.now) c.shared_slice_known-1.given in by)) ((let peer-acked-read : read_at u32 (c.args.row.now) (c.args.at) ≡ takes c.peer_acked-1.given.0.0 c.peer_acked-1.given.0.1.0 = learn u32_says c.u32_at.ensures c.peer_acked-1.given.1 in peer-acked-read)) in peer-acked-took)))).here ≡ takes c.peer_read-1.given.0.0 c.peer_read-1.given.0.1.0 = learn u32_says c.u32_at-2.ensures c.peer_read-1.given.1 in peer-read-read)) in peer-read-took)))).here c.read_marked-1.given.0.0 c.read_marked-1.given.0.1.0 = took _ _ u32 (number-lawful 4) ((let by : Bytes (c.args.row.now) = typed (c.args.row.now) c.shared_slice_known-1.given in by)) ((let read-marked-read : read_at u32 (c.args.row.now) ((field-yes ((field-yes (start).so ((let peer-acked-took : Took u32 (c.args.row.now) (c.args.at) c.peer_acked-1.given.0.0 c.peer_acked-1.given.0.1.0 = took _ _ u32 (number-lawful 4) ((let by : Bytes (c.args.row.now) = typed (c.args.row.now) c.shared_slice_known-1.given in by)) ((let peer-acked-read : read_at u32 (c.args.row.now) (c.args.at) ≡ takes c.peer_acked-1.given.0.0 c.peer_acked-1.given.0.1.0 = learn u32_says c.u32_at.ensures c.peer_acked-1.given.1 in peer-acked-read)) in peer-acked-took)))).so ((let peer-read-took : Took u32 (c.args.row.now) ((field-yes (start).so ((let peer-acked-took : Took u32 (c.args.row.now) (c.args.at) c.peer_acked-1.given.0.0 c.peer_acked-1.given.0.1.0 = took _ _ u32 (number-lawful 4) ((let by : Bytes (c.args.row.now) = typed (c.args.row.now) c.shared_slice_known-1.given in by)) ((let peer-acked-read : read_at u32 (c.args.row.now) (c.args.at) ≡ takes c.peer_acked-1.given.0.0 c.peer_acked-1.given.0.1.0 = learn u32_says c.u32_at.ensures c.peer_acked-1.given.1 in peer-acked-read)) in peer-acked-took)))).here c.peer_read-1.given.0.0 c.peer_read-1.given.0.1.0 = took _ _ u32 (number-lawful 4) ((let by : Bytes (c.args.row.now) = typed (c.args.row.now) c.shared_slice_known-1.given in by)) ((let peer-read-read : read_at u32 (c.args.row.now) ((field-yes (start).so ((let peer-acked-took : Took u32 (c.args.row.now) (c.args.at) c.peer_acked-1.given.0.0 c.peer_acked-1.given.0.1.0 = took _ _ u32 (number-lawful 4) ((let by : Bytes (c.args.row.now) = typed (c.args.row.now) c.shared_slice_known-1.given in by)) ((let peer-acked-read : read_at u32 (c.args.row.now) (c.args.at) ≡ takes c.peer_acked-1.given.0.0 c.peer_acked-1.given.0.1.0 = learn u32_says c.u32_at.ensures c.peer_acked-1.given.1 in peer-acked-read)) in peer-acked-took)))).here ≡ takes c.peer_read-1.given.0.0 c.peer_read-1.given.0.1.0 = learn u32_says c.u32_at-2.ensures c.peer_read-1.given.1 in peer-read-read)) in peer-read-took)))).here ≡ takes c.read_marked-1.given.0.0 c.read_marked-1.given.0.1.0 = learn u32_says c.u32_at-3.ensures c.read_marked-1.given.1 in read-marked-read)) in read-marked-took)))).so ((let contiguous-took : Took u32 (c.args.row.now) ((field-yes ((field-yes ((field-yes (start).so ((let peer-acked-took : Took u32 (c.args.row.now) (c.args.at) c.peer_acked-1.given.0.0 c.peer_acked-1.given.0.1.0 = took _ _ u32 (number-lawful 4) ((let by : Bytes (c.args.row.now) = typed (c.args.row.now) c.shared_slice_known-1.given in by)) ((let peer-acked-read : read_at u32 (c.args.row.now) (c.args.at) ≡ takes c.peer_acked-1.given.0.0 c.peer_acked-1.given.0.1.0 = learn u32_says c.u32_at.ensures c.peer_acked-1.given.1 in peer-acked-read)) in peer-acked-took)))).so ((let peer-read-took : Took u32 (c.args.row.now) ((field-yes (start).so ((let peer-acked-took : Took u32 (c.args.row.now) (c.args.at) c.peer_acked-1.given.0.0 c.peer_acked-1.given.0.1.0 = took _ _ u32 (number-lawful 4) ((let by : Bytes (c.args.row.now) = typed (c.args.row.now) c.shared_slice_known-1.given in by)) ((let peer-acked-read : read_at u32 (c.args.row.now) (c.args.at) ≡ takes c.peer_acked-1.given.0.0 c.peer_acked-1.given.0.1.0 = learn u32_says c.u32_at.ensures c.peer_acked-1.given.1 in peer-acked-read)) in peer-acked-took)))).here c.peer_read-1.given.0.0 c.peer_read-1.given.0.1.0 = took _ _ u32 (number-lawful 4) ((let by : Bytes (c.args.row.now) = typed (c.args.row.now) c.shared_slice_known-1.given in by)) ((let peer-read-read : read_at u32 (c.args.row.now) ((field-yes (start).so ((let peer-acked-took : Took u32 (c.args.row.now) (c.args.at) c.peer_acked-1.given.0.0 c.peer_acked-1.given.0.1.0 = took _ _ u32 (number-lawful 4) ((let by : Bytes (c.args.row.now) = typed (c.args.row.now) c.shared_slice_known-1.given in by)) ((let peer-acked-read : read_at u32 (c.args.row.now) (c.args.at) ≡ takes c.peer_acked-1.given.0.0 c.peer_acked-1.given.0.1.0 = learn u32_says c.u32_at.ensures c.peer_acked-1.given.1 in peer-acked-read)) in peer-acked-took)))).here ≡ takes c.peer_read-1.given.0.0 c.peer_read-1.given.0.1.0 = learn u32_says c.u32_at-2.ensures c.peer_read-1.given.1 in peer-read-read)) in peer-read-took)))).so ((let read-marked-took : Took u32 (c.args.row.now) ((field-yes ((field-yes (start).so ((let peer-acked-took : Took u32 (c.args.row.now) (c.args.at) c.peer_acked-1.given.0.0 c.peer_acked-1.given.0.1.0 = took _ _ u32 (number-lawful 4) ((let by : Bytes (c.args.row.now) = typed (c.args.row.now) c.shared_slice_known-1.given in by)) ((let peer-acked-read : read_at u32 (c.args.row.now) (c.args.at) ≡ takes c.peer_acked-1.given.0.0 c.peer_acked-1.given.0.1.0 = learn u32_says c.u32_at.ensures c.peer_acked-1.given.1 in peer-acked-read)) in peer-acked-took)))).so ((let peer-read-took : Took u32 (c.args.row.now) ((field-yes (start).so ((let peer-acked-took : Took u32 (c.args.row.now) (c.args.at) c.peer_acked-1.given.0.0 c.peer_acked-1.given.0.1.0 = took _ _ u32 (number-lawful 4) ((let by : Bytes (c.args.row.now) = typed (c.args.row.now) c.shared_slice_known-1.given in by)) ((let peer-acked-read : read_at u32 (c.args.row.now) (c.args.at) ≡ takes c.peer_acked-1.given.0.0 c.peer_acked-1.given.0.1.0 = learn u32_says c.u32_at.ensures c.peer_acked-1.given.1 in peer-acked-read)) in peer-acked-took)))).here c.peer_read-1.given.0.0 c.peer_read-1.given.0.1.0 = took _ _ u32 (number-lawful 4) ((let by : Bytes (c.args.row.now) = typed (c.args.row.now) c.shared_slice_known-1.given in by)) ((let peer-read-read : read_at u32 (c.args.row.now) ((field-yes (start).so ((let peer-acked-took : Took u32 (c.args.row.now) (c.args.at) c.peer_acked-1.given.0.0 c.peer_acked-1.given.0.1.0 = took _ _ u32 (number-lawful 4) ((let by : Bytes (c.args.row.now) = typed (c.args.row.now) c.shared_slice_known-1.given in by)) ((let peer-acked-read : read_at u32 (c.args.row.now) (c.args.at) ≡ takes c.peer_acked-1.given.0.0 c.peer_acked-1.given.0.1.0 = learn u32_says c.u32_at.ensures c.peer_acked-1.given.1 in peer-acked-read)) in peer-acked-took)))).here ≡ takes c.peer_read-1.given.0.0 c.peer_read-1.given.0.1.0 = learn u32_says c.u32_at-2.ensures c.peer_read-1.given.1 in peer-read-read)) in peer-read-took)))).here c.read_marked-1.given.0.0 c.read_marked-1.given.0.1.0 = took _ _ u32 (number-lawful 4) ((let by : Bytes (c.args.row.now) = typed (c.args.row.now) c.shared_slice_known-1.given in by)) ((let read-marked-read : read_at u32 (c.args.row.now) ((field-yes ((field-yes (start).so ((let peer-acked-took : Took u32 (c.args.row.now) (c.args.at) c.peer_acked-1.given.0.0 c.peer_acked-1.given.0.1.0 = took _ _ u32 (number-lawful 4) ((let by : Bytes (c.args.row.now) = typed (c.args.row.now) c.shared_slice_known-1.given in by)) ((let peer-acked-read : read_at u32 (c.args.row.now) (c.args.at) ≡ takes c.peer_acked-1.given.0.0 c.peer_acked-1.given.0.1.0 = learn u32_says c.u32_at.ensures c.peer_acked-1.given.1 in peer-acked-read)) in peer-acked-took)))).so ((let peer-read-took : Took u32 (c.args.row.now) ((field-yes (start).so ((let peer-acked-took : Took u32 (c.args.row.now) (c.args.at) c.peer_acked-1.given.0.0 c.peer_acked-1.given.0.1.0 = took _ _ u32 (number-lawful 4) ((let by : Bytes (c.args.row.now) = typed (c.args.row.now) c.shared_slice_known-1.given in by)) ((let peer-acked-read : read_at u32 (c.args.row.now) (c.args.at) ≡ takes c.peer_acked-1.given.0.0 c.peer_acked-1.given.0.1.0 = learn u32_says c.u32_at.ensures c.peer_acked-1.given.1 in peer-acked-read)) in peer-acked-took)))).here c.peer_read-1.given.0.0 c.peer_read-1.given.0.1.0 = took _ _ u32 (number-lawful 4) ((let by : Bytes (c.args.row.now) = typed (c.args.row.now) c.shared_slice_known-1.given in by)) ((let peer-read-read : read_at u32 (c.args.row.now) ((field-yes (start).so ((let peer-acked-took : Took u32 (c.args.row.now) (c.args.at) c.peer_acked-1.given.0.0 c.peer_acked-1.given.0.1.0 = took _ _ u32 (number-lawful 4) ((let by : Bytes (c.args.row.now) = typed (c.args.row.now) c.shared_slice_known-1.given in by)) ((let peer-acked-read : read_at u32 (c.args.row.now) (c.args.at) ≡ takes c.peer_acked-1.given.0.0 c.peer_acked-1.given.0.1.0 = learn u32_says c.u32_at.ensures c.peer_acked-1.given.1 in peer-acked-read)) in peer-acked-took)))).here ≡ takes c.peer_read-1.given.0.0 c.peer_read-1.given.0.1.0 = learn u32_says c.u32_at-2.ensures c.peer_read-1.given.1 in peer-read-read)) in peer-read-took)))).here ≡ takes c.read_marked-1.given.0.0 c.read_marked-1.given.0.1.0 = learn u32_says c.u32_at-3.ensures c.read_marked-1.given.1 in read-marked-read)) in read-marked-took)))).here c.contiguous-1.given.0.0 c.contiguous-1.given.0.1.0 = took _ _ u32 (number-lawful 4) ((let by : Bytes (c.args.row.now) = typed (c.args.row.now) c.shared_slice_known-1.given in by)) ((let contiguous-read : read_at u32 (c.args.row.now) ((field-yes ((field-yes ((field-yes (start).so ((let peer-acked-took : Took u32 (c.args.row.now) (c.args.at) c.peer_acked-1.given.0.0 c.peer_acked-1.given.0.1.0 = took _ _ u32 (number-lawful 4) ((let by : Bytes (c.args.row.now) = typed (c.args.row.now) c.shared_slice_known-1.given in by)) ((let peer-acked-read : read_at u32 (c.args.row.now) (c.args.at) ≡ takes c.peer_acked-1.given.0.0 c.peer_acked-1.given.0.1.0 = learn u32_says c.u32_at.ensures c.peer_acked-1.given.1 in peer-acked-read)) in peer-acked-took)))).so ((let peer-read-took : Took u32 (c.args.row.now) ((field-yes (start).so ((let peer-acked-took : Took u32 (c.args.row.now) (c.args.at) c.peer_acked-1.given.0.0 c.peer_acked-1.given.0.1.0 = took _ _ u32 (number-lawful 4) ((let by : Bytes (c.args.row.now) = typed (c.args.row.now) c.shared_slice_known-1.given in by)) ((let peer-acked-read : read_at u32 (c.args.row.now) (c.args.at) ≡ takes c.peer_acked-1.given.0.0 c.peer_acked-1.given.0.1.0 = learn u32_says c.u32_at.ensures c.peer_acked-1.given.1 in peer-acked-read)) in peer-acked-took)))).here c.peer_read-1.given.0.0 c.peer_read-1.given.0.1.0 = took _ _ u32 (number-lawful 4) ((let by : Bytes (c.args.row.now) = typed (c.args.row.now) c.shared_slice_known-1.given in by)) ((let peer-read-read : read_at u32 (c.args.row.now) ((field-yes (start).so ((let peer-acked-took : Took u32 (c.args.row.now) (c.args.at) c.peer_acked-1.given.0.0 c.peer_acked-1.given.0.1.0 = took _ _ u32 (number-lawful 4) ((let by : Bytes (c.args.row.now) = typed (c.args.row.now) c.shared_slice_known-1.given in by)) ((let peer-acked-read : read_at u32 (c.args.row.now) (c.args.at) ≡ takes c.peer_acked-1.given.0.0 c.peer_acked-1.given.0.1.0 = learn u32_says c.u32_at.ensures c.peer_acked-1.given.1 in peer-acked-read)) in peer-acked-took)))).here ≡ takes c.peer_read-1.given.0.0 c.peer_read-1.given.0.1.0 = learn u32_says c.u32_at-2.ensures c.peer_read-1.given.1 in peer-read-read)) in peer-read-took)))).so ((let read-marked-took : Took u32 (c.args.row.now) ((field-yes ((field-yes (start).so ((let peer-acked-took : Took u32 (c.args.row.now) (c.args.at) c.peer_acked-1.given.0.0 c.peer_acked-1.given.0.1.0 = took _ _ u32 (number-lawful 4) ((let by : Bytes (c.args.row.now) = typed (c.args.row.now) c.shared_slice_known-1.given in by)) ((let peer-acked-read : read_at u32 (c.args.row.now) (c.args.at) ≡ takes c.peer_acked-1.given.0.0 c.peer_acked-1.given.0.1.0 = learn u32_says c.u32_at.ensures c.peer_acked-1.given.1 in peer-acked-read)) in peer-acked-took)))).so ((let peer-read-took : Took u32 (c.args.row.now) ((field-yes (start).so ((let peer-acked-took : Took u32 (c.args.row.now) (c.args.at) c.peer_acked-1.given.0.0 c.peer_acked-1.given.0.1.0 = took _ _ u32 (number-lawful 4) ((let by : Bytes (c.args.row.now) = typed (c.args.row.now) c.shared_slice_known-1.given in by)) ((let peer-acked-read : read_at u32 (c.args.row.now) (c.args.at) ≡ takes c.peer_acked-1.given.0.0 c.peer_acked-1.given.0.1.0 = learn u32_says c.u32_at.ensures c.peer_acked-1.given.1 in peer-acked-read)) in peer-acked-took)))).here c.peer_read-1.given.0.0 c.peer_read-1.given.0.1.0 = took _ _ u32 (number-lawful 4) ((let by : Bytes (c.args.row.now) = typed (c.args.row.now) c.shared_slice_known-1.given in by)) ((let peer-read-read : read_at u32 (c.args.row.now) ((field-yes (start).so ((let peer-acked-took : Took u32 (c.args.row.now) (c.args.at) c.peer_acked-1.given.0.0 c.peer_acked-1.given.0.1.0 = took _ _ u32 (number-lawful 4) ((let by : Bytes (c.args.row.now) = typed (c.args.row.now) c.shared_slice_known-1.given in by)) ((let peer-acked-read : read_at u32 (c.args.row.now) (c.args.at) ≡ takes c.peer_acked-1.given.0.0 c.peer_acked-1.given.0.1.0 = learn u32_says c.u32_at.ensures c.peer_acked-1.given.1 in peer-acked-read)) in peer-acked-took)))).here ≡ takes c.peer_read-1.given.0.0 c.peer_read-1.given.0.1.0 = learn u32_says c.u32_at-2.ensures c.peer_read-1.given.1 in peer-read-read)) in peer-read-took)))).here c.read_marked-1.given.0.0 c.read_marked-1.given.0.1.0 = took _ _ u32 (number-lawful 4) ((let by : Bytes (c.args.row.now) = typed (c.args.row.now) c.shared_slice_known-1.given in by)) ((let read-marked-read : read_at u32 (c.args.row.now) ((field-yes ((field-yes (start).so ((let peer-acked-took : Took u32 (c.args.row.now) (c.args.at) c.peer_acked-1.given.0.0 c.peer_acked-1.given.0.1.0 = took _ _ u32 (number-lawful 4) ((let by : Bytes (c.args.row.now) = typed (c.args.row.now) c.shared_slice_known-1.given in by)) ((let peer-acked-read : read_at u32 (c.args.row.now) (c.args.at) ≡ takes c.peer_acked-1.given.0.0 c.peer_acked-1.given.0.1.0 = learn u32_says c.u32_at.ensures c.peer_acked-1.given.1 in peer-acked-read)) in peer-acked-took)))).so ((let peer-read-took : Took u32 (c.args.row.now) ((field-yes (start).so ((let peer-acked-took : Took u32 (c.args.row.now) (c.args.at) c.peer_acked-1.given.0.0 c.peer_acked-1.given.0.1.0 = took _ _ u32 (number-lawful 4) ((let by : Bytes (c.args.row.now) = typed (c.args.row.now) c.shared_slice_known-1.given in by)) ((let peer-acked-read : read_at u32 (c.args.row.now) (c.args.at) ≡ takes c.peer_acked-1.given.0.0 c.peer_acked-1.given.0.1.0 = learn u32_says c.u32_at.ensures c.peer_acked-1.given.1 in peer-acked-read)) in peer-acked-took)))).here c.peer_read-1.given.0.0 c.peer_read-1.given.0.1.0 = took _ _ u32 (number-lawful 4) ((let by : Bytes (c.args.row.now) = typed (c.args.row.now) c.shared_slice_known-1.given in by)) ((let peer-read-read : read_at u32 (c.args.row.now) ((field-yes (start).so ((let peer-acked-took : Took u32 (c.args.row.now) (c.args.at) c.peer_acked-1.given.0.0 c.peer_acked-1.given.0.1.0 = took _ _ u32 (number-lawful 4) ((let by : Bytes (c.args.row.now) = typed (c.args.row.now) c.shared_slice_known-1.given in by)) ((let peer-acked-read : read_at u32 (c.args.row.now) (c.args.at) ≡ takes c.peer_acked-1.given.0.0 c.peer_acked-1.given.0.1.0 = learn u32_says c.u32_at.ensures c.peer_acked-1.given.1 in peer-acked-read)) in peer-acked-took)))).here ≡ takes c.peer_read-1.given.0.0 c.peer_read-1.given.0.1.0 = learn u32_says c.u32_at-2.ensures c.peer_read-1.given.1 in peer-read-read)) in peer-read-took)))).here ≡ takes c.read_marked-1.given.0.0 c.read_marked-1.given.0.1.0 = learn u32_says c.u32_at-3.ensures c.read_marked-1.given.1 in read-marked-read)) in read-marked-took)))).here ≡ takes c.contiguous-1.given.0.0 c.contiguous-1.given.0.1.0 = learn u32_says c.u32_at-4.ensures c.contiguous-1.given.1 in contiguous-read)) in contiguous-took)))).so (refused-at _ _ (list (group range)) (learn (list_says (group range) (c.args.row.now)) c.ranges_at-above_field.ensures.0 c.enum_told-in_default-above_field-1.given.1)) in
-    rw (c.refusal.ensures ∙ ap list_refusal c.enum_told-in_default-above_field-1.given.1) ((sym (ap (numbers_found (c.args.at)) (refuses-at (c.args.row.now) (c.args.at) (group numbers) stop))))
+    let r0 : (Reached numbers c.args.row.now c.args.at) = start in
+    let by : Bytes c.args.row.now = typed c.args.row.now c.type_inv.row in
+    let peer-acked-read : read_at u32 c.args.row.now c.args.at ≡ takes c.in-Value.peer_acked c.in-Value.at1 = learn u32_says c.u32_at.ensures c.in-Value.is in
+    let peer-acked-took : Took u32 c.args.row.now c.args.at c.in-Value.peer_acked c.in-Value.at1 = took _ _ u32 (number-lawful 4) by peer-acked-read in
+    let r1 : (Reached numbers c.args.row.now c.args.at) = field-yes r0.so peer-acked-took in
+    let peer-read-read : read_at u32 c.args.row.now r1.here ≡ takes c.in-Value-u32_at.peer_read c.in-Value-u32_at.at2 = learn u32_says c.u32_at-2.ensures c.in-Value-u32_at.is in
+    let peer-read-took : Took u32 c.args.row.now r1.here c.in-Value-u32_at.peer_read c.in-Value-u32_at.at2 = took _ _ u32 (number-lawful 4) by peer-read-read in
+    let r2 : (Reached numbers c.args.row.now c.args.at) = field-yes r1.so peer-read-took in
+    let read-marked-read : read_at u32 c.args.row.now r2.here ≡ takes c.in-Value-u32_at-2.read_marked c.in-Value-u32_at-2.at3 = learn u32_says c.u32_at-3.ensures c.in-Value-u32_at-2.is in
+    let read-marked-took : Took u32 c.args.row.now r2.here c.in-Value-u32_at-2.read_marked c.in-Value-u32_at-2.at3 = took _ _ u32 (number-lawful 4) by read-marked-read in
+    let r3 : (Reached numbers c.args.row.now c.args.at) = field-yes r2.so read-marked-took in
+    let contiguous-read : read_at u32 c.args.row.now r3.here ≡ takes c.in-Value-u32_at-3.contiguous c.in-Value-u32_at-3.at4 = learn u32_says c.u32_at-4.ensures c.in-Value-u32_at-3.is in
+    let contiguous-took : Took u32 c.args.row.now r3.here c.in-Value-u32_at-3.contiguous c.in-Value-u32_at-3.at4 = took _ _ u32 (number-lawful 4) by contiguous-read in
+    let r4 : (Reached numbers c.args.row.now c.args.at) = field-yes r3.so contiguous-took in
+    let stop = field-no r4.so (refused-at _ _ (list (group range)) (learn (list_says (group range) c.args.row.now) c.ranges_at-above_field.ensures.0 c.in_default-above_field.is)) in
+    rw (c.refusal.ensures ∙ ap list_refusal c.in_default-above_field.is) ((sym (ap (numbers_found c.args.at) (refuses-at c.args.row.now c.args.at (group numbers) stop))))
 
 pub returns-in_default-unacked_field : goal.returns-in_default-unacked_field
 returns-in_default-unacked_field c =
-    let stop = field-no ((field-yes ((field-yes ((field-yes ((field-yes ((field-yes (start).so ((let peer-acked-took : Took u32 (c.args.row.now) (c.args.at) c.peer_acked-1.given.0.0 c.peer_acked-1.given.0.1.0 = took _ _ u32 (number-lawful 4) ((let by : Bytes (c.args.row.now) = typed (c.args.row.now) c.shared_slice_known-1.given in by)) ((let peer-acked-read : read_at u32 (c.args.row.now) (c.args.at) ≡ takes c.peer_acked-1.given.0.0 c.peer_acked-1.given.0.1.0 = learn u32_says c.u32_at.ensures c.peer_acked-1.given.1 in peer-acked-read)) in peer-acked-took)))).so ((let peer-read-took : Took u32 (c.args.row.now) ((field-yes (start).so ((let peer-acked-took : Took u32 (c.args.row.now) (c.args.at) c.peer_acked-1.given.0.0 c.peer_acked-1.given.0.1.0 = took _ _ u32 (number-lawful 4) ((let by : Bytes (c.args.row.now) = typed (c.args.row.now) c.shared_slice_known-1.given in by)) ((let peer-acked-read : read_at u32 (c.args.row.now) (c.args.at) ≡ takes c.peer_acked-1.given.0.0 c.peer_acked-1.given.0.1.0 = learn u32_says c.u32_at.ensures c.peer_acked-1.given.1 in peer-acked-read)) in peer-acked-took)))).here c.peer_read-1.given.0.0 c.peer_read-1.given.0.1.0 = took _ _ u32 (number-lawful 4) ((let by : Bytes (c.args.row.now) = typed (c.args.row.now) c.shared_slice_known-1.given in by)) ((let peer-read-read : read_at u32 (c.args.row.now) ((field-yes (start).so ((let peer-acked-took : Took u32 (c.args.row.now) (c.args.at) c.peer_acked-1.given.0.0 c.peer_acked-1.given.0.1.0 = took _ _ u32 (number-lawful 4) ((let by : Bytes (c.args.row.now) = typed (c.args.row.now) c.shared_slice_known-1.given in by)) ((let peer-acked-read : read_at u32 (c.args.row.now) (c.args.at) ≡ takes c.peer_acked-1.given.0.0 c.peer_acked-1.given.0.1.0 = learn u32_says c.u32_at.ensures c.peer_acked-1.given.1 in peer-acked-read)) in peer-acked-took)))).here ≡ takes c.peer_read-1.given.0.0 c.peer_read-1.given.0.1.0 = learn u32_says c.u32_at-2.ensures c.peer_read-1.given.1 in peer-read-read)) in peer-read-took)))).so ((let read-marked-took : Took u32 (c.args.row.now) ((field-yes ((field-yes (start).so ((let peer-acked-took : Took u32 (c.args.row.now) (c.args.at) c.peer_acked-1.given.0.0 c.peer_acked-1.given.0.1.0 = took _ _ u32 (number-lawful 4) ((let by : Bytes (c.args.row.now) = typed (c.args.row.now) c.shared_slice_known-1.given in by)) ((let peer-acked-read : read_at u32 (c.args.row.now) (c.args.at) ≡ takes c.peer_acked-1.given.0.0 c.peer_acked-1.given.0.1.0 = learn u32_says c.u32_at.ensures c.peer_acked-1.given.1 in peer-acked-read)) in peer-acked-took)))).so ((let peer-read-took : Took u32 (c.args.row.now) ((field-yes (start).so ((let peer-acked-took : Took u32 (c.args.row.now) (c.args.at) c.peer_acked-1.given.0.0 c.peer_acked-1.given.0.1.0 = took _ _ u32 (number-lawful 4) ((let by : Bytes (c.args.row.now) = typed (c.args.row.now) c.shared_slice_known-1.given in by)) ((let peer-acked-read : read_at u32 (c.args.row.now) (c.args.at) ≡ takes c.peer_acked-1.given.0.0 c.peer_acked-1.given.0.1.0 = learn u32_says c.u32_at.ensures c.peer_acked-1.given.1 in peer-acked-read)) in peer-acked-took)))).here c.peer_read-1.given.0.0 c.peer_read-1.given.0.1.0 = took _ _ u32 (number-lawful 4) ((let by : Bytes (c.args.row.now) = typed (c.args.row.now) c.shared_slice_known-1.given in by)) ((let peer-read-read : read_at u32 (c.args.row.now) ((field-yes (start).so ((let peer-acked-took : Took u32 (c.args.row.now) (c.args.at) c.peer_acked-1.given.0.0 c.peer_acked-1.given.0.1.0 = took _ _ u32 (number-lawful 4) ((let by : Bytes (c.args.row.now) = typed (c.args.row.now) c.shared_slice_known-1.given in by)) ((let peer-acked-read : read_at u32 (c.args.row.now) (c.args.at) ≡ takes c.peer_acked-1.given.0.0 c.peer_acked-1.given.0.1.0 = learn u32_says c.u32_at.ensures c.peer_acked-1.given.1 in peer-acked-read)) in peer-acked-took)))).here ≡ takes c.peer_read-1.given.0.0 c.peer_read-1.given.0.1.0 = learn u32_says c.u32_at-2.ensures c.peer_read-1.given.1 in peer-read-read)) in peer-read-took)))).here c.read_marked-1.given.0.0 c.read_marked-1.given.0.1.0 = took _ _ u32 (number-lawful 4) ((let by : Bytes (c.args.row.now) = typed (c.args.row.now) c.shared_slice_known-1.given in by)) ((let read-marked-read : read_at u32 (c.args.row.now) ((field-yes ((field-yes (start).so ((let peer-acked-took : Took u32 (c.args.row.now) (c.args.at) c.peer_acked-1.given.0.0 c.peer_acked-1.given.0.1.0 = took _ _ u32 (number-lawful 4) ((let by : Bytes (c.args.row.now) = typed (c.args.row.now) c.shared_slice_known-1.given in by)) ((let peer-acked-read : read_at u32 (c.args.row.now) (c.args.at) ≡ takes c.peer_acked-1.given.0.0 c.peer_acked-1.given.0.1.0 = learn u32_says c.u32_at.ensures c.peer_acked-1.given.1 in peer-acked-read)) in peer-acked-took)))).so ((let peer-read-took : Took u32 (c.args.row.now) ((field-yes (start).so ((let peer-acked-took : Took u32 (c.args.row.now) (c.args.at) c.peer_acked-1.given.0.0 c.peer_acked-1.given.0.1.0 = took _ _ u32 (number-lawful 4) ((let by : Bytes (c.args.row.now) = typed (c.args.row.now) c.shared_slice_known-1.given in by)) ((let peer-acked-read : read_at u32 (c.args.row.now) (c.args.at) ≡ takes c.peer_acked-1.given.0.0 c.peer_acked-1.given.0.1.0 = learn u32_says c.u32_at.ensures c.peer_acked-1.given.1 in peer-acked-read)) in peer-acked-took)))).here c.peer_read-1.given.0.0 c.peer_read-1.given.0.1.0 = took _ _ u32 (number-lawful 4) ((let by : Bytes (c.args.row.now) = typed (c.args.row.now) c.shared_slice_known-1.given in by)) ((let peer-read-read : read_at u32 (c.args.row.now) ((field-yes (start).so ((let peer-acked-took : Took u32 (c.args.row.now) (c.args.at) c.peer_acked-1.given.0.0 c.peer_acked-1.given.0.1.0 = took _ _ u32 (number-lawful 4) ((let by : Bytes (c.args.row.now) = typed (c.args.row.now) c.shared_slice_known-1.given in by)) ((let peer-acked-read : read_at u32 (c.args.row.now) (c.args.at) ≡ takes c.peer_acked-1.given.0.0 c.peer_acked-1.given.0.1.0 = learn u32_says c.u32_at.ensures c.peer_acked-1.given.1 in peer-acked-read)) in peer-acked-took)))).here ≡ takes c.peer_read-1.given.0.0 c.peer_read-1.given.0.1.0 = learn u32_says c.u32_at-2.ensures c.peer_read-1.given.1 in peer-read-read)) in peer-read-took)))).here ≡ takes c.read_marked-1.given.0.0 c.read_marked-1.given.0.1.0 = learn u32_says c.u32_at-3.ensures c.read_marked-1.given.1 in read-marked-read)) in read-marked-took)))).so ((let contiguous-took : Took u32 (c.args.row.now) ((field-yes ((field-yes ((field-yes (start).so ((let peer-acked-took : Took u32 (c.args.row.now) (c.args.at) c.peer_acked-1.given.0.0 c.peer_acked-1.given.0.1.0 = took _ _ u32 (number-lawful 4) ((let by : Bytes (c.args.row.now) = typed (c.args.row.now) c.shared_slice_known-1.given in by)) ((let peer-acked-read : read_at u32 (c.args.row.now) (c.args.at) ≡ takes c.peer_acked-1.given.0.0 c.peer_acked-1.given.0.1.0 = learn u32_says c.u32_at.ensures c.peer_acked-1.given.1 in peer-acked-read)) in peer-acked-took)))).so ((let peer-read-took : Took u32 (c.args.row.now) ((field-yes (start).so ((let peer-acked-took : Took u32 (c.args.row.now) (c.args.at) c.peer_acked-1.given.0.0 c.peer_acked-1.given.0.1.0 = took _ _ u32 (number-lawful 4) ((let by : Bytes (c.args.row.now) = typed (c.args.row.now) c.shared_slice_known-1.given in by)) ((let peer-acked-read : read_at u32 (c.args.row.now) (c.args.at) ≡ takes c.peer_acked-1.given.0.0 c.peer_acked-1.given.0.1.0 = learn u32_says c.u32_at.ensures c.peer_acked-1.given.1 in peer-acked-read)) in peer-acked-took)))).here c.peer_read-1.given.0.0 c.peer_read-1.given.0.1.0 = took _ _ u32 (number-lawful 4) ((let by : Bytes (c.args.row.now) = typed (c.args.row.now) c.shared_slice_known-1.given in by)) ((let peer-read-read : read_at u32 (c.args.row.now) ((field-yes (start).so ((let peer-acked-took : Took u32 (c.args.row.now) (c.args.at) c.peer_acked-1.given.0.0 c.peer_acked-1.given.0.1.0 = took _ _ u32 (number-lawful 4) ((let by : Bytes (c.args.row.now) = typed (c.args.row.now) c.shared_slice_known-1.given in by)) ((let peer-acked-read : read_at u32 (c.args.row.now) (c.args.at) ≡ takes c.peer_acked-1.given.0.0 c.peer_acked-1.given.0.1.0 = learn u32_says c.u32_at.ensures c.peer_acked-1.given.1 in peer-acked-read)) in peer-acked-took)))).here ≡ takes c.peer_read-1.given.0.0 c.peer_read-1.given.0.1.0 = learn u32_says c.u32_at-2.ensures c.peer_read-1.given.1 in peer-read-read)) in peer-read-took)))).so ((let read-marked-took : Took u32 (c.args.row.now) ((field-yes ((field-yes (start).so ((let peer-acked-took : Took u32 (c.args.row.now) (c.args.at) c.peer_acked-1.given.0.0 c.peer_acked-1.given.0.1.0 = took _ _ u32 (number-lawful 4) ((let by : Bytes (c.args.row.now) = typed (c.args.row.now) c.shared_slice_known-1.given in by)) ((let peer-acked-read : read_at u32 (c.args.row.now) (c.args.at) ≡ takes c.peer_acked-1.given.0.0 c.peer_acked-1.given.0.1.0 = learn u32_says c.u32_at.ensures c.peer_acked-1.given.1 in peer-acked-read)) in peer-acked-took)))).so ((let peer-read-took : Took u32 (c.args.row.now) ((field-yes (start).so ((let peer-acked-took : Took u32 (c.args.row.now) (c.args.at) c.peer_acked-1.given.0.0 c.peer_acked-1.given.0.1.0 = took _ _ u32 (number-lawful 4) ((let by : Bytes (c.args.row.now) = typed (c.args.row.now) c.shared_slice_known-1.given in by)) ((let peer-acked-read : read_at u32 (c.args.row.now) (c.args.at) ≡ takes c.peer_acked-1.given.0.0 c.peer_acked-1.given.0.1.0 = learn u32_says c.u32_at.ensures c.peer_acked-1.given.1 in peer-acked-read)) in peer-acked-took)))).here c.peer_read-1.given.0.0 c.peer_read-1.given.0.1.0 = took _ _ u32 (number-lawful 4) ((let by : Bytes (c.args.row.now) = typed (c.args.row.now) c.shared_slice_known-1.given in by)) ((let peer-read-read : read_at u32 (c.args.row.now) ((field-yes (start).so ((let peer-acked-took : Took u32 (c.args.row.now) (c.args.at) c.peer_acked-1.given.0.0 c.peer_acked-1.given.0.1.0 = took _ _ u32 (number-lawful 4) ((let by : Bytes (c.args.row.now) = typed (c.args.row.now) c.shared_slice_known-1.given in by)) ((let peer-acked-read : read_at u32 (c.args.row.now) (c.args.at) ≡ takes c.peer_acked-1.given.0.0 c.peer_acked-1.given.0.1.0 = learn u32_says c.u32_at.ensures c.peer_acked-1.given.1 in peer-acked-read)) in peer-acked-took)))).here ≡ takes c.peer_read-1.given.0.0 c.peer_read-1.given.0.1.0 = learn u32_says c.u32_at-2.ensures c.peer_read-1.given.1 in peer-read-read)) in peer-read-took)))).here c.read_marked-1.given.0.0 c.read_marked-1.given.0.1.0 = took _ _ u32 (number-lawful 4) ((let by : Bytes (c.args.row.now) = typed (c.args.row.now) c.shared_slice_known-1.given in by)) ((let read-marked-read : read_at u32 (c.args.row.now) ((field-yes ((field-yes (start).so ((let peer-acked-took : Took u32 (c.args.row.now) (c.args.at) c.peer_acked-1.given.0.0 c.peer_acked-1.given.0.1.0 = took _ _ u32 (number-lawful 4) ((let by : Bytes (c.args.row.now) = typed (c.args.row.now) c.shared_slice_known-1.given in by)) ((let peer-acked-read : read_at u32 (c.args.row.now) (c.args.at) ≡ takes c.peer_acked-1.given.0.0 c.peer_acked-1.given.0.1.0 = learn u32_says c.u32_at.ensures c.peer_acked-1.given.1 in peer-acked-read)) in peer-acked-took)))).so ((let peer-read-took : Took u32 (c.args.row.now) ((field-yes (start).so ((let peer-acked-took : Took u32 (c.args.row.now) (c.args.at) c.peer_acked-1.given.0.0 c.peer_acked-1.given.0.1.0 = took _ _ u32 (number-lawful 4) ((let by : Bytes (c.args.row.now) = typed (c.args.row.now) c.shared_slice_known-1.given in by)) ((let peer-acked-read : read_at u32 (c.args.row.now) (c.args.at) ≡ takes c.peer_acked-1.given.0.0 c.peer_acked-1.given.0.1.0 = learn u32_says c.u32_at.ensures c.peer_acked-1.given.1 in peer-acked-read)) in peer-acked-took)))).here c.peer_read-1.given.0.0 c.peer_read-1.given.0.1.0 = took _ _ u32 (number-lawful 4) ((let by : Bytes (c.args.row.now) = typed (c.args.row.now) c.shared_slice_known-1.given in by)) ((let peer-read-read : read_at u32 (c.args.row.now) ((field-yes (start).so ((let peer-acked-took : Took u32 (c.args.row.now) (c.args.at) c.peer_acked-1.given.0.0 c.peer_acked-1.given.0.1.0 = took _ _ u32 (number-lawful 4) ((let by : Bytes (c.args.row.now) = typed (c.args.row.now) c.shared_slice_known-1.given in by)) ((let peer-acked-read : read_at u32 (c.args.row.now) (c.args.at) ≡ takes c.peer_acked-1.given.0.0 c.peer_acked-1.given.0.1.0 = learn u32_says c.u32_at.ensures c.peer_acked-1.given.1 in peer-acked-read)) in peer-acked-took)))).here ≡ takes c.peer_read-1.given.0.0 c.peer_read-1.given.0.1.0 = learn u32_says c.u32_at-2.ensures c.peer_read-1.given.1 in peer-read-read)) in peer-read-took)))).here ≡ takes c.read_marked-1.given.0.0 c.read_marked-1.given.0.1.0 = learn u32_says c.u32_at-3.ensures c.read_marked-1.given.1 in read-marked-read)) in read-marked-took)))).here c.contiguous-1.given.0.0 c.contiguous-1.given.0.1.0 = took _ _ u32 (number-lawful 4) ((let by : Bytes (c.args.row.now) = typed (c.args.row.now) c.shared_slice_known-1.given in by)) ((let contiguous-read : read_at u32 (c.args.row.now) ((field-yes ((field-yes ((field-yes (start).so ((let peer-acked-took : Took u32 (c.args.row.now) (c.args.at) c.peer_acked-1.given.0.0 c.peer_acked-1.given.0.1.0 = took _ _ u32 (number-lawful 4) ((let by : Bytes (c.args.row.now) = typed (c.args.row.now) c.shared_slice_known-1.given in by)) ((let peer-acked-read : read_at u32 (c.args.row.now) (c.args.at) ≡ takes c.peer_acked-1.given.0.0 c.peer_acked-1.given.0.1.0 = learn u32_says c.u32_at.ensures c.peer_acked-1.given.1 in peer-acked-read)) in peer-acked-took)))).so ((let peer-read-took : Took u32 (c.args.row.now) ((field-yes (start).so ((let peer-acked-took : Took u32 (c.args.row.now) (c.args.at) c.peer_acked-1.given.0.0 c.peer_acked-1.given.0.1.0 = took _ _ u32 (number-lawful 4) ((let by : Bytes (c.args.row.now) = typed (c.args.row.now) c.shared_slice_known-1.given in by)) ((let peer-acked-read : read_at u32 (c.args.row.now) (c.args.at) ≡ takes c.peer_acked-1.given.0.0 c.peer_acked-1.given.0.1.0 = learn u32_says c.u32_at.ensures c.peer_acked-1.given.1 in peer-acked-read)) in peer-acked-took)))).here c.peer_read-1.given.0.0 c.peer_read-1.given.0.1.0 = took _ _ u32 (number-lawful 4) ((let by : Bytes (c.args.row.now) = typed (c.args.row.now) c.shared_slice_known-1.given in by)) ((let peer-read-read : read_at u32 (c.args.row.now) ((field-yes (start).so ((let peer-acked-took : Took u32 (c.args.row.now) (c.args.at) c.peer_acked-1.given.0.0 c.peer_acked-1.given.0.1.0 = took _ _ u32 (number-lawful 4) ((let by : Bytes (c.args.row.now) = typed (c.args.row.now) c.shared_slice_known-1.given in by)) ((let peer-acked-read : read_at u32 (c.args.row.now) (c.args.at) ≡ takes c.peer_acked-1.given.0.0 c.peer_acked-1.given.0.1.0 = learn u32_says c.u32_at.ensures c.peer_acked-1.given.1 in peer-acked-read)) in peer-acked-took)))).here ≡ takes c.peer_read-1.given.0.0 c.peer_read-1.given.0.1.0 = learn u32_says c.u32_at-2.ensures c.peer_read-1.given.1 in peer-read-read)) in peer-read-took)))).so ((let read-marked-took : Took u32 (c.args.row.now) ((field-yes ((field-yes (start).so ((let peer-acked-took : Took u32 (c.args.row.now) (c.args.at) c.peer_acked-1.given.0.0 c.peer_acked-1.given.0.1.0 = took _ _ u32 (number-lawful 4) ((let by : Bytes (c.args.row.now) = typed (c.args.row.now) c.shared_slice_known-1.given in by)) ((let peer-acked-read : read_at u32 (c.args.row.now) (c.args.at) ≡ takes c.peer_acked-1.given.0.0 c.peer_acked-1.given.0.1.0 = learn u32_says c.u32_at.ensures c.peer_acked-1.given.1 in peer-acked-read)) in peer-acked-took)))).so ((let peer-read-took : Took u32 (c.args.row.now) ((field-yes (start).so ((let peer-acked-took : Took u32 (c.args.row.now) (c.args.at) c.peer_acked-1.given.0.0 c.peer_acked-1.given.0.1.0 = took _ _ u32 (number-lawful 4) ((let by : Bytes (c.args.row.now) = typed (c.args.row.now) c.shared_slice_known-1.given in by)) ((let peer-acked-read : read_at u32 (c.args.row.now) (c.args.at) ≡ takes c.peer_acked-1.given.0.0 c.peer_acked-1.given.0.1.0 = learn u32_says c.u32_at.ensures c.peer_acked-1.given.1 in peer-acked-read)) in peer-acked-took)))).here c.peer_read-1.given.0.0 c.peer_read-1.given.0.1.0 = took _ _ u32 (number-lawful 4) ((let by : Bytes (c.args.row.now) = typed (c.args.row.now) c.shared_slice_known-1.given in by)) ((let peer-read-read : read_at u32 (c.args.row.now) ((field-yes (start).so ((let peer-acked-took : Took u32 (c.args.row.now) (c.args.at) c.peer_acked-1.given.0.0 c.peer_acked-1.given.0.1.0 = took _ _ u32 (number-lawful 4) ((let by : Bytes (c.args.row.now) = typed (c.args.row.now) c.shared_slice_known-1.given in by)) ((let peer-acked-read : read_at u32 (c.args.row.now) (c.args.at) ≡ takes c.peer_acked-1.given.0.0 c.peer_acked-1.given.0.1.0 = learn u32_says c.u32_at.ensures c.peer_acked-1.given.1 in peer-acked-read)) in peer-acked-took)))).here ≡ takes c.peer_read-1.given.0.0 c.peer_read-1.given.0.1.0 = learn u32_says c.u32_at-2.ensures c.peer_read-1.given.1 in peer-read-read)) in peer-read-took)))).here c.read_marked-1.given.0.0 c.read_marked-1.given.0.1.0 = took _ _ u32 (number-lawful 4) ((let by : Bytes (c.args.row.now) = typed (c.args.row.now) c.shared_slice_known-1.given in by)) ((let read-marked-read : read_at u32 (c.args.row.now) ((field-yes ((field-yes (start).so ((let peer-acked-took : Took u32 (c.args.row.now) (c.args.at) c.peer_acked-1.given.0.0 c.peer_acked-1.given.0.1.0 = took _ _ u32 (number-lawful 4) ((let by : Bytes (c.args.row.now) = typed (c.args.row.now) c.shared_slice_known-1.given in by)) ((let peer-acked-read : read_at u32 (c.args.row.now) (c.args.at) ≡ takes c.peer_acked-1.given.0.0 c.peer_acked-1.given.0.1.0 = learn u32_says c.u32_at.ensures c.peer_acked-1.given.1 in peer-acked-read)) in peer-acked-took)))).so ((let peer-read-took : Took u32 (c.args.row.now) ((field-yes (start).so ((let peer-acked-took : Took u32 (c.args.row.now) (c.args.at) c.peer_acked-1.given.0.0 c.peer_acked-1.given.0.1.0 = took _ _ u32 (number-lawful 4) ((let by : Bytes (c.args.row.now) = typed (c.args.row.now) c.shared_slice_known-1.given in by)) ((let peer-acked-read : read_at u32 (c.args.row.now) (c.args.at) ≡ takes c.peer_acked-1.given.0.0 c.peer_acked-1.given.0.1.0 = learn u32_says c.u32_at.ensures c.peer_acked-1.given.1 in peer-acked-read)) in peer-acked-took)))).here c.peer_read-1.given.0.0 c.peer_read-1.given.0.1.0 = took _ _ u32 (number-lawful 4) ((let by : Bytes (c.args.row.now) = typed (c.args.row.now) c.shared_slice_known-1.given in by)) ((let peer-read-read : read_at u32 (c.args.row.now) ((field-yes (start).so ((let peer-acked-took : Took u32 (c.args.row.now) (c.args.at) c.peer_acked-1.given.0.0 c.peer_acked-1.given.0.1.0 = took _ _ u32 (number-lawful 4) ((let by : Bytes (c.args.row.now) = typed (c.args.row.now) c.shared_slice_known-1.given in by)) ((let peer-acked-read : read_at u32 (c.args.row.now) (c.args.at) ≡ takes c.peer_acked-1.given.0.0 c.peer_acked-1.given.0.1.0 = learn u32_says c.u32_at.ensures c.peer_acked-1.given.1 in peer-acked-read)) in peer-acked-took)))).here ≡ takes c.peer_read-1.given.0.0 c.peer_read-1.given.0.1.0 = learn u32_says c.u32_at-2.ensures c.peer_read-1.given.1 in peer-read-read)) in peer-read-took)))).here ≡ takes c.read_marked-1.given.0.0 c.read_marked-1.given.0.1.0 = learn u32_says c.u32_at-3.ensures c.read_marked-1.given.1 in read-marked-read)) in read-marked-took)))).here ≡ takes c.contiguous-1.given.0.0 c.contiguous-1.given.0.1.0 = learn u32_says c.u32_at-4.ensures c.contiguous-1.given.1 in contiguous-read)) in contiguous-took)))).so ((let above-took : Took (list (group range)) (c.args.row.now) ((field-yes ((field-yes ((field-yes ((field-yes (start).so ((let peer-acked-took : Took u32 (c.args.row.now) (c.args.at) c.peer_acked-1.given.0.0 c.peer_acked-1.given.0.1.0 = took _ _ u32 (number-lawful 4) ((let by : Bytes (c.args.row.now) = typed (c.args.row.now) c.shared_slice_known-1.given in by)) ((let peer-acked-read : read_at u32 (c.args.row.now) (c.args.at) ≡ takes c.peer_acked-1.given.0.0 c.peer_acked-1.given.0.1.0 = learn u32_says c.u32_at.ensures c.peer_acked-1.given.1 in peer-acked-read)) in peer-acked-took)))).so ((let peer-read-took : Took u32 (c.args.row.now) ((field-yes (start).so ((let peer-acked-took : Took u32 (c.args.row.now) (c.args.at) c.peer_acked-1.given.0.0 c.peer_acked-1.given.0.1.0 = took _ _ u32 (number-lawful 4) ((let by : Bytes (c.args.row.now) = typed (c.args.row.now) c.shared_slice_known-1.given in by)) ((let peer-acked-read : read_at u32 (c.args.row.now) (c.args.at) ≡ takes c.peer_acked-1.given.0.0 c.peer_acked-1.given.0.1.0 = learn u32_says c.u32_at.ensures c.peer_acked-1.given.1 in peer-acked-read)) in peer-acked-took)))).here c.peer_read-1.given.0.0 c.peer_read-1.given.0.1.0 = took _ _ u32 (number-lawful 4) ((let by : Bytes (c.args.row.now) = typed (c.args.row.now) c.shared_slice_known-1.given in by)) ((let peer-read-read : read_at u32 (c.args.row.now) ((field-yes (start).so ((let peer-acked-took : Took u32 (c.args.row.now) (c.args.at) c.peer_acked-1.given.0.0 c.peer_acked-1.given.0.1.0 = took _ _ u32 (number-lawful 4) ((let by : Bytes (c.args.row.now) = typed (c.args.row.now) c.shared_slice_known-1.given in by)) ((let peer-acked-read : read_at u32 (c.args.row.now) (c.args.at) ≡ takes c.peer_acked-1.given.0.0 c.peer_acked-1.given.0.1.0 = learn u32_says c.u32_at.ensures c.peer_acked-1.given.1 in peer-acked-read)) in peer-acked-took)))).here ≡ takes c.peer_read-1.given.0.0 c.peer_read-1.given.0.1.0 = learn u32_says c.u32_at-2.ensures c.peer_read-1.given.1 in peer-read-read)) in peer-read-took)))).so ((let read-marked-took : Took u32 (c.args.row.now) ((field-yes ((field-yes (start).so ((let peer-acked-took : Took u32 (c.args.row.now) (c.args.at) c.peer_acked-1.given.0.0 c.peer_acked-1.given.0.1.0 = took _ _ u32 (number-lawful 4) ((let by : Bytes (c.args.row.now) = typed (c.args.row.now) c.shared_slice_known-1.given in by)) ((let peer-acked-read : read_at u32 (c.args.row.now) (c.args.at) ≡ takes c.peer_acked-1.given.0.0 c.peer_acked-1.given.0.1.0 = learn u32_says c.u32_at.ensures c.peer_acked-1.given.1 in peer-acked-read)) in peer-acked-took)))).so ((let peer-read-took : Took u32 (c.args.row.now) ((field-yes (start).so ((let peer-acked-took : Took u32 (c.args.row.now) (c.args.at) c.peer_acked-1.given.0.0 c.peer_acked-1.given.0.1.0 = took _ _ u32 (number-lawful 4) ((let by : Bytes (c.args.row.now) = typed (c.args.row.now) c.shared_slice_known-1.given in by)) ((let peer-acked-read : read_at u32 (c.args.row.now) (c.args.at) ≡ takes c.peer_acked-1.given.0.0 c.peer_acked-1.given.0.1.0 = learn u32_says c.u32_at.ensures c.peer_acked-1.given.1 in peer-acked-read)) in peer-acked-took)))).here c.peer_read-1.given.0.0 c.peer_read-1.given.0.1.0 = took _ _ u32 (number-lawful 4) ((let by : Bytes (c.args.row.now) = typed (c.args.row.now) c.shared_slice_known-1.given in by)) ((let peer-read-read : read_at u32 (c.args.row.now) ((field-yes (start).so ((let peer-acked-took : Took u32 (c.args.row.now) (c.args.at) c.peer_acked-1.given.0.0 c.peer_acked-1.given.0.1.0 = took _ _ u32 (number-lawful 4) ((let by : Bytes (c.args.row.now) = typed (c.args.row.now) c.shared_slice_known-1.given in by)) ((let peer-acked-read : read_at u32 (c.args.row.now) (c.args.at) ≡ takes c.peer_acked-1.given.0.0 c.peer_acked-1.given.0.1.0 = learn u32_says c.u32_at.ensures c.peer_acked-1.given.1 in peer-acked-read)) in peer-acked-took)))).here ≡ takes c.peer_read-1.given.0.0 c.peer_read-1.given.0.1.0 = learn u32_says c.u32_at-2.ensures c.peer_read-1.given.1 in peer-read-read)) in peer-read-took)))).here c.read_marked-1.given.0.0 c.read_marked-1.given.0.1.0 = took _ _ u32 (number-lawful 4) ((let by : Bytes (c.args.row.now) = typed (c.args.row.now) c.shared_slice_known-1.given in by)) ((let read-marked-read : read_at u32 (c.args.row.now) ((field-yes ((field-yes (start).so ((let peer-acked-took : Took u32 (c.args.row.now) (c.args.at) c.peer_acked-1.given.0.0 c.peer_acked-1.given.0.1.0 = took _ _ u32 (number-lawful 4) ((let by : Bytes (c.args.row.now) = typed (c.args.row.now) c.shared_slice_known-1.given in by)) ((let peer-acked-read : read_at u32 (c.args.row.now) (c.args.at) ≡ takes c.peer_acked-1.given.0.0 c.peer_acked-1.given.0.1.0 = learn u32_says c.u32_at.ensures c.peer_acked-1.given.1 in peer-acked-read)) in peer-acked-took)))).so ((let peer-read-took : Took u32 (c.args.row.now) ((field-yes (start).so ((let peer-acked-took : Took u32 (c.args.row.now) (c.args.at) c.peer_acked-1.given.0.0 c.peer_acked-1.given.0.1.0 = took _ _ u32 (number-lawful 4) ((let by : Bytes (c.args.row.now) = typed (c.args.row.now) c.shared_slice_known-1.given in by)) ((let peer-acked-read : read_at u32 (c.args.row.now) (c.args.at) ≡ takes c.peer_acked-1.given.0.0 c.peer_acked-1.given.0.1.0 = learn u32_says c.u32_at.ensures c.peer_acked-1.given.1 in peer-acked-read)) in peer-acked-took)))).here c.peer_read-1.given.0.0 c.peer_read-1.given.0.1.0 = took _ _ u32 (number-lawful 4) ((let by : Bytes (c.args.row.now) = typed (c.args.row.now) c.shared_slice_known-1.given in by)) ((let peer-read-read : read_at u32 (c.args.row.now) ((field-yes (start).so ((let peer-acked-took : Took u32 (c.args.row.now) (c.args.at) c.peer_acked-1.given.0.0 c.peer_acked-1.given.0.1.0 = took _ _ u32 (number-lawful 4) ((let by : Bytes (c.args.row.now) = typed (c.args.row.now) c.shared_slice_known-1.given in by)) ((let peer-acked-read : read_at u32 (c.args.row.now) (c.args.at) ≡ takes c.peer_acked-1.given.0.0 c.peer_acked-1.given.0.1.0 = learn u32_says c.u32_at.ensures c.peer_acked-1.given.1 in peer-acked-read)) in peer-acked-took)))).here ≡ takes c.peer_read-1.given.0.0 c.peer_read-1.given.0.1.0 = learn u32_says c.u32_at-2.ensures c.peer_read-1.given.1 in peer-read-read)) in peer-read-took)))).here ≡ takes c.read_marked-1.given.0.0 c.read_marked-1.given.0.1.0 = learn u32_says c.u32_at-3.ensures c.read_marked-1.given.1 in read-marked-read)) in read-marked-took)))).so ((let contiguous-took : Took u32 (c.args.row.now) ((field-yes ((field-yes ((field-yes (start).so ((let peer-acked-took : Took u32 (c.args.row.now) (c.args.at) c.peer_acked-1.given.0.0 c.peer_acked-1.given.0.1.0 = took _ _ u32 (number-lawful 4) ((let by : Bytes (c.args.row.now) = typed (c.args.row.now) c.shared_slice_known-1.given in by)) ((let peer-acked-read : read_at u32 (c.args.row.now) (c.args.at) ≡ takes c.peer_acked-1.given.0.0 c.peer_acked-1.given.0.1.0 = learn u32_says c.u32_at.ensures c.peer_acked-1.given.1 in peer-acked-read)) in peer-acked-took)))).so ((let peer-read-took : Took u32 (c.args.row.now) ((field-yes (start).so ((let peer-acked-took : Took u32 (c.args.row.now) (c.args.at) c.peer_acked-1.given.0.0 c.peer_acked-1.given.0.1.0 = took _ _ u32 (number-lawful 4) ((let by : Bytes (c.args.row.now) = typed (c.args.row.now) c.shared_slice_known-1.given in by)) ((let peer-acked-read : read_at u32 (c.args.row.now) (c.args.at) ≡ takes c.peer_acked-1.given.0.0 c.peer_acked-1.given.0.1.0 = learn u32_says c.u32_at.ensures c.peer_acked-1.given.1 in peer-acked-read)) in peer-acked-took)))).here c.peer_read-1.given.0.0 c.peer_read-1.given.0.1.0 = took _ _ u32 (number-lawful 4) ((let by : Bytes (c.args.row.now) = typed (c.args.row.now) c.shared_slice_known-1.given in by)) ((let peer-read-read : read_at u32 (c.args.row.now) ((field-yes (start).so ((let peer-acked-took : Took u32 (c.args.row.now) (c.args.at) c.peer_acked-1.given.0.0 c.peer_acked-1.given.0.1.0 = took _ _ u32 (number-lawful 4) ((let by : Bytes (c.args.row.now) = typed (c.args.row.now) c.shared_slice_known-1.given in by)) ((let peer-acked-read : read_at u32 (c.args.row.now) (c.args.at) ≡ takes c.peer_acked-1.given.0.0 c.peer_acked-1.given.0.1.0 = learn u32_says c.u32_at.ensures c.peer_acked-1.given.1 in peer-acked-read)) in peer-acked-took)))).here ≡ takes c.peer_read-1.given.0.0 c.peer_read-1.given.0.1.0 = learn u32_says c.u32_at-2.ensures c.peer_read-1.given.1 in peer-read-read)) in peer-read-took)))).so ((let read-marked-took : Took u32 (c.args.row.now) ((field-yes ((field-yes (start).so ((let peer-acked-took : Took u32 (c.args.row.now) (c.args.at) c.peer_acked-1.given.0.0 c.peer_acked-1.given.0.1.0 = took _ _ u32 (number-lawful 4) ((let by : Bytes (c.args.row.now) = typed (c.args.row.now) c.shared_slice_known-1.given in by)) ((let peer-acked-read : read_at u32 (c.args.row.now) (c.args.at) ≡ takes c.peer_acked-1.given.0.0 c.peer_acked-1.given.0.1.0 = learn u32_says c.u32_at.ensures c.peer_acked-1.given.1 in peer-acked-read)) in peer-acked-took)))).so ((let peer-read-took : Took u32 (c.args.row.now) ((field-yes (start).so ((let peer-acked-took : Took u32 (c.args.row.now) (c.args.at) c.peer_acked-1.given.0.0 c.peer_acked-1.given.0.1.0 = took _ _ u32 (number-lawful 4) ((let by : Bytes (c.args.row.now) = typed (c.args.row.now) c.shared_slice_known-1.given in by)) ((let peer-acked-read : read_at u32 (c.args.row.now) (c.args.at) ≡ takes c.peer_acked-1.given.0.0 c.peer_acked-1.given.0.1.0 = learn u32_says c.u32_at.ensures c.peer_acked-1.given.1 in peer-acked-read)) in peer-acked-took)))).here c.peer_read-1.given.0.0 c.peer_read-1.given.0.1.0 = took _ _ u32 (number-lawful 4) ((let by : Bytes (c.args.row.now) = typed (c.args.row.now) c.shared_slice_known-1.given in by)) ((let peer-read-read : read_at u32 (c.args.row.now) ((field-yes (start).so ((let peer-acked-took : Took u32 (c.args.row.now) (c.args.at) c.peer_acked-1.given.0.0 c.peer_acked-1.given.0.1.0 = took _ _ u32 (number-lawful 4) ((let by : Bytes (c.args.row.now) = typed (c.args.row.now) c.shared_slice_known-1.given in by)) ((let peer-acked-read : read_at u32 (c.args.row.now) (c.args.at) ≡ takes c.peer_acked-1.given.0.0 c.peer_acked-1.given.0.1.0 = learn u32_says c.u32_at.ensures c.peer_acked-1.given.1 in peer-acked-read)) in peer-acked-took)))).here ≡ takes c.peer_read-1.given.0.0 c.peer_read-1.given.0.1.0 = learn u32_says c.u32_at-2.ensures c.peer_read-1.given.1 in peer-read-read)) in peer-read-took)))).here c.read_marked-1.given.0.0 c.read_marked-1.given.0.1.0 = took _ _ u32 (number-lawful 4) ((let by : Bytes (c.args.row.now) = typed (c.args.row.now) c.shared_slice_known-1.given in by)) ((let read-marked-read : read_at u32 (c.args.row.now) ((field-yes ((field-yes (start).so ((let peer-acked-took : Took u32 (c.args.row.now) (c.args.at) c.peer_acked-1.given.0.0 c.peer_acked-1.given.0.1.0 = took _ _ u32 (number-lawful 4) ((let by : Bytes (c.args.row.now) = typed (c.args.row.now) c.shared_slice_known-1.given in by)) ((let peer-acked-read : read_at u32 (c.args.row.now) (c.args.at) ≡ takes c.peer_acked-1.given.0.0 c.peer_acked-1.given.0.1.0 = learn u32_says c.u32_at.ensures c.peer_acked-1.given.1 in peer-acked-read)) in peer-acked-took)))).so ((let peer-read-took : Took u32 (c.args.row.now) ((field-yes (start).so ((let peer-acked-took : Took u32 (c.args.row.now) (c.args.at) c.peer_acked-1.given.0.0 c.peer_acked-1.given.0.1.0 = took _ _ u32 (number-lawful 4) ((let by : Bytes (c.args.row.now) = typed (c.args.row.now) c.shared_slice_known-1.given in by)) ((let peer-acked-read : read_at u32 (c.args.row.now) (c.args.at) ≡ takes c.peer_acked-1.given.0.0 c.peer_acked-1.given.0.1.0 = learn u32_says c.u32_at.ensures c.peer_acked-1.given.1 in peer-acked-read)) in peer-acked-took)))).here c.peer_read-1.given.0.0 c.peer_read-1.given.0.1.0 = took _ _ u32 (number-lawful 4) ((let by : Bytes (c.args.row.now) = typed (c.args.row.now) c.shared_slice_known-1.given in by)) ((let peer-read-read : read_at u32 (c.args.row.now) ((field-yes (start).so ((let peer-acked-took : Took u32 (c.args.row.now) (c.args.at) c.peer_acked-1.given.0.0 c.peer_acked-1.given.0.1.0 = took _ _ u32 (number-lawful 4) ((let by : Bytes (c.args.row.now) = typed (c.args.row.now) c.shared_slice_known-1.given in by)) ((let peer-acked-read : read_at u32 (c.args.row.now) (c.args.at) ≡ takes c.peer_acked-1.given.0.0 c.peer_acked-1.given.0.1.0 = learn u32_says c.u32_at.ensures c.peer_acked-1.given.1 in peer-acked-read)) in peer-acked-took)))).here ≡ takes c.peer_read-1.given.0.0 c.peer_read-1.given.0.1.0 = learn u32_says c.u32_at-2.ensures c.peer_read-1.given.1 in peer-read-read)) in peer-read-took)))).here ≡ takes c.read_marked-1.given.0.0 c.read_marked-1.given.0.1.0 = learn u32_says c.u32_at-3.ensures c.read_marked-1.given.1 in read-marked-read)) in read-marked-took)))).here c.contiguous-1.given.0.0 c.contiguous-1.given.0.1.0 = took _ _ u32 (number-lawful 4) ((let by : Bytes (c.args.row.now) = typed (c.args.row.now) c.shared_slice_known-1.given in by)) ((let contiguous-read : read_at u32 (c.args.row.now) ((field-yes ((field-yes ((field-yes (start).so ((let peer-acked-took : Took u32 (c.args.row.now) (c.args.at) c.peer_acked-1.given.0.0 c.peer_acked-1.given.0.1.0 = took _ _ u32 (number-lawful 4) ((let by : Bytes (c.args.row.now) = typed (c.args.row.now) c.shared_slice_known-1.given in by)) ((let peer-acked-read : read_at u32 (c.args.row.now) (c.args.at) ≡ takes c.peer_acked-1.given.0.0 c.peer_acked-1.given.0.1.0 = learn u32_says c.u32_at.ensures c.peer_acked-1.given.1 in peer-acked-read)) in peer-acked-took)))).so ((let peer-read-took : Took u32 (c.args.row.now) ((field-yes (start).so ((let peer-acked-took : Took u32 (c.args.row.now) (c.args.at) c.peer_acked-1.given.0.0 c.peer_acked-1.given.0.1.0 = took _ _ u32 (number-lawful 4) ((let by : Bytes (c.args.row.now) = typed (c.args.row.now) c.shared_slice_known-1.given in by)) ((let peer-acked-read : read_at u32 (c.args.row.now) (c.args.at) ≡ takes c.peer_acked-1.given.0.0 c.peer_acked-1.given.0.1.0 = learn u32_says c.u32_at.ensures c.peer_acked-1.given.1 in peer-acked-read)) in peer-acked-took)))).here c.peer_read-1.given.0.0 c.peer_read-1.given.0.1.0 = took _ _ u32 (number-lawful 4) ((let by : Bytes (c.args.row.now) = typed (c.args.row.now) c.shared_slice_known-1.given in by)) ((let peer-read-read : read_at u32 (c.args.row.now) ((field-yes (start).so ((let peer-acked-took : Took u32 (c.args.row.now) (c.args.at) c.peer_acked-1.given.0.0 c.peer_acked-1.given.0.1.0 = took _ _ u32 (number-lawful 4) ((let by : Bytes (c.args.row.now) = typed (c.args.row.now) c.shared_slice_known-1.given in by)) ((let peer-acked-read : read_at u32 (c.args.row.now) (c.args.at) ≡ takes c.peer_acked-1.given.0.0 c.peer_acked-1.given.0.1.0 = learn u32_says c.u32_at.ensures c.peer_acked-1.given.1 in peer-acked-read)) in peer-acked-took)))).here ≡ takes c.peer_read-1.given.0.0 c.peer_read-1.given.0.1.0 = learn u32_says c.u32_at-2.ensures c.peer_read-1.given.1 in peer-read-read)) in peer-read-took)))).so ((let read-marked-took : Took u32 (c.args.row.now) ((field-yes ((field-yes (start).so ((let peer-acked-took : Took u32 (c.args.row.now) (c.args.at) c.peer_acked-1.given.0.0 c.peer_acked-1.given.0.1.0 = took _ _ u32 (number-lawful 4) ((let by : Bytes (c.args.row.now) = typed (c.args.row.now) c.shared_slice_known-1.given in by)) ((let peer-acked-read : read_at u32 (c.args.row.now) (c.args.at) ≡ takes c.peer_acked-1.given.0.0 c.peer_acked-1.given.0.1.0 = learn u32_says c.u32_at.ensures c.peer_acked-1.given.1 in peer-acked-read)) in peer-acked-took)))).so ((let peer-read-took : Took u32 (c.args.row.now) ((field-yes (start).so ((let peer-acked-took : Took u32 (c.args.row.now) (c.args.at) c.peer_acked-1.given.0.0 c.peer_acked-1.given.0.1.0 = took _ _ u32 (number-lawful 4) ((let by : Bytes (c.args.row.now) = typed (c.args.row.now) c.shared_slice_known-1.given in by)) ((let peer-acked-read : read_at u32 (c.args.row.now) (c.args.at) ≡ takes c.peer_acked-1.given.0.0 c.peer_acked-1.given.0.1.0 = learn u32_says c.u32_at.ensures c.peer_acked-1.given.1 in peer-acked-read)) in peer-acked-took)))).here c.peer_read-1.given.0.0 c.peer_read-1.given.0.1.0 = took _ _ u32 (number-lawful 4) ((let by : Bytes (c.args.row.now) = typed (c.args.row.now) c.shared_slice_known-1.given in by)) ((let peer-read-read : read_at u32 (c.args.row.now) ((field-yes (start).so ((let peer-acked-took : Took u32 (c.args.row.now) (c.args.at) c.peer_acked-1.given.0.0 c.peer_acked-1.given.0.1.0 = took _ _ u32 (number-lawful 4) ((let by : Bytes (c.args.row.now) = typed (c.args.row.now) c.shared_slice_known-1.given in by)) ((let peer-acked-read : read_at u32 (c.args.row.now) (c.args.at) ≡ takes c.peer_acked-1.given.0.0 c.peer_acked-1.given.0.1.0 = learn u32_says c.u32_at.ensures c.peer_acked-1.given.1 in peer-acked-read)) in peer-acked-took)))).here ≡ takes c.peer_read-1.given.0.0 c.peer_read-1.given.0.1.0 = learn u32_says c.u32_at-2.ensures c.peer_read-1.given.1 in peer-read-read)) in peer-read-took)))).here c.read_marked-1.given.0.0 c.read_marked-1.given.0.1.0 = took _ _ u32 (number-lawful 4) ((let by : Bytes (c.args.row.now) = typed (c.args.row.now) c.shared_slice_known-1.given in by)) ((let read-marked-read : read_at u32 (c.args.row.now) ((field-yes ((field-yes (start).so ((let peer-acked-took : Took u32 (c.args.row.now) (c.args.at) c.peer_acked-1.given.0.0 c.peer_acked-1.given.0.1.0 = took _ _ u32 (number-lawful 4) ((let by : Bytes (c.args.row.now) = typed (c.args.row.now) c.shared_slice_known-1.given in by)) ((let peer-acked-read : read_at u32 (c.args.row.now) (c.args.at) ≡ takes c.peer_acked-1.given.0.0 c.peer_acked-1.given.0.1.0 = learn u32_says c.u32_at.ensures c.peer_acked-1.given.1 in peer-acked-read)) in peer-acked-took)))).so ((let peer-read-took : Took u32 (c.args.row.now) ((field-yes (start).so ((let peer-acked-took : Took u32 (c.args.row.now) (c.args.at) c.peer_acked-1.given.0.0 c.peer_acked-1.given.0.1.0 = took _ _ u32 (number-lawful 4) ((let by : Bytes (c.args.row.now) = typed (c.args.row.now) c.shared_slice_known-1.given in by)) ((let peer-acked-read : read_at u32 (c.args.row.now) (c.args.at) ≡ takes c.peer_acked-1.given.0.0 c.peer_acked-1.given.0.1.0 = learn u32_says c.u32_at.ensures c.peer_acked-1.given.1 in peer-acked-read)) in peer-acked-took)))).here c.peer_read-1.given.0.0 c.peer_read-1.given.0.1.0 = took _ _ u32 (number-lawful 4) ((let by : Bytes (c.args.row.now) = typed (c.args.row.now) c.shared_slice_known-1.given in by)) ((let peer-read-read : read_at u32 (c.args.row.now) ((field-yes (start).so ((let peer-acked-took : Took u32 (c.args.row.now) (c.args.at) c.peer_acked-1.given.0.0 c.peer_acked-1.given.0.1.0 = took _ _ u32 (number-lawful 4) ((let by : Bytes (c.args.row.now) = typed (c.args.row.now) c.shared_slice_known-1.given in by)) ((let peer-acked-read : read_at u32 (c.args.row.now) (c.args.at) ≡ takes c.peer_acked-1.given.0.0 c.peer_acked-1.given.0.1.0 = learn u32_says c.u32_at.ensures c.peer_acked-1.given.1 in peer-acked-read)) in peer-acked-took)))).here ≡ takes c.peer_read-1.given.0.0 c.peer_read-1.given.0.1.0 = learn u32_says c.u32_at-2.ensures c.peer_read-1.given.1 in peer-read-read)) in peer-read-took)))).here ≡ takes c.read_marked-1.given.0.0 c.read_marked-1.given.0.1.0 = learn u32_says c.u32_at-3.ensures c.read_marked-1.given.1 in read-marked-read)) in read-marked-took)))).here ≡ takes c.contiguous-1.given.0.0 c.contiguous-1.given.0.1.0 = learn u32_says c.u32_at-4.ensures c.contiguous-1.given.1 in contiguous-read)) in contiguous-took)))).here (list_in (group range) (c.args.row.now) c.above_field-1.given.0.0) c.above_field-1.given.0.0.next = list-took (group range) range-lawful (c.args.row.now) ((let by : Bytes (c.args.row.now) = typed (c.args.row.now) c.shared_slice_known-1.given in by)) _ c.ranges_at-above_field.ensures c.above_field-1.given.1 in above-took)))).so (refused-at _ _ (list u32) (learn (list_says u32 (c.args.row.now)) c.numbers_at-unacked_field.ensures.0 c.enum_told-in_default-unacked_field-1.given.1)) in
-    rw (c.refusal-in_default-unacked_field.ensures ∙ ap list_refusal c.enum_told-in_default-unacked_field-1.given.1) ((sym (ap (numbers_found (c.args.at)) (refuses-at (c.args.row.now) (c.args.at) (group numbers) stop))))
+    let r0 : (Reached numbers c.args.row.now c.args.at) = start in
+    let by : Bytes c.args.row.now = typed c.args.row.now c.type_inv.row in
+    let peer-acked-read : read_at u32 c.args.row.now c.args.at ≡ takes c.in-Value.peer_acked c.in-Value.at1 = learn u32_says c.u32_at.ensures c.in-Value.is in
+    let peer-acked-took : Took u32 c.args.row.now c.args.at c.in-Value.peer_acked c.in-Value.at1 = took _ _ u32 (number-lawful 4) by peer-acked-read in
+    let r1 : (Reached numbers c.args.row.now c.args.at) = field-yes r0.so peer-acked-took in
+    let peer-read-read : read_at u32 c.args.row.now r1.here ≡ takes c.in-Value-u32_at.peer_read c.in-Value-u32_at.at2 = learn u32_says c.u32_at-2.ensures c.in-Value-u32_at.is in
+    let peer-read-took : Took u32 c.args.row.now r1.here c.in-Value-u32_at.peer_read c.in-Value-u32_at.at2 = took _ _ u32 (number-lawful 4) by peer-read-read in
+    let r2 : (Reached numbers c.args.row.now c.args.at) = field-yes r1.so peer-read-took in
+    let read-marked-read : read_at u32 c.args.row.now r2.here ≡ takes c.in-Value-u32_at-2.read_marked c.in-Value-u32_at-2.at3 = learn u32_says c.u32_at-3.ensures c.in-Value-u32_at-2.is in
+    let read-marked-took : Took u32 c.args.row.now r2.here c.in-Value-u32_at-2.read_marked c.in-Value-u32_at-2.at3 = took _ _ u32 (number-lawful 4) by read-marked-read in
+    let r3 : (Reached numbers c.args.row.now c.args.at) = field-yes r2.so read-marked-took in
+    let contiguous-read : read_at u32 c.args.row.now r3.here ≡ takes c.in-Value-u32_at-3.contiguous c.in-Value-u32_at-3.at4 = learn u32_says c.u32_at-4.ensures c.in-Value-u32_at-3.is in
+    let contiguous-took : Took u32 c.args.row.now r3.here c.in-Value-u32_at-3.contiguous c.in-Value-u32_at-3.at4 = took _ _ u32 (number-lawful 4) by contiguous-read in
+    let r4 : (Reached numbers c.args.row.now c.args.at) = field-yes r3.so contiguous-took in
+    let above-took : Took (list (group range)) c.args.row.now r4.here (list_in (group range) c.args.row.now c.in-Value-above_field.above) c.in-Value-above_field.above.next = list-took (group range) range-lawful c.args.row.now by _ c.ranges_at-above_field.ensures c.in-Value-above_field.is in
+    let r5 : (Reached numbers c.args.row.now c.args.at) = field-yes r4.so above-took in
+    let stop = field-no r5.so (refused-at _ _ (list u32) (learn (list_says u32 c.args.row.now) c.numbers_at-unacked_field.ensures.0 c.in_default-unacked_field.is)) in
+    rw (c.refusal-in_default-unacked_field.ensures ∙ ap list_refusal c.in_default-unacked_field.is) ((sym (ap (numbers_found c.args.at) (refuses-at c.args.row.now c.args.at (group numbers) stop))))
 
 pub returns-in_default-expired_field : goal.returns-in_default-expired_field
 returns-in_default-expired_field c =
-    let stop = field-no ((field-yes ((field-yes ((field-yes ((field-yes ((field-yes ((field-yes (start).so ((let peer-acked-took : Took u32 (c.args.row.now) (c.args.at) c.peer_acked-1.given.0.0 c.peer_acked-1.given.0.1.0 = took _ _ u32 (number-lawful 4) ((let by : Bytes (c.args.row.now) = typed (c.args.row.now) c.shared_slice_known-1.given in by)) ((let peer-acked-read : read_at u32 (c.args.row.now) (c.args.at) ≡ takes c.peer_acked-1.given.0.0 c.peer_acked-1.given.0.1.0 = learn u32_says c.u32_at.ensures c.peer_acked-1.given.1 in peer-acked-read)) in peer-acked-took)))).so ((let peer-read-took : Took u32 (c.args.row.now) ((field-yes (start).so ((let peer-acked-took : Took u32 (c.args.row.now) (c.args.at) c.peer_acked-1.given.0.0 c.peer_acked-1.given.0.1.0 = took _ _ u32 (number-lawful 4) ((let by : Bytes (c.args.row.now) = typed (c.args.row.now) c.shared_slice_known-1.given in by)) ((let peer-acked-read : read_at u32 (c.args.row.now) (c.args.at) ≡ takes c.peer_acked-1.given.0.0 c.peer_acked-1.given.0.1.0 = learn u32_says c.u32_at.ensures c.peer_acked-1.given.1 in peer-acked-read)) in peer-acked-took)))).here c.peer_read-1.given.0.0 c.peer_read-1.given.0.1.0 = took _ _ u32 (number-lawful 4) ((let by : Bytes (c.args.row.now) = typed (c.args.row.now) c.shared_slice_known-1.given in by)) ((let peer-read-read : read_at u32 (c.args.row.now) ((field-yes (start).so ((let peer-acked-took : Took u32 (c.args.row.now) (c.args.at) c.peer_acked-1.given.0.0 c.peer_acked-1.given.0.1.0 = took _ _ u32 (number-lawful 4) ((let by : Bytes (c.args.row.now) = typed (c.args.row.now) c.shared_slice_known-1.given in by)) ((let peer-acked-read : read_at u32 (c.args.row.now) (c.args.at) ≡ takes c.peer_acked-1.given.0.0 c.peer_acked-1.given.0.1.0 = learn u32_says c.u32_at.ensures c.peer_acked-1.given.1 in peer-acked-read)) in peer-acked-took)))).here ≡ takes c.peer_read-1.given.0.0 c.peer_read-1.given.0.1.0 = learn u32_says c.u32_at-2.ensures c.peer_read-1.given.1 in peer-read-read)) in peer-read-took)))).so ((let read-marked-took : Took u32 (c.args.row.now) ((field-yes ((field-yes (start).so ((let peer-acked-took : Took u32 (c.args.row.now) (c.args.at) c.peer_acked-1.given.0.0 c.peer_acked-1.given.0.1.0 = took _ _ u32 (number-lawful 4) ((let by : Bytes (c.args.row.now) = typed (c.args.row.now) c.shared_slice_known-1.given in by)) ((let peer-acked-read : read_at u32 (c.args.row.now) (c.args.at) ≡ takes c.peer_acked-1.given.0.0 c.peer_acked-1.given.0.1.0 = learn u32_says c.u32_at.ensures c.peer_acked-1.given.1 in peer-acked-read)) in peer-acked-took)))).so ((let peer-read-took : Took u32 (c.args.row.now) ((field-yes (start).so ((let peer-acked-took : Took u32 (c.args.row.now) (c.args.at) c.peer_acked-1.given.0.0 c.peer_acked-1.given.0.1.0 = took _ _ u32 (number-lawful 4) ((let by : Bytes (c.args.row.now) = typed (c.args.row.now) c.shared_slice_known-1.given in by)) ((let peer-acked-read : read_at u32 (c.args.row.now) (c.args.at) ≡ takes c.peer_acked-1.given.0.0 c.peer_acked-1.given.0.1.0 = learn u32_says c.u32_at.ensures c.peer_acked-1.given.1 in peer-acked-read)) in peer-acked-took)))).here c.peer_read-1.given.0.0 c.peer_read-1.given.0.1.0 = took _ _ u32 (number-lawful 4) ((let by : Bytes (c.args.row.now) = typed (c.args.row.now) c.shared_slice_known-1.given in by)) ((let peer-read-read : read_at u32 (c.args.row.now) ((field-yes (start).so ((let peer-acked-took : Took u32 (c.args.row.now) (c.args.at) c.peer_acked-1.given.0.0 c.peer_acked-1.given.0.1.0 = took _ _ u32 (number-lawful 4) ((let by : Bytes (c.args.row.now) = typed (c.args.row.now) c.shared_slice_known-1.given in by)) ((let peer-acked-read : read_at u32 (c.args.row.now) (c.args.at) ≡ takes c.peer_acked-1.given.0.0 c.peer_acked-1.given.0.1.0 = learn u32_says c.u32_at.ensures c.peer_acked-1.given.1 in peer-acked-read)) in peer-acked-took)))).here ≡ takes c.peer_read-1.given.0.0 c.peer_read-1.given.0.1.0 = learn u32_says c.u32_at-2.ensures c.peer_read-1.given.1 in peer-read-read)) in peer-read-took)))).here c.read_marked-1.given.0.0 c.read_marked-1.given.0.1.0 = took _ _ u32 (number-lawful 4) ((let by : Bytes (c.args.row.now) = typed (c.args.row.now) c.shared_slice_known-1.given in by)) ((let read-marked-read : read_at u32 (c.args.row.now) ((field-yes ((field-yes (start).so ((let peer-acked-took : Took u32 (c.args.row.now) (c.args.at) c.peer_acked-1.given.0.0 c.peer_acked-1.given.0.1.0 = took _ _ u32 (number-lawful 4) ((let by : Bytes (c.args.row.now) = typed (c.args.row.now) c.shared_slice_known-1.given in by)) ((let peer-acked-read : read_at u32 (c.args.row.now) (c.args.at) ≡ takes c.peer_acked-1.given.0.0 c.peer_acked-1.given.0.1.0 = learn u32_says c.u32_at.ensures c.peer_acked-1.given.1 in peer-acked-read)) in peer-acked-took)))).so ((let peer-read-took : Took u32 (c.args.row.now) ((field-yes (start).so ((let peer-acked-took : Took u32 (c.args.row.now) (c.args.at) c.peer_acked-1.given.0.0 c.peer_acked-1.given.0.1.0 = took _ _ u32 (number-lawful 4) ((let by : Bytes (c.args.row.now) = typed (c.args.row.now) c.shared_slice_known-1.given in by)) ((let peer-acked-read : read_at u32 (c.args.row.now) (c.args.at) ≡ takes c.peer_acked-1.given.0.0 c.peer_acked-1.given.0.1.0 = learn u32_says c.u32_at.ensures c.peer_acked-1.given.1 in peer-acked-read)) in peer-acked-took)))).here c.peer_read-1.given.0.0 c.peer_read-1.given.0.1.0 = took _ _ u32 (number-lawful 4) ((let by : Bytes (c.args.row.now) = typed (c.args.row.now) c.shared_slice_known-1.given in by)) ((let peer-read-read : read_at u32 (c.args.row.now) ((field-yes (start).so ((let peer-acked-took : Took u32 (c.args.row.now) (c.args.at) c.peer_acked-1.given.0.0 c.peer_acked-1.given.0.1.0 = took _ _ u32 (number-lawful 4) ((let by : Bytes (c.args.row.now) = typed (c.args.row.now) c.shared_slice_known-1.given in by)) ((let peer-acked-read : read_at u32 (c.args.row.now) (c.args.at) ≡ takes c.peer_acked-1.given.0.0 c.peer_acked-1.given.0.1.0 = learn u32_says c.u32_at.ensures c.peer_acked-1.given.1 in peer-acked-read)) in peer-acked-took)))).here ≡ takes c.peer_read-1.given.0.0 c.peer_read-1.given.0.1.0 = learn u32_says c.u32_at-2.ensures c.peer_read-1.given.1 in peer-read-read)) in peer-read-took)))).here ≡ takes c.read_marked-1.given.0.0 c.read_marked-1.given.0.1.0 = learn u32_says c.u32_at-3.ensures c.read_marked-1.given.1 in read-marked-read)) in read-marked-took)))).so ((let contiguous-took : Took u32 (c.args.row.now) ((field-yes ((field-yes ((field-yes (start).so ((let peer-acked-took : Took u32 (c.args.row.now) (c.args.at) c.peer_acked-1.given.0.0 c.peer_acked-1.given.0.1.0 = took _ _ u32 (number-lawful 4) ((let by : Bytes (c.args.row.now) = typed (c.args.row.now) c.shared_slice_known-1.given in by)) ((let peer-acked-read : read_at u32 (c.args.row.now) (c.args.at) ≡ takes c.peer_acked-1.given.0.0 c.peer_acked-1.given.0.1.0 = learn u32_says c.u32_at.ensures c.peer_acked-1.given.1 in peer-acked-read)) in peer-acked-took)))).so ((let peer-read-took : Took u32 (c.args.row.now) ((field-yes (start).so ((let peer-acked-took : Took u32 (c.args.row.now) (c.args.at) c.peer_acked-1.given.0.0 c.peer_acked-1.given.0.1.0 = took _ _ u32 (number-lawful 4) ((let by : Bytes (c.args.row.now) = typed (c.args.row.now) c.shared_slice_known-1.given in by)) ((let peer-acked-read : read_at u32 (c.args.row.now) (c.args.at) ≡ takes c.peer_acked-1.given.0.0 c.peer_acked-1.given.0.1.0 = learn u32_says c.u32_at.ensures c.peer_acked-1.given.1 in peer-acked-read)) in peer-acked-took)))).here c.peer_read-1.given.0.0 c.peer_read-1.given.0.1.0 = took _ _ u32 (number-lawful 4) ((let by : Bytes (c.args.row.now) = typed (c.args.row.now) c.shared_slice_known-1.given in by)) ((let peer-read-read : read_at u32 (c.args.row.now) ((field-yes (start).so ((let peer-acked-took : Took u32 (c.args.row.now) (c.args.at) c.peer_acked-1.given.0.0 c.peer_acked-1.given.0.1.0 = took _ _ u32 (number-lawful 4) ((let by : Bytes (c.args.row.now) = typed (c.args.row.now) c.shared_slice_known-1.given in by)) ((let peer-acked-read : read_at u32 (c.args.row.now) (c.args.at) ≡ takes c.peer_acked-1.given.0.0 c.peer_acked-1.given.0.1.0 = learn u32_says c.u32_at.ensures c.peer_acked-1.given.1 in peer-acked-read)) in peer-acked-took)))).here ≡ takes c.peer_read-1.given.0.0 c.peer_read-1.given.0.1.0 = learn u32_says c.u32_at-2.ensures c.peer_read-1.given.1 in peer-read-read)) in peer-read-took)))).so ((let read-marked-took : Took u32 (c.args.row.now) ((field-yes ((field-yes (start).so ((let peer-acked-took : Took u32 (c.args.row.now) (c.args.at) c.peer_acked-1.given.0.0 c.peer_acked-1.given.0.1.0 = took _ _ u32 (number-lawful 4) ((let by : Bytes (c.args.row.now) = typed (c.args.row.now) c.shared_slice_known-1.given in by)) ((let peer-acked-read : read_at u32 (c.args.row.now) (c.args.at) ≡ takes c.peer_acked-1.given.0.0 c.peer_acked-1.given.0.1.0 = learn u32_says c.u32_at.ensures c.peer_acked-1.given.1 in peer-acked-read)) in peer-acked-took)))).so ((let peer-read-took : Took u32 (c.args.row.now) ((field-yes (start).so ((let peer-acked-took : Took u32 (c.args.row.now) (c.args.at) c.peer_acked-1.given.0.0 c.peer_acked-1.given.0.1.0 = took _ _ u32 (number-lawful 4) ((let by : Bytes (c.args.row.now) = typed (c.args.row.now) c.shared_slice_known-1.given in by)) ((let peer-acked-read : read_at u32 (c.args.row.now) (c.args.at) ≡ takes c.peer_acked-1.given.0.0 c.peer_acked-1.given.0.1.0 = learn u32_says c.u32_at.ensures c.peer_acked-1.given.1 in peer-acked-read)) in peer-acked-took)))).here c.peer_read-1.given.0.0 c.peer_read-1.given.0.1.0 = took _ _ u32 (number-lawful 4) ((let by : Bytes (c.args.row.now) = typed (c.args.row.now) c.shared_slice_known-1.given in by)) ((let peer-read-read : read_at u32 (c.args.row.now) ((field-yes (start).so ((let peer-acked-took : Took u32 (c.args.row.now) (c.args.at) c.peer_acked-1.given.0.0 c.peer_acked-1.given.0.1.0 = took _ _ u32 (number-lawful 4) ((let by : Bytes (c.args.row.now) = typed (c.args.row.now) c.shared_slice_known-1.given in by)) ((let peer-acked-read : read_at u32 (c.args.row.now) (c.args.at) ≡ takes c.peer_acked-1.given.0.0 c.peer_acked-1.given.0.1.0 = learn u32_says c.u32_at.ensures c.peer_acked-1.given.1 in peer-acked-read)) in peer-acked-took)))).here ≡ takes c.peer_read-1.given.0.0 c.peer_read-1.given.0.1.0 = learn u32_says c.u32_at-2.ensures c.peer_read-1.given.1 in peer-read-read)) in peer-read-took)))).here c.read_marked-1.given.0.0 c.read_marked-1.given.0.1.0 = took _ _ u32 (number-lawful 4) ((let by : Bytes (c.args.row.now) = typed (c.args.row.now) c.shared_slice_known-1.given in by)) ((let read-marked-read : read_at u32 (c.args.row.now) ((field-yes ((field-yes (start).so ((let peer-acked-took : Took u32 (c.args.row.now) (c.args.at) c.peer_acked-1.given.0.0 c.peer_acked-1.given.0.1.0 = took _ _ u32 (number-lawful 4) ((let by : Bytes (c.args.row.now) = typed (c.args.row.now) c.shared_slice_known-1.given in by)) ((let peer-acked-read : read_at u32 (c.args.row.now) (c.args.at) ≡ takes c.peer_acked-1.given.0.0 c.peer_acked-1.given.0.1.0 = learn u32_says c.u32_at.ensures c.peer_acked-1.given.1 in peer-acked-read)) in peer-acked-took)))).so ((let peer-read-took : Took u32 (c.args.row.now) ((field-yes (start).so ((let peer-acked-took : Took u32 (c.args.row.now) (c.args.at) c.peer_acked-1.given.0.0 c.peer_acked-1.given.0.1.0 = took _ _ u32 (number-lawful 4) ((let by : Bytes (c.args.row.now) = typed (c.args.row.now) c.shared_slice_known-1.given in by)) ((let peer-acked-read : read_at u32 (c.args.row.now) (c.args.at) ≡ takes c.peer_acked-1.given.0.0 c.peer_acked-1.given.0.1.0 = learn u32_says c.u32_at.ensures c.peer_acked-1.given.1 in peer-acked-read)) in peer-acked-took)))).here c.peer_read-1.given.0.0 c.peer_read-1.given.0.1.0 = took _ _ u32 (number-lawful 4) ((let by : Bytes (c.args.row.now) = typed (c.args.row.now) c.shared_slice_known-1.given in by)) ((let peer-read-read : read_at u32 (c.args.row.now) ((field-yes (start).so ((let peer-acked-took : Took u32 (c.args.row.now) (c.args.at) c.peer_acked-1.given.0.0 c.peer_acked-1.given.0.1.0 = took _ _ u32 (number-lawful 4) ((let by : Bytes (c.args.row.now) = typed (c.args.row.now) c.shared_slice_known-1.given in by)) ((let peer-acked-read : read_at u32 (c.args.row.now) (c.args.at) ≡ takes c.peer_acked-1.given.0.0 c.peer_acked-1.given.0.1.0 = learn u32_says c.u32_at.ensures c.peer_acked-1.given.1 in peer-acked-read)) in peer-acked-took)))).here ≡ takes c.peer_read-1.given.0.0 c.peer_read-1.given.0.1.0 = learn u32_says c.u32_at-2.ensures c.peer_read-1.given.1 in peer-read-read)) in peer-read-took)))).here ≡ takes c.read_marked-1.given.0.0 c.read_marked-1.given.0.1.0 = learn u32_says c.u32_at-3.ensures c.read_marked-1.given.1 in read-marked-read)) in read-marked-took)))).here c.contiguous-1.given.0.0 c.contiguous-1.given.0.1.0 = took _ _ u32 (number-lawful 4) ((let by : Bytes (c.args.row.now) = typed (c.args.row.now) c.shared_slice_known-1.given in by)) ((let contiguous-read : read_at u32 (c.args.row.now) ((field-yes ((field-yes ((field-yes (start).so ((let peer-acked-took : Took u32 (c.args.row.now) (c.args.at) c.peer_acked-1.given.0.0 c.peer_acked-1.given.0.1.0 = took _ _ u32 (number-lawful 4) ((let by : Bytes (c.args.row.now) = typed (c.args.row.now) c.shared_slice_known-1.given in by)) ((let peer-acked-read : read_at u32 (c.args.row.now) (c.args.at) ≡ takes c.peer_acked-1.given.0.0 c.peer_acked-1.given.0.1.0 = learn u32_says c.u32_at.ensures c.peer_acked-1.given.1 in peer-acked-read)) in peer-acked-took)))).so ((let peer-read-took : Took u32 (c.args.row.now) ((field-yes (start).so ((let peer-acked-took : Took u32 (c.args.row.now) (c.args.at) c.peer_acked-1.given.0.0 c.peer_acked-1.given.0.1.0 = took _ _ u32 (number-lawful 4) ((let by : Bytes (c.args.row.now) = typed (c.args.row.now) c.shared_slice_known-1.given in by)) ((let peer-acked-read : read_at u32 (c.args.row.now) (c.args.at) ≡ takes c.peer_acked-1.given.0.0 c.peer_acked-1.given.0.1.0 = learn u32_says c.u32_at.ensures c.peer_acked-1.given.1 in peer-acked-read)) in peer-acked-took)))).here c.peer_read-1.given.0.0 c.peer_read-1.given.0.1.0 = took _ _ u32 (number-lawful 4) ((let by : Bytes (c.args.row.now) = typed (c.args.row.now) c.shared_slice_known-1.given in by)) ((let peer-read-read : read_at u32 (c.args.row.now) ((field-yes (start).so ((let peer-acked-took : Took u32 (c.args.row.now) (c.args.at) c.peer_acked-1.given.0.0 c.peer_acked-1.given.0.1.0 = took _ _ u32 (number-lawful 4) ((let by : Bytes (c.args.row.now) = typed (c.args.row.now) c.shared_slice_known-1.given in by)) ((let peer-acked-read : read_at u32 (c.args.row.now) (c.args.at) ≡ takes c.peer_acked-1.given.0.0 c.peer_acked-1.given.0.1.0 = learn u32_says c.u32_at.ensures c.peer_acked-1.given.1 in peer-acked-read)) in peer-acked-took)))).here ≡ takes c.peer_read-1.given.0.0 c.peer_read-1.given.0.1.0 = learn u32_says c.u32_at-2.ensures c.peer_read-1.given.1 in peer-read-read)) in peer-read-took)))).so ((let read-marked-took : Took u32 (c.args.row.now) ((field-yes ((field-yes (start).so ((let peer-acked-took : Took u32 (c.args.row.now) (c.args.at) c.peer_acked-1.given.0.0 c.peer_acked-1.given.0.1.0 = took _ _ u32 (number-lawful 4) ((let by : Bytes (c.args.row.now) = typed (c.args.row.now) c.shared_slice_known-1.given in by)) ((let peer-acked-read : read_at u32 (c.args.row.now) (c.args.at) ≡ takes c.peer_acked-1.given.0.0 c.peer_acked-1.given.0.1.0 = learn u32_says c.u32_at.ensures c.peer_acked-1.given.1 in peer-acked-read)) in peer-acked-took)))).so ((let peer-read-took : Took u32 (c.args.row.now) ((field-yes (start).so ((let peer-acked-took : Took u32 (c.args.row.now) (c.args.at) c.peer_acked-1.given.0.0 c.peer_acked-1.given.0.1.0 = took _ _ u32 (number-lawful 4) ((let by : Bytes (c.args.row.now) = typed (c.args.row.now) c.shared_slice_known-1.given in by)) ((let peer-acked-read : read_at u32 (c.args.row.now) (c.args.at) ≡ takes c.peer_acked-1.given.0.0 c.peer_acked-1.given.0.1.0 = learn u32_says c.u32_at.ensures c.peer_acked-1.given.1 in peer-acked-read)) in peer-acked-took)))).here c.peer_read-1.given.0.0 c.peer_read-1.given.0.1.0 = took _ _ u32 (number-lawful 4) ((let by : Bytes (c.args.row.now) = typed (c.args.row.now) c.shared_slice_known-1.given in by)) ((let peer-read-read : read_at u32 (c.args.row.now) ((field-yes (start).so ((let peer-acked-took : Took u32 (c.args.row.now) (c.args.at) c.peer_acked-1.given.0.0 c.peer_acked-1.given.0.1.0 = took _ _ u32 (number-lawful 4) ((let by : Bytes (c.args.row.now) = typed (c.args.row.now) c.shared_slice_known-1.given in by)) ((let peer-acked-read : read_at u32 (c.args.row.now) (c.args.at) ≡ takes c.peer_acked-1.given.0.0 c.peer_acked-1.given.0.1.0 = learn u32_says c.u32_at.ensures c.peer_acked-1.given.1 in peer-acked-read)) in peer-acked-took)))).here ≡ takes c.peer_read-1.given.0.0 c.peer_read-1.given.0.1.0 = learn u32_says c.u32_at-2.ensures c.peer_read-1.given.1 in peer-read-read)) in peer-read-took)))).here c.read_marked-1.given.0.0 c.read_marked-1.given.0.1.0 = took _ _ u32 (number-lawful 4) ((let by : Bytes (c.args.row.now) = typed (c.args.row.now) c.shared_slice_known-1.given in by)) ((let read-marked-read : read_at u32 (c.args.row.now) ((field-yes ((field-yes (start).so ((let peer-acked-took : Took u32 (c.args.row.now) (c.args.at) c.peer_acked-1.given.0.0 c.peer_acked-1.given.0.1.0 = took _ _ u32 (number-lawful 4) ((let by : Bytes (c.args.row.now) = typed (c.args.row.now) c.shared_slice_known-1.given in by)) ((let peer-acked-read : read_at u32 (c.args.row.now) (c.args.at) ≡ takes c.peer_acked-1.given.0.0 c.peer_acked-1.given.0.1.0 = learn u32_says c.u32_at.ensures c.peer_acked-1.given.1 in peer-acked-read)) in peer-acked-took)))).so ((let peer-read-took : Took u32 (c.args.row.now) ((field-yes (start).so ((let peer-acked-took : Took u32 (c.args.row.now) (c.args.at) c.peer_acked-1.given.0.0 c.peer_acked-1.given.0.1.0 = took _ _ u32 (number-lawful 4) ((let by : Bytes (c.args.row.now) = typed (c.args.row.now) c.shared_slice_known-1.given in by)) ((let peer-acked-read : read_at u32 (c.args.row.now) (c.args.at) ≡ takes c.peer_acked-1.given.0.0 c.peer_acked-1.given.0.1.0 = learn u32_says c.u32_at.ensures c.peer_acked-1.given.1 in peer-acked-read)) in peer-acked-took)))).here c.peer_read-1.given.0.0 c.peer_read-1.given.0.1.0 = took _ _ u32 (number-lawful 4) ((let by : Bytes (c.args.row.now) = typed (c.args.row.now) c.shared_slice_known-1.given in by)) ((let peer-read-read : read_at u32 (c.args.row.now) ((field-yes (start).so ((let peer-acked-took : Took u32 (c.args.row.now) (c.args.at) c.peer_acked-1.given.0.0 c.peer_acked-1.given.0.1.0 = took _ _ u32 (number-lawful 4) ((let by : Bytes (c.args.row.now) = typed (c.args.row.now) c.shared_slice_known-1.given in by)) ((let peer-acked-read : read_at u32 (c.args.row.now) (c.args.at) ≡ takes c.peer_acked-1.given.0.0 c.peer_acked-1.given.0.1.0 = learn u32_says c.u32_at.ensures c.peer_acked-1.given.1 in peer-acked-read)) in peer-acked-took)))).here ≡ takes c.peer_read-1.given.0.0 c.peer_read-1.given.0.1.0 = learn u32_says c.u32_at-2.ensures c.peer_read-1.given.1 in peer-read-read)) in peer-read-took)))).here ≡ takes c.read_marked-1.given.0.0 c.read_marked-1.given.0.1.0 = learn u32_says c.u32_at-3.ensures c.read_marked-1.given.1 in read-marked-read)) in read-marked-took)))).here ≡ takes c.contiguous-1.given.0.0 c.contiguous-1.given.0.1.0 = learn u32_says c.u32_at-4.ensures c.contiguous-1.given.1 in contiguous-read)) in contiguous-took)))).so ((let above-took : Took (list (group range)) (c.args.row.now) ((field-yes ((field-yes ((field-yes ((field-yes (start).so ((let peer-acked-took : Took u32 (c.args.row.now) (c.args.at) c.peer_acked-1.given.0.0 c.peer_acked-1.given.0.1.0 = took _ _ u32 (number-lawful 4) ((let by : Bytes (c.args.row.now) = typed (c.args.row.now) c.shared_slice_known-1.given in by)) ((let peer-acked-read : read_at u32 (c.args.row.now) (c.args.at) ≡ takes c.peer_acked-1.given.0.0 c.peer_acked-1.given.0.1.0 = learn u32_says c.u32_at.ensures c.peer_acked-1.given.1 in peer-acked-read)) in peer-acked-took)))).so ((let peer-read-took : Took u32 (c.args.row.now) ((field-yes (start).so ((let peer-acked-took : Took u32 (c.args.row.now) (c.args.at) c.peer_acked-1.given.0.0 c.peer_acked-1.given.0.1.0 = took _ _ u32 (number-lawful 4) ((let by : Bytes (c.args.row.now) = typed (c.args.row.now) c.shared_slice_known-1.given in by)) ((let peer-acked-read : read_at u32 (c.args.row.now) (c.args.at) ≡ takes c.peer_acked-1.given.0.0 c.peer_acked-1.given.0.1.0 = learn u32_says c.u32_at.ensures c.peer_acked-1.given.1 in peer-acked-read)) in peer-acked-took)))).here c.peer_read-1.given.0.0 c.peer_read-1.given.0.1.0 = took _ _ u32 (number-lawful 4) ((let by : Bytes (c.args.row.now) = typed (c.args.row.now) c.shared_slice_known-1.given in by)) ((let peer-read-read : read_at u32 (c.args.row.now) ((field-yes (start).so ((let peer-acked-took : Took u32 (c.args.row.now) (c.args.at) c.peer_acked-1.given.0.0 c.peer_acked-1.given.0.1.0 = took _ _ u32 (number-lawful 4) ((let by : Bytes (c.args.row.now) = typed (c.args.row.now) c.shared_slice_known-1.given in by)) ((let peer-acked-read : read_at u32 (c.args.row.now) (c.args.at) ≡ takes c.peer_acked-1.given.0.0 c.peer_acked-1.given.0.1.0 = learn u32_says c.u32_at.ensures c.peer_acked-1.given.1 in peer-acked-read)) in peer-acked-took)))).here ≡ takes c.peer_read-1.given.0.0 c.peer_read-1.given.0.1.0 = learn u32_says c.u32_at-2.ensures c.peer_read-1.given.1 in peer-read-read)) in peer-read-took)))).so ((let read-marked-took : Took u32 (c.args.row.now) ((field-yes ((field-yes (start).so ((let peer-acked-took : Took u32 (c.args.row.now) (c.args.at) c.peer_acked-1.given.0.0 c.peer_acked-1.given.0.1.0 = took _ _ u32 (number-lawful 4) ((let by : Bytes (c.args.row.now) = typed (c.args.row.now) c.shared_slice_known-1.given in by)) ((let peer-acked-read : read_at u32 (c.args.row.now) (c.args.at) ≡ takes c.peer_acked-1.given.0.0 c.peer_acked-1.given.0.1.0 = learn u32_says c.u32_at.ensures c.peer_acked-1.given.1 in peer-acked-read)) in peer-acked-took)))).so ((let peer-read-took : Took u32 (c.args.row.now) ((field-yes (start).so ((let peer-acked-took : Took u32 (c.args.row.now) (c.args.at) c.peer_acked-1.given.0.0 c.peer_acked-1.given.0.1.0 = took _ _ u32 (number-lawful 4) ((let by : Bytes (c.args.row.now) = typed (c.args.row.now) c.shared_slice_known-1.given in by)) ((let peer-acked-read : read_at u32 (c.args.row.now) (c.args.at) ≡ takes c.peer_acked-1.given.0.0 c.peer_acked-1.given.0.1.0 = learn u32_says c.u32_at.ensures c.peer_acked-1.given.1 in peer-acked-read)) in peer-acked-took)))).here c.peer_read-1.given.0.0 c.peer_read-1.given.0.1.0 = took _ _ u32 (number-lawful 4) ((let by : Bytes (c.args.row.now) = typed (c.args.row.now) c.shared_slice_known-1.given in by)) ((let peer-read-read : read_at u32 (c.args.row.now) ((field-yes (start).so ((let peer-acked-took : Took u32 (c.args.row.now) (c.args.at) c.peer_acked-1.given.0.0 c.peer_acked-1.given.0.1.0 = took _ _ u32 (number-lawful 4) ((let by : Bytes (c.args.row.now) = typed (c.args.row.now) c.shared_slice_known-1.given in by)) ((let peer-acked-read : read_at u32 (c.args.row.now) (c.args.at) ≡ takes c.peer_acked-1.given.0.0 c.peer_acked-1.given.0.1.0 = learn u32_says c.u32_at.ensures c.peer_acked-1.given.1 in peer-acked-read)) in peer-acked-took)))).here ≡ takes c.peer_read-1.given.0.0 c.peer_read-1.given.0.1.0 = learn u32_says c.u32_at-2.ensures c.peer_read-1.given.1 in peer-read-read)) in peer-read-took)))).here c.read_marked-1.given.0.0 c.read_marked-1.given.0.1.0 = took _ _ u32 (number-lawful 4) ((let by : Bytes (c.args.row.now) = typed (c.args.row.now) c.shared_slice_known-1.given in by)) ((let read-marked-read : read_at u32 (c.args.row.now) ((field-yes ((field-yes (start).so ((let peer-acked-took : Took u32 (c.args.row.now) (c.args.at) c.peer_acked-1.given.0.0 c.peer_acked-1.given.0.1.0 = took _ _ u32 (number-lawful 4) ((let by : Bytes (c.args.row.now) = typed (c.args.row.now) c.shared_slice_known-1.given in by)) ((let peer-acked-read : read_at u32 (c.args.row.now) (c.args.at) ≡ takes c.peer_acked-1.given.0.0 c.peer_acked-1.given.0.1.0 = learn u32_says c.u32_at.ensures c.peer_acked-1.given.1 in peer-acked-read)) in peer-acked-took)))).so ((let peer-read-took : Took u32 (c.args.row.now) ((field-yes (start).so ((let peer-acked-took : Took u32 (c.args.row.now) (c.args.at) c.peer_acked-1.given.0.0 c.peer_acked-1.given.0.1.0 = took _ _ u32 (number-lawful 4) ((let by : Bytes (c.args.row.now) = typed (c.args.row.now) c.shared_slice_known-1.given in by)) ((let peer-acked-read : read_at u32 (c.args.row.now) (c.args.at) ≡ takes c.peer_acked-1.given.0.0 c.peer_acked-1.given.0.1.0 = learn u32_says c.u32_at.ensures c.peer_acked-1.given.1 in peer-acked-read)) in peer-acked-took)))).here c.peer_read-1.given.0.0 c.peer_read-1.given.0.1.0 = took _ _ u32 (number-lawful 4) ((let by : Bytes (c.args.row.now) = typed (c.args.row.now) c.shared_slice_known-1.given in by)) ((let peer-read-read : read_at u32 (c.args.row.now) ((field-yes (start).so ((let peer-acked-took : Took u32 (c.args.row.now) (c.args.at) c.peer_acked-1.given.0.0 c.peer_acked-1.given.0.1.0 = took _ _ u32 (number-lawful 4) ((let by : Bytes (c.args.row.now) = typed (c.args.row.now) c.shared_slice_known-1.given in by)) ((let peer-acked-read : read_at u32 (c.args.row.now) (c.args.at) ≡ takes c.peer_acked-1.given.0.0 c.peer_acked-1.given.0.1.0 = learn u32_says c.u32_at.ensures c.peer_acked-1.given.1 in peer-acked-read)) in peer-acked-took)))).here ≡ takes c.peer_read-1.given.0.0 c.peer_read-1.given.0.1.0 = learn u32_says c.u32_at-2.ensures c.peer_read-1.given.1 in peer-read-read)) in peer-read-took)))).here ≡ takes c.read_marked-1.given.0.0 c.read_marked-1.given.0.1.0 = learn u32_says c.u32_at-3.ensures c.read_marked-1.given.1 in read-marked-read)) in read-marked-took)))).so ((let contiguous-took : Took u32 (c.args.row.now) ((field-yes ((field-yes ((field-yes (start).so ((let peer-acked-took : Took u32 (c.args.row.now) (c.args.at) c.peer_acked-1.given.0.0 c.peer_acked-1.given.0.1.0 = took _ _ u32 (number-lawful 4) ((let by : Bytes (c.args.row.now) = typed (c.args.row.now) c.shared_slice_known-1.given in by)) ((let peer-acked-read : read_at u32 (c.args.row.now) (c.args.at) ≡ takes c.peer_acked-1.given.0.0 c.peer_acked-1.given.0.1.0 = learn u32_says c.u32_at.ensures c.peer_acked-1.given.1 in peer-acked-read)) in peer-acked-took)))).so ((let peer-read-took : Took u32 (c.args.row.now) ((field-yes (start).so ((let peer-acked-took : Took u32 (c.args.row.now) (c.args.at) c.peer_acked-1.given.0.0 c.peer_acked-1.given.0.1.0 = took _ _ u32 (number-lawful 4) ((let by : Bytes (c.args.row.now) = typed (c.args.row.now) c.shared_slice_known-1.given in by)) ((let peer-acked-read : read_at u32 (c.args.row.now) (c.args.at) ≡ takes c.peer_acked-1.given.0.0 c.peer_acked-1.given.0.1.0 = learn u32_says c.u32_at.ensures c.peer_acked-1.given.1 in peer-acked-read)) in peer-acked-took)))).here c.peer_read-1.given.0.0 c.peer_read-1.given.0.1.0 = took _ _ u32 (number-lawful 4) ((let by : Bytes (c.args.row.now) = typed (c.args.row.now) c.shared_slice_known-1.given in by)) ((let peer-read-read : read_at u32 (c.args.row.now) ((field-yes (start).so ((let peer-acked-took : Took u32 (c.args.row.now) (c.args.at) c.peer_acked-1.given.0.0 c.peer_acked-1.given.0.1.0 = took _ _ u32 (number-lawful 4) ((let by : Bytes (c.args.row.now) = typed (c.args.row.now) c.shared_slice_known-1.given in by)) ((let peer-acked-read : read_at u32 (c.args.row.now) (c.args.at) ≡ takes c.peer_acked-1.given.0.0 c.peer_acked-1.given.0.1.0 = learn u32_says c.u32_at.ensures c.peer_acked-1.given.1 in peer-acked-read)) in peer-acked-took)))).here ≡ takes c.peer_read-1.given.0.0 c.peer_read-1.given.0.1.0 = learn u32_says c.u32_at-2.ensures c.peer_read-1.given.1 in peer-read-read)) in peer-read-took)))).so ((let read-marked-took : Took u32 (c.args.row.now) ((field-yes ((field-yes (start).so ((let peer-acked-took : Took u32 (c.args.row.now) (c.args.at) c.peer_acked-1.given.0.0 c.peer_acked-1.given.0.1.0 = took _ _ u32 (number-lawful 4) ((let by : Bytes (c.args.row.now) = typed (c.args.row.now) c.shared_slice_known-1.given in by)) ((let peer-acked-read : read_at u32 (c.args.row.now) (c.args.at) ≡ takes c.peer_acked-1.given.0.0 c.peer_acked-1.given.0.1.0 = learn u32_says c.u32_at.ensures c.peer_acked-1.given.1 in peer-acked-read)) in peer-acked-took)))).so ((let peer-read-took : Took u32 (c.args.row.now) ((field-yes (start).so ((let peer-acked-took : Took u32 (c.args.row.now) (c.args.at) c.peer_acked-1.given.0.0 c.peer_acked-1.given.0.1.0 = took _ _ u32 (number-lawful 4) ((let by : Bytes (c.args.row.now) = typed (c.args.row.now) c.shared_slice_known-1.given in by)) ((let peer-acked-read : read_at u32 (c.args.row.now) (c.args.at) ≡ takes c.peer_acked-1.given.0.0 c.peer_acked-1.given.0.1.0 = learn u32_says c.u32_at.ensures c.peer_acked-1.given.1 in peer-acked-read)) in peer-acked-took)))).here c.peer_read-1.given.0.0 c.peer_read-1.given.0.1.0 = took _ _ u32 (number-lawful 4) ((let by : Bytes (c.args.row.now) = typed (c.args.row.now) c.shared_slice_known-1.given in by)) ((let peer-read-read : read_at u32 (c.args.row.now) ((field-yes (start).so ((let peer-acked-took : Took u32 (c.args.row.now) (c.args.at) c.peer_acked-1.given.0.0 c.peer_acked-1.given.0.1.0 = took _ _ u32 (number-lawful 4) ((let by : Bytes (c.args.row.now) = typed (c.args.row.now) c.shared_slice_known-1.given in by)) ((let peer-acked-read : read_at u32 (c.args.row.now) (c.args.at) ≡ takes c.peer_acked-1.given.0.0 c.peer_acked-1.given.0.1.0 = learn u32_says c.u32_at.ensures c.peer_acked-1.given.1 in peer-acked-read)) in peer-acked-took)))).here ≡ takes c.peer_read-1.given.0.0 c.peer_read-1.given.0.1.0 = learn u32_says c.u32_at-2.ensures c.peer_read-1.given.1 in peer-read-read)) in peer-read-took)))).here c.read_marked-1.given.0.0 c.read_marked-1.given.0.1.0 = took _ _ u32 (number-lawful 4) ((let by : Bytes (c.args.row.now) = typed (c.args.row.now) c.shared_slice_known-1.given in by)) ((let read-marked-read : read_at u32 (c.args.row.now) ((field-yes ((field-yes (start).so ((let peer-acked-took : Took u32 (c.args.row.now) (c.args.at) c.peer_acked-1.given.0.0 c.peer_acked-1.given.0.1.0 = took _ _ u32 (number-lawful 4) ((let by : Bytes (c.args.row.now) = typed (c.args.row.now) c.shared_slice_known-1.given in by)) ((let peer-acked-read : read_at u32 (c.args.row.now) (c.args.at) ≡ takes c.peer_acked-1.given.0.0 c.peer_acked-1.given.0.1.0 = learn u32_says c.u32_at.ensures c.peer_acked-1.given.1 in peer-acked-read)) in peer-acked-took)))).so ((let peer-read-took : Took u32 (c.args.row.now) ((field-yes (start).so ((let peer-acked-took : Took u32 (c.args.row.now) (c.args.at) c.peer_acked-1.given.0.0 c.peer_acked-1.given.0.1.0 = took _ _ u32 (number-lawful 4) ((let by : Bytes (c.args.row.now) = typed (c.args.row.now) c.shared_slice_known-1.given in by)) ((let peer-acked-read : read_at u32 (c.args.row.now) (c.args.at) ≡ takes c.peer_acked-1.given.0.0 c.peer_acked-1.given.0.1.0 = learn u32_says c.u32_at.ensures c.peer_acked-1.given.1 in peer-acked-read)) in peer-acked-took)))).here c.peer_read-1.given.0.0 c.peer_read-1.given.0.1.0 = took _ _ u32 (number-lawful 4) ((let by : Bytes (c.args.row.now) = typed (c.args.row.now) c.shared_slice_known-1.given in by)) ((let peer-read-read : read_at u32 (c.args.row.now) ((field-yes (start).so ((let peer-acked-took : Took u32 (c.args.row.now) (c.args.at) c.peer_acked-1.given.0.0 c.peer_acked-1.given.0.1.0 = took _ _ u32 (number-lawful 4) ((let by : Bytes (c.args.row.now) = typed (c.args.row.now) c.shared_slice_known-1.given in by)) ((let peer-acked-read : read_at u32 (c.args.row.now) (c.args.at) ≡ takes c.peer_acked-1.given.0.0 c.peer_acked-1.given.0.1.0 = learn u32_says c.u32_at.ensures c.peer_acked-1.given.1 in peer-acked-read)) in peer-acked-took)))).here ≡ takes c.peer_read-1.given.0.0 c.peer_read-1.given.0.1.0 = learn u32_says c.u32_at-2.ensures c.peer_read-1.given.1 in peer-read-read)) in peer-read-took)))).here ≡ takes c.read_marked-1.given.0.0 c.read_marked-1.given.0.1.0 = learn u32_says c.u32_at-3.ensures c.read_marked-1.given.1 in read-marked-read)) in read-marked-took)))).here c.contiguous-1.given.0.0 c.contiguous-1.given.0.1.0 = took _ _ u32 (number-lawful 4) ((let by : Bytes (c.args.row.now) = typed (c.args.row.now) c.shared_slice_known-1.given in by)) ((let contiguous-read : read_at u32 (c.args.row.now) ((field-yes ((field-yes ((field-yes (start).so ((let peer-acked-took : Took u32 (c.args.row.now) (c.args.at) c.peer_acked-1.given.0.0 c.peer_acked-1.given.0.1.0 = took _ _ u32 (number-lawful 4) ((let by : Bytes (c.args.row.now) = typed (c.args.row.now) c.shared_slice_known-1.given in by)) ((let peer-acked-read : read_at u32 (c.args.row.now) (c.args.at) ≡ takes c.peer_acked-1.given.0.0 c.peer_acked-1.given.0.1.0 = learn u32_says c.u32_at.ensures c.peer_acked-1.given.1 in peer-acked-read)) in peer-acked-took)))).so ((let peer-read-took : Took u32 (c.args.row.now) ((field-yes (start).so ((let peer-acked-took : Took u32 (c.args.row.now) (c.args.at) c.peer_acked-1.given.0.0 c.peer_acked-1.given.0.1.0 = took _ _ u32 (number-lawful 4) ((let by : Bytes (c.args.row.now) = typed (c.args.row.now) c.shared_slice_known-1.given in by)) ((let peer-acked-read : read_at u32 (c.args.row.now) (c.args.at) ≡ takes c.peer_acked-1.given.0.0 c.peer_acked-1.given.0.1.0 = learn u32_says c.u32_at.ensures c.peer_acked-1.given.1 in peer-acked-read)) in peer-acked-took)))).here c.peer_read-1.given.0.0 c.peer_read-1.given.0.1.0 = took _ _ u32 (number-lawful 4) ((let by : Bytes (c.args.row.now) = typed (c.args.row.now) c.shared_slice_known-1.given in by)) ((let peer-read-read : read_at u32 (c.args.row.now) ((field-yes (start).so ((let peer-acked-took : Took u32 (c.args.row.now) (c.args.at) c.peer_acked-1.given.0.0 c.peer_acked-1.given.0.1.0 = took _ _ u32 (number-lawful 4) ((let by : Bytes (c.args.row.now) = typed (c.args.row.now) c.shared_slice_known-1.given in by)) ((let peer-acked-read : read_at u32 (c.args.row.now) (c.args.at) ≡ takes c.peer_acked-1.given.0.0 c.peer_acked-1.given.0.1.0 = learn u32_says c.u32_at.ensures c.peer_acked-1.given.1 in peer-acked-read)) in peer-acked-took)))).here ≡ takes c.peer_read-1.given.0.0 c.peer_read-1.given.0.1.0 = learn u32_says c.u32_at-2.ensures c.peer_read-1.given.1 in peer-read-read)) in peer-read-took)))).so ((let read-marked-took : Took u32 (c.args.row.now) ((field-yes ((field-yes (start).so ((let peer-acked-took : Took u32 (c.args.row.now) (c.args.at) c.peer_acked-1.given.0.0 c.peer_acked-1.given.0.1.0 = took _ _ u32 (number-lawful 4) ((let by : Bytes (c.args.row.now) = typed (c.args.row.now) c.shared_slice_known-1.given in by)) ((let peer-acked-read : read_at u32 (c.args.row.now) (c.args.at) ≡ takes c.peer_acked-1.given.0.0 c.peer_acked-1.given.0.1.0 = learn u32_says c.u32_at.ensures c.peer_acked-1.given.1 in peer-acked-read)) in peer-acked-took)))).so ((let peer-read-took : Took u32 (c.args.row.now) ((field-yes (start).so ((let peer-acked-took : Took u32 (c.args.row.now) (c.args.at) c.peer_acked-1.given.0.0 c.peer_acked-1.given.0.1.0 = took _ _ u32 (number-lawful 4) ((let by : Bytes (c.args.row.now) = typed (c.args.row.now) c.shared_slice_known-1.given in by)) ((let peer-acked-read : read_at u32 (c.args.row.now) (c.args.at) ≡ takes c.peer_acked-1.given.0.0 c.peer_acked-1.given.0.1.0 = learn u32_says c.u32_at.ensures c.peer_acked-1.given.1 in peer-acked-read)) in peer-acked-took)))).here c.peer_read-1.given.0.0 c.peer_read-1.given.0.1.0 = took _ _ u32 (number-lawful 4) ((let by : Bytes (c.args.row.now) = typed (c.args.row.now) c.shared_slice_known-1.given in by)) ((let peer-read-read : read_at u32 (c.args.row.now) ((field-yes (start).so ((let peer-acked-took : Took u32 (c.args.row.now) (c.args.at) c.peer_acked-1.given.0.0 c.peer_acked-1.given.0.1.0 = took _ _ u32 (number-lawful 4) ((let by : Bytes (c.args.row.now) = typed (c.args.row.now) c.shared_slice_known-1.given in by)) ((let peer-acked-read : read_at u32 (c.args.row.now) (c.args.at) ≡ takes c.peer_acked-1.given.0.0 c.peer_acked-1.given.0.1.0 = learn u32_says c.u32_at.ensures c.peer_acked-1.given.1 in peer-acked-read)) in peer-acked-took)))).here ≡ takes c.peer_read-1.given.0.0 c.peer_read-1.given.0.1.0 = learn u32_says c.u32_at-2.ensures c.peer_read-1.given.1 in peer-read-read)) in peer-read-took)))).here c.read_marked-1.given.0.0 c.read_marked-1.given.0.1.0 = took _ _ u32 (number-lawful 4) ((let by : Bytes (c.args.row.now) = typed (c.args.row.now) c.shared_slice_known-1.given in by)) ((let read-marked-read : read_at u32 (c.args.row.now) ((field-yes ((field-yes (start).so ((let peer-acked-took : Took u32 (c.args.row.now) (c.args.at) c.peer_acked-1.given.0.0 c.peer_acked-1.given.0.1.0 = took _ _ u32 (number-lawful 4) ((let by : Bytes (c.args.row.now) = typed (c.args.row.now) c.shared_slice_known-1.given in by)) ((let peer-acked-read : read_at u32 (c.args.row.now) (c.args.at) ≡ takes c.peer_acked-1.given.0.0 c.peer_acked-1.given.0.1.0 = learn u32_says c.u32_at.ensures c.peer_acked-1.given.1 in peer-acked-read)) in peer-acked-took)))).so ((let peer-read-took : Took u32 (c.args.row.now) ((field-yes (start).so ((let peer-acked-took : Took u32 (c.args.row.now) (c.args.at) c.peer_acked-1.given.0.0 c.peer_acked-1.given.0.1.0 = took _ _ u32 (number-lawful 4) ((let by : Bytes (c.args.row.now) = typed (c.args.row.now) c.shared_slice_known-1.given in by)) ((let peer-acked-read : read_at u32 (c.args.row.now) (c.args.at) ≡ takes c.peer_acked-1.given.0.0 c.peer_acked-1.given.0.1.0 = learn u32_says c.u32_at.ensures c.peer_acked-1.given.1 in peer-acked-read)) in peer-acked-took)))).here c.peer_read-1.given.0.0 c.peer_read-1.given.0.1.0 = took _ _ u32 (number-lawful 4) ((let by : Bytes (c.args.row.now) = typed (c.args.row.now) c.shared_slice_known-1.given in by)) ((let peer-read-read : read_at u32 (c.args.row.now) ((field-yes (start).so ((let peer-acked-took : Took u32 (c.args.row.now) (c.args.at) c.peer_acked-1.given.0.0 c.peer_acked-1.given.0.1.0 = took _ _ u32 (number-lawful 4) ((let by : Bytes (c.args.row.now) = typed (c.args.row.now) c.shared_slice_known-1.given in by)) ((let peer-acked-read : read_at u32 (c.args.row.now) (c.args.at) ≡ takes c.peer_acked-1.given.0.0 c.peer_acked-1.given.0.1.0 = learn u32_says c.u32_at.ensures c.peer_acked-1.given.1 in peer-acked-read)) in peer-acked-took)))).here ≡ takes c.peer_read-1.given.0.0 c.peer_read-1.given.0.1.0 = learn u32_says c.u32_at-2.ensures c.peer_read-1.given.1 in peer-read-read)) in peer-read-took)))).here ≡ takes c.read_marked-1.given.0.0 c.read_marked-1.given.0.1.0 = learn u32_says c.u32_at-3.ensures c.read_marked-1.given.1 in read-marked-read)) in read-marked-took)))).here ≡ takes c.contiguous-1.given.0.0 c.contiguous-1.given.0.1.0 = learn u32_says c.u32_at-4.ensures c.contiguous-1.given.1 in contiguous-read)) in contiguous-took)))).here (list_in (group range) (c.args.row.now) c.above_field-1.given.0.0) c.above_field-1.given.0.0.next = list-took (group range) range-lawful (c.args.row.now) ((let by : Bytes (c.args.row.now) = typed (c.args.row.now) c.shared_slice_known-1.given in by)) _ c.ranges_at-above_field.ensures c.above_field-1.given.1 in above-took)))).so ((let unacked-took : Took (list u32) (c.args.row.now) ((field-yes ((field-yes ((field-yes ((field-yes ((field-yes (start).so ((let peer-acked-took : Took u32 (c.args.row.now) (c.args.at) c.peer_acked-1.given.0.0 c.peer_acked-1.given.0.1.0 = took _ _ u32 (number-lawful 4) ((let by : Bytes (c.args.row.now) = typed (c.args.row.now) c.shared_slice_known-1.given in by)) ((let peer-acked-read : read_at u32 (c.args.row.now) (c.args.at) ≡ takes c.peer_acked-1.given.0.0 c.peer_acked-1.given.0.1.0 = learn u32_says c.u32_at.ensures c.peer_acked-1.given.1 in peer-acked-read)) in peer-acked-took)))).so ((let peer-read-took : Took u32 (c.args.row.now) ((field-yes (start).so ((let peer-acked-took : Took u32 (c.args.row.now) (c.args.at) c.peer_acked-1.given.0.0 c.peer_acked-1.given.0.1.0 = took _ _ u32 (number-lawful 4) ((let by : Bytes (c.args.row.now) = typed (c.args.row.now) c.shared_slice_known-1.given in by)) ((let peer-acked-read : read_at u32 (c.args.row.now) (c.args.at) ≡ takes c.peer_acked-1.given.0.0 c.peer_acked-1.given.0.1.0 = learn u32_says c.u32_at.ensures c.peer_acked-1.given.1 in peer-acked-read)) in peer-acked-took)))).here c.peer_read-1.given.0.0 c.peer_read-1.given.0.1.0 = took _ _ u32 (number-lawful 4) ((let by : Bytes (c.args.row.now) = typed (c.args.row.now) c.shared_slice_known-1.given in by)) ((let peer-read-read : read_at u32 (c.args.row.now) ((field-yes (start).so ((let peer-acked-took : Took u32 (c.args.row.now) (c.args.at) c.peer_acked-1.given.0.0 c.peer_acked-1.given.0.1.0 = took _ _ u32 (number-lawful 4) ((let by : Bytes (c.args.row.now) = typed (c.args.row.now) c.shared_slice_known-1.given in by)) ((let peer-acked-read : read_at u32 (c.args.row.now) (c.args.at) ≡ takes c.peer_acked-1.given.0.0 c.peer_acked-1.given.0.1.0 = learn u32_says c.u32_at.ensures c.peer_acked-1.given.1 in peer-acked-read)) in peer-acked-took)))).here ≡ takes c.peer_read-1.given.0.0 c.peer_read-1.given.0.1.0 = learn u32_says c.u32_at-2.ensures c.peer_read-1.given.1 in peer-read-read)) in peer-read-took)))).so ((let read-marked-took : Took u32 (c.args.row.now) ((field-yes ((field-yes (start).so ((let peer-acked-took : Took u32 (c.args.row.now) (c.args.at) c.peer_acked-1.given.0.0 c.peer_acked-1.given.0.1.0 = took _ _ u32 (number-lawful 4) ((let by : Bytes (c.args.row.now) = typed (c.args.row.now) c.shared_slice_known-1.given in by)) ((let peer-acked-read : read_at u32 (c.args.row.now) (c.args.at) ≡ takes c.peer_acked-1.given.0.0 c.peer_acked-1.given.0.1.0 = learn u32_says c.u32_at.ensures c.peer_acked-1.given.1 in peer-acked-read)) in peer-acked-took)))).so ((let peer-read-took : Took u32 (c.args.row.now) ((field-yes (start).so ((let peer-acked-took : Took u32 (c.args.row.now) (c.args.at) c.peer_acked-1.given.0.0 c.peer_acked-1.given.0.1.0 = took _ _ u32 (number-lawful 4) ((let by : Bytes (c.args.row.now) = typed (c.args.row.now) c.shared_slice_known-1.given in by)) ((let peer-acked-read : read_at u32 (c.args.row.now) (c.args.at) ≡ takes c.peer_acked-1.given.0.0 c.peer_acked-1.given.0.1.0 = learn u32_says c.u32_at.ensures c.peer_acked-1.given.1 in peer-acked-read)) in peer-acked-took)))).here c.peer_read-1.given.0.0 c.peer_read-1.given.0.1.0 = took _ _ u32 (number-lawful 4) ((let by : Bytes (c.args.row.now) = typed (c.args.row.now) c.shared_slice_known-1.given in by)) ((let peer-read-read : read_at u32 (c.args.row.now) ((field-yes (start).so ((let peer-acked-took : Took u32 (c.args.row.now) (c.args.at) c.peer_acked-1.given.0.0 c.peer_acked-1.given.0.1.0 = took _ _ u32 (number-lawful 4) ((let by : Bytes (c.args.row.now) = typed (c.args.row.now) c.shared_slice_known-1.given in by)) ((let peer-acked-read : read_at u32 (c.args.row.now) (c.args.at) ≡ takes c.peer_acked-1.given.0.0 c.peer_acked-1.given.0.1.0 = learn u32_says c.u32_at.ensures c.peer_acked-1.given.1 in peer-acked-read)) in peer-acked-took)))).here ≡ takes c.peer_read-1.given.0.0 c.peer_read-1.given.0.1.0 = learn u32_says c.u32_at-2.ensures c.peer_read-1.given.1 in peer-read-read)) in peer-read-took)))).here c.read_marked-1.given.0.0 c.read_marked-1.given.0.1.0 = took _ _ u32 (number-lawful 4) ((let by : Bytes (c.args.row.now) = typed (c.args.row.now) c.shared_slice_known-1.given in by)) ((let read-marked-read : read_at u32 (c.args.row.now) ((field-yes ((field-yes (start).so ((let peer-acked-took : Took u32 (c.args.row.now) (c.args.at) c.peer_acked-1.given.0.0 c.peer_acked-1.given.0.1.0 = took _ _ u32 (number-lawful 4) ((let by : Bytes (c.args.row.now) = typed (c.args.row.now) c.shared_slice_known-1.given in by)) ((let peer-acked-read : read_at u32 (c.args.row.now) (c.args.at) ≡ takes c.peer_acked-1.given.0.0 c.peer_acked-1.given.0.1.0 = learn u32_says c.u32_at.ensures c.peer_acked-1.given.1 in peer-acked-read)) in peer-acked-took)))).so ((let peer-read-took : Took u32 (c.args.row.now) ((field-yes (start).so ((let peer-acked-took : Took u32 (c.args.row.now) (c.args.at) c.peer_acked-1.given.0.0 c.peer_acked-1.given.0.1.0 = took _ _ u32 (number-lawful 4) ((let by : Bytes (c.args.row.now) = typed (c.args.row.now) c.shared_slice_known-1.given in by)) ((let peer-acked-read : read_at u32 (c.args.row.now) (c.args.at) ≡ takes c.peer_acked-1.given.0.0 c.peer_acked-1.given.0.1.0 = learn u32_says c.u32_at.ensures c.peer_acked-1.given.1 in peer-acked-read)) in peer-acked-took)))).here c.peer_read-1.given.0.0 c.peer_read-1.given.0.1.0 = took _ _ u32 (number-lawful 4) ((let by : Bytes (c.args.row.now) = typed (c.args.row.now) c.shared_slice_known-1.given in by)) ((let peer-read-read : read_at u32 (c.args.row.now) ((field-yes (start).so ((let peer-acked-took : Took u32 (c.args.row.now) (c.args.at) c.peer_acked-1.given.0.0 c.peer_acked-1.given.0.1.0 = took _ _ u32 (number-lawful 4) ((let by : Bytes (c.args.row.now) = typed (c.args.row.now) c.shared_slice_known-1.given in by)) ((let peer-acked-read : read_at u32 (c.args.row.now) (c.args.at) ≡ takes c.peer_acked-1.given.0.0 c.peer_acked-1.given.0.1.0 = learn u32_says c.u32_at.ensures c.peer_acked-1.given.1 in peer-acked-read)) in peer-acked-took)))).here ≡ takes c.peer_read-1.given.0.0 c.peer_read-1.given.0.1.0 = learn u32_says c.u32_at-2.ensures c.peer_read-1.given.1 in peer-read-read)) in peer-read-took)))).here ≡ takes c.read_marked-1.given.0.0 c.read_marked-1.given.0.1.0 = learn u32_says c.u32_at-3.ensures c.read_marked-1.given.1 in read-marked-read)) in read-marked-took)))).so ((let contiguous-took : Took u32 (c.args.row.now) ((field-yes ((field-yes ((field-yes (start).so ((let peer-acked-took : Took u32 (c.args.row.now) (c.args.at) c.peer_acked-1.given.0.0 c.peer_acked-1.given.0.1.0 = took _ _ u32 (number-lawful 4) ((let by : Bytes (c.args.row.now) = typed (c.args.row.now) c.shared_slice_known-1.given in by)) ((let peer-acked-read : read_at u32 (c.args.row.now) (c.args.at) ≡ takes c.peer_acked-1.given.0.0 c.peer_acked-1.given.0.1.0 = learn u32_says c.u32_at.ensures c.peer_acked-1.given.1 in peer-acked-read)) in peer-acked-took)))).so ((let peer-read-took : Took u32 (c.args.row.now) ((field-yes (start).so ((let peer-acked-took : Took u32 (c.args.row.now) (c.args.at) c.peer_acked-1.given.0.0 c.peer_acked-1.given.0.1.0 = took _ _ u32 (number-lawful 4) ((let by : Bytes (c.args.row.now) = typed (c.args.row.now) c.shared_slice_known-1.given in by)) ((let peer-acked-read : read_at u32 (c.args.row.now) (c.args.at) ≡ takes c.peer_acked-1.given.0.0 c.peer_acked-1.given.0.1.0 = learn u32_says c.u32_at.ensures c.peer_acked-1.given.1 in peer-acked-read)) in peer-acked-took)))).here c.peer_read-1.given.0.0 c.peer_read-1.given.0.1.0 = took _ _ u32 (number-lawful 4) ((let by : Bytes (c.args.row.now) = typed (c.args.row.now) c.shared_slice_known-1.given in by)) ((let peer-read-read : read_at u32 (c.args.row.now) ((field-yes (start).so ((let peer-acked-took : Took u32 (c.args.row.now) (c.args.at) c.peer_acked-1.given.0.0 c.peer_acked-1.given.0.1.0 = took _ _ u32 (number-lawful 4) ((let by : Bytes (c.args.row.now) = typed (c.args.row.now) c.shared_slice_known-1.given in by)) ((let peer-acked-read : read_at u32 (c.args.row.now) (c.args.at) ≡ takes c.peer_acked-1.given.0.0 c.peer_acked-1.given.0.1.0 = learn u32_says c.u32_at.ensures c.peer_acked-1.given.1 in peer-acked-read)) in peer-acked-took)))).here ≡ takes c.peer_read-1.given.0.0 c.peer_read-1.given.0.1.0 = learn u32_says c.u32_at-2.ensures c.peer_read-1.given.1 in peer-read-read)) in peer-read-took)))).so ((let read-marked-took : Took u32 (c.args.row.now) ((field-yes ((field-yes (start).so ((let peer-acked-took : Took u32 (c.args.row.now) (c.args.at) c.peer_acked-1.given.0.0 c.peer_acked-1.given.0.1.0 = took _ _ u32 (number-lawful 4) ((let by : Bytes (c.args.row.now) = typed (c.args.row.now) c.shared_slice_known-1.given in by)) ((let peer-acked-read : read_at u32 (c.args.row.now) (c.args.at) ≡ takes c.peer_acked-1.given.0.0 c.peer_acked-1.given.0.1.0 = learn u32_says c.u32_at.ensures c.peer_acked-1.given.1 in peer-acked-read)) in peer-acked-took)))).so ((let peer-read-took : Took u32 (c.args.row.now) ((field-yes (start).so ((let peer-acked-took : Took u32 (c.args.row.now) (c.args.at) c.peer_acked-1.given.0.0 c.peer_acked-1.given.0.1.0 = took _ _ u32 (number-lawful 4) ((let by : Bytes (c.args.row.now) = typed (c.args.row.now) c.shared_slice_known-1.given in by)) ((let peer-acked-read : read_at u32 (c.args.row.now) (c.args.at) ≡ takes c.peer_acked-1.given.0.0 c.peer_acked-1.given.0.1.0 = learn u32_says c.u32_at.ensures c.peer_acked-1.given.1 in peer-acked-read)) in peer-acked-took)))).here c.peer_read-1.given.0.0 c.peer_read-1.given.0.1.0 = took _ _ u32 (number-lawful 4) ((let by : Bytes (c.args.row.now) = typed (c.args.row.now) c.shared_slice_known-1.given in by)) ((let peer-read-read : read_at u32 (c.args.row.now) ((field-yes (start).so ((let peer-acked-took : Took u32 (c.args.row.now) (c.args.at) c.peer_acked-1.given.0.0 c.peer_acked-1.given.0.1.0 = took _ _ u32 (number-lawful 4) ((let by : Bytes (c.args.row.now) = typed (c.args.row.now) c.shared_slice_known-1.given in by)) ((let peer-acked-read : read_at u32 (c.args.row.now) (c.args.at) ≡ takes c.peer_acked-1.given.0.0 c.peer_acked-1.given.0.1.0 = learn u32_says c.u32_at.ensures c.peer_acked-1.given.1 in peer-acked-read)) in peer-acked-took)))).here ≡ takes c.peer_read-1.given.0.0 c.peer_read-1.given.0.1.0 = learn u32_says c.u32_at-2.ensures c.peer_read-1.given.1 in peer-read-read)) in peer-read-took)))).here c.read_marked-1.given.0.0 c.read_marked-1.given.0.1.0 = took _ _ u32 (number-lawful 4) ((let by : Bytes (c.args.row.now) = typed (c.args.row.now) c.shared_slice_known-1.given in by)) ((let read-marked-read : read_at u32 (c.args.row.now) ((field-yes ((field-yes (start).so ((let peer-acked-took : Took u32 (c.args.row.now) (c.args.at) c.peer_acked-1.given.0.0 c.peer_acked-1.given.0.1.0 = took _ _ u32 (number-lawful 4) ((let by : Bytes (c.args.row.now) = typed (c.args.row.now) c.shared_slice_known-1.given in by)) ((let peer-acked-read : read_at u32 (c.args.row.now) (c.args.at) ≡ takes c.peer_acked-1.given.0.0 c.peer_acked-1.given.0.1.0 = learn u32_says c.u32_at.ensures c.peer_acked-1.given.1 in peer-acked-read)) in peer-acked-took)))).so ((let peer-read-took : Took u32 (c.args.row.now) ((field-yes (start).so ((let peer-acked-took : Took u32 (c.args.row.now) (c.args.at) c.peer_acked-1.given.0.0 c.peer_acked-1.given.0.1.0 = took _ _ u32 (number-lawful 4) ((let by : Bytes (c.args.row.now) = typed (c.args.row.now) c.shared_slice_known-1.given in by)) ((let peer-acked-read : read_at u32 (c.args.row.now) (c.args.at) ≡ takes c.peer_acked-1.given.0.0 c.peer_acked-1.given.0.1.0 = learn u32_says c.u32_at.ensures c.peer_acked-1.given.1 in peer-acked-read)) in peer-acked-took)))).here c.peer_read-1.given.0.0 c.peer_read-1.given.0.1.0 = took _ _ u32 (number-lawful 4) ((let by : Bytes (c.args.row.now) = typed (c.args.row.now) c.shared_slice_known-1.given in by)) ((let peer-read-read : read_at u32 (c.args.row.now) ((field-yes (start).so ((let peer-acked-took : Took u32 (c.args.row.now) (c.args.at) c.peer_acked-1.given.0.0 c.peer_acked-1.given.0.1.0 = took _ _ u32 (number-lawful 4) ((let by : Bytes (c.args.row.now) = typed (c.args.row.now) c.shared_slice_known-1.given in by)) ((let peer-acked-read : read_at u32 (c.args.row.now) (c.args.at) ≡ takes c.peer_acked-1.given.0.0 c.peer_acked-1.given.0.1.0 = learn u32_says c.u32_at.ensures c.peer_acked-1.given.1 in peer-acked-read)) in peer-acked-took)))).here ≡ takes c.peer_read-1.given.0.0 c.peer_read-1.given.0.1.0 = learn u32_says c.u32_at-2.ensures c.peer_read-1.given.1 in peer-read-read)) in peer-read-took)))).here ≡ takes c.read_marked-1.given.0.0 c.read_marked-1.given.0.1.0 = learn u32_says c.u32_at-3.ensures c.read_marked-1.given.1 in read-marked-read)) in read-marked-took)))).here c.contiguous-1.given.0.0 c.contiguous-1.given.0.1.0 = took _ _ u32 (number-lawful 4) ((let by : Bytes (c.args.row.now) = typed (c.args.row.now) c.shared_slice_known-1.given in by)) ((let contiguous-read : read_at u32 (c.args.row.now) ((field-yes ((field-yes ((field-yes (start).so ((let peer-acked-took : Took u32 (c.args.row.now) (c.args.at) c.peer_acked-1.given.0.0 c.peer_acked-1.given.0.1.0 = took _ _ u32 (number-lawful 4) ((let by : Bytes (c.args.row.now) = typed (c.args.row.now) c.shared_slice_known-1.given in by)) ((let peer-acked-read : read_at u32 (c.args.row.now) (c.args.at) ≡ takes c.peer_acked-1.given.0.0 c.peer_acked-1.given.0.1.0 = learn u32_says c.u32_at.ensures c.peer_acked-1.given.1 in peer-acked-read)) in peer-acked-took)))).so ((let peer-read-took : Took u32 (c.args.row.now) ((field-yes (start).so ((let peer-acked-took : Took u32 (c.args.row.now) (c.args.at) c.peer_acked-1.given.0.0 c.peer_acked-1.given.0.1.0 = took _ _ u32 (number-lawful 4) ((let by : Bytes (c.args.row.now) = typed (c.args.row.now) c.shared_slice_known-1.given in by)) ((let peer-acked-read : read_at u32 (c.args.row.now) (c.args.at) ≡ takes c.peer_acked-1.given.0.0 c.peer_acked-1.given.0.1.0 = learn u32_says c.u32_at.ensures c.peer_acked-1.given.1 in peer-acked-read)) in peer-acked-took)))).here c.peer_read-1.given.0.0 c.peer_read-1.given.0.1.0 = took _ _ u32 (number-lawful 4) ((let by : Bytes (c.args.row.now) = typed (c.args.row.now) c.shared_slice_known-1.given in by)) ((let peer-read-read : read_at u32 (c.args.row.now) ((field-yes (start).so ((let peer-acked-took : Took u32 (c.args.row.now) (c.args.at) c.peer_acked-1.given.0.0 c.peer_acked-1.given.0.1.0 = took _ _ u32 (number-lawful 4) ((let by : Bytes (c.args.row.now) = typed (c.args.row.now) c.shared_slice_known-1.given in by)) ((let peer-acked-read : read_at u32 (c.args.row.now) (c.args.at) ≡ takes c.peer_acked-1.given.0.0 c.peer_acked-1.given.0.1.0 = learn u32_says c.u32_at.ensures c.peer_acked-1.given.1 in peer-acked-read)) in peer-acked-took)))).here ≡ takes c.peer_read-1.given.0.0 c.peer_read-1.given.0.1.0 = learn u32_says c.u32_at-2.ensures c.peer_read-1.given.1 in peer-read-read)) in peer-read-took)))).so ((let read-marked-took : Took u32 (c.args.row.now) ((field-yes ((field-yes (start).so ((let peer-acked-took : Took u32 (c.args.row.now) (c.args.at) c.peer_acked-1.given.0.0 c.peer_acked-1.given.0.1.0 = took _ _ u32 (number-lawful 4) ((let by : Bytes (c.args.row.now) = typed (c.args.row.now) c.shared_slice_known-1.given in by)) ((let peer-acked-read : read_at u32 (c.args.row.now) (c.args.at) ≡ takes c.peer_acked-1.given.0.0 c.peer_acked-1.given.0.1.0 = learn u32_says c.u32_at.ensures c.peer_acked-1.given.1 in peer-acked-read)) in peer-acked-took)))).so ((let peer-read-took : Took u32 (c.args.row.now) ((field-yes (start).so ((let peer-acked-took : Took u32 (c.args.row.now) (c.args.at) c.peer_acked-1.given.0.0 c.peer_acked-1.given.0.1.0 = took _ _ u32 (number-lawful 4) ((let by : Bytes (c.args.row.now) = typed (c.args.row.now) c.shared_slice_known-1.given in by)) ((let peer-acked-read : read_at u32 (c.args.row.now) (c.args.at) ≡ takes c.peer_acked-1.given.0.0 c.peer_acked-1.given.0.1.0 = learn u32_says c.u32_at.ensures c.peer_acked-1.given.1 in peer-acked-read)) in peer-acked-took)))).here c.peer_read-1.given.0.0 c.peer_read-1.given.0.1.0 = took _ _ u32 (number-lawful 4) ((let by : Bytes (c.args.row.now) = typed (c.args.row.now) c.shared_slice_known-1.given in by)) ((let peer-read-read : read_at u32 (c.args.row.now) ((field-yes (start).so ((let peer-acked-took : Took u32 (c.args.row.now) (c.args.at) c.peer_acked-1.given.0.0 c.peer_acked-1.given.0.1.0 = took _ _ u32 (number-lawful 4) ((let by : Bytes (c.args.row.now) = typed (c.args.row.now) c.shared_slice_known-1.given in by)) ((let peer-acked-read : read_at u32 (c.args.row.now) (c.args.at) ≡ takes c.peer_acked-1.given.0.0 c.peer_acked-1.given.0.1.0 = learn u32_says c.u32_at.ensures c.peer_acked-1.given.1 in peer-acked-read)) in peer-acked-took)))).here ≡ takes c.peer_read-1.given.0.0 c.peer_read-1.given.0.1.0 = learn u32_says c.u32_at-2.ensures c.peer_read-1.given.1 in peer-read-read)) in peer-read-took)))).here c.read_marked-1.given.0.0 c.read_marked-1.given.0.1.0 = took _ _ u32 (number-lawful 4) ((let by : Bytes (c.args.row.now) = typed (c.args.row.now) c.shared_slice_known-1.given in by)) ((let read-marked-read : read_at u32 (c.args.row.now) ((field-yes ((field-yes (start).so ((let peer-acked-took : Took u32 (c.args.row.now) (c.args.at) c.peer_acked-1.given.0.0 c.peer_acked-1.given.0.1.0 = took _ _ u32 (number-lawful 4) ((let by : Bytes (c.args.row.now) = typed (c.args.row.now) c.shared_slice_known-1.given in by)) ((let peer-acked-read : read_at u32 (c.args.row.now) (c.args.at) ≡ takes c.peer_acked-1.given.0.0 c.peer_acked-1.given.0.1.0 = learn u32_says c.u32_at.ensures c.peer_acked-1.given.1 in peer-acked-read)) in peer-acked-took)))).so ((let peer-read-took : Took u32 (c.args.row.now) ((field-yes (start).so ((let peer-acked-took : Took u32 (c.args.row.now) (c.args.at) c.peer_acked-1.given.0.0 c.peer_acked-1.given.0.1.0 = took _ _ u32 (number-lawful 4) ((let by : Bytes (c.args.row.now) = typed (c.args.row.now) c.shared_slice_known-1.given in by)) ((let peer-acked-read : read_at u32 (c.args.row.now) (c.args.at) ≡ takes c.peer_acked-1.given.0.0 c.peer_acked-1.given.0.1.0 = learn u32_says c.u32_at.ensures c.peer_acked-1.given.1 in peer-acked-read)) in peer-acked-took)))).here c.peer_read-1.given.0.0 c.peer_read-1.given.0.1.0 = took _ _ u32 (number-lawful 4) ((let by : Bytes (c.args.row.now) = typed (c.args.row.now) c.shared_slice_known-1.given in by)) ((let peer-read-read : read_at u32 (c.args.row.now) ((field-yes (start).so ((let peer-acked-took : Took u32 (c.args.row.now) (c.args.at) c.peer_acked-1.given.0.0 c.peer_acked-1.given.0.1.0 = took _ _ u32 (number-lawful 4) ((let by : Bytes (c.args.row.now) = typed (c.args.row.now) c.shared_slice_known-1.given in by)) ((let peer-acked-read : read_at u32 (c.args.row.now) (c.args.at) ≡ takes c.peer_acked-1.given.0.0 c.peer_acked-1.given.0.1.0 = learn u32_says c.u32_at.ensures c.peer_acked-1.given.1 in peer-acked-read)) in peer-acked-took)))).here ≡ takes c.peer_read-1.given.0.0 c.peer_read-1.given.0.1.0 = learn u32_says c.u32_at-2.ensures c.peer_read-1.given.1 in peer-read-read)) in peer-read-took)))).here ≡ takes c.read_marked-1.given.0.0 c.read_marked-1.given.0.1.0 = learn u32_says c.u32_at-3.ensures c.read_marked-1.given.1 in read-marked-read)) in read-marked-took)))).here ≡ takes c.contiguous-1.given.0.0 c.contiguous-1.given.0.1.0 = learn u32_says c.u32_at-4.ensures c.contiguous-1.given.1 in contiguous-read)) in contiguous-took)))).so ((let above-took : Took (list (group range)) (c.args.row.now) ((field-yes ((field-yes ((field-yes ((field-yes (start).so ((let peer-acked-took : Took u32 (c.args.row.now) (c.args.at) c.peer_acked-1.given.0.0 c.peer_acked-1.given.0.1.0 = took _ _ u32 (number-lawful 4) ((let by : Bytes (c.args.row.now) = typed (c.args.row.now) c.shared_slice_known-1.given in by)) ((let peer-acked-read : read_at u32 (c.args.row.now) (c.args.at) ≡ takes c.peer_acked-1.given.0.0 c.peer_acked-1.given.0.1.0 = learn u32_says c.u32_at.ensures c.peer_acked-1.given.1 in peer-acked-read)) in peer-acked-took)))).so ((let peer-read-took : Took u32 (c.args.row.now) ((field-yes (start).so ((let peer-acked-took : Took u32 (c.args.row.now) (c.args.at) c.peer_acked-1.given.0.0 c.peer_acked-1.given.0.1.0 = took _ _ u32 (number-lawful 4) ((let by : Bytes (c.args.row.now) = typed (c.args.row.now) c.shared_slice_known-1.given in by)) ((let peer-acked-read : read_at u32 (c.args.row.now) (c.args.at) ≡ takes c.peer_acked-1.given.0.0 c.peer_acked-1.given.0.1.0 = learn u32_says c.u32_at.ensures c.peer_acked-1.given.1 in peer-acked-read)) in peer-acked-took)))).here c.peer_read-1.given.0.0 c.peer_read-1.given.0.1.0 = took _ _ u32 (number-lawful 4) ((let by : Bytes (c.args.row.now) = typed (c.args.row.now) c.shared_slice_known-1.given in by)) ((let peer-read-read : read_at u32 (c.args.row.now) ((field-yes (start).so ((let peer-acked-took : Took u32 (c.args.row.now) (c.args.at) c.peer_acked-1.given.0.0 c.peer_acked-1.given.0.1.0 = took _ _ u32 (number-lawful 4) ((let by : Bytes (c.args.row.now) = typed (c.args.row.now) c.shared_slice_known-1.given in by)) ((let peer-acked-read : read_at u32 (c.args.row.now) (c.args.at) ≡ takes c.peer_acked-1.given.0.0 c.peer_acked-1.given.0.1.0 = learn u32_says c.u32_at.ensures c.peer_acked-1.given.1 in peer-acked-read)) in peer-acked-took)))).here ≡ takes c.peer_read-1.given.0.0 c.peer_read-1.given.0.1.0 = learn u32_says c.u32_at-2.ensures c.peer_read-1.given.1 in peer-read-read)) in peer-read-took)))).so ((let read-marked-took : Took u32 (c.args.row.now) ((field-yes ((field-yes (start).so ((let peer-acked-took : Took u32 (c.args.row.now) (c.args.at) c.peer_acked-1.given.0.0 c.peer_acked-1.given.0.1.0 = took _ _ u32 (number-lawful 4) ((let by : Bytes (c.args.row.now) = typed (c.args.row.now) c.shared_slice_known-1.given in by)) ((let peer-acked-read : read_at u32 (c.args.row.now) (c.args.at) ≡ takes c.peer_acked-1.given.0.0 c.peer_acked-1.given.0.1.0 = learn u32_says c.u32_at.ensures c.peer_acked-1.given.1 in peer-acked-read)) in peer-acked-took)))).so ((let peer-read-took : Took u32 (c.args.row.now) ((field-yes (start).so ((let peer-acked-took : Took u32 (c.args.row.now) (c.args.at) c.peer_acked-1.given.0.0 c.peer_acked-1.given.0.1.0 = took _ _ u32 (number-lawful 4) ((let by : Bytes (c.args.row.now) = typed (c.args.row.now) c.shared_slice_known-1.given in by)) ((let peer-acked-read : read_at u32 (c.args.row.now) (c.args.at) ≡ takes c.peer_acked-1.given.0.0 c.peer_acked-1.given.0.1.0 = learn u32_says c.u32_at.ensures c.peer_acked-1.given.1 in peer-acked-read)) in peer-acked-took)))).here c.peer_read-1.given.0.0 c.peer_read-1.given.0.1.0 = took _ _ u32 (number-lawful 4) ((let by : Bytes (c.args.row.now) = typed (c.args.row.now) c.shared_slice_known-1.given in by)) ((let peer-read-read : read_at u32 (c.args.row.now) ((field-yes (start).so ((let peer-acked-took : Took u32 (c.args.row.now) (c.args.at) c.peer_acked-1.given.0.0 c.peer_acked-1.given.0.1.0 = took _ _ u32 (number-lawful 4) ((let by : Bytes (c.args.row.now) = typed (c.args.row.now) c.shared_slice_known-1.given in by)) ((let peer-acked-read : read_at u32 (c.args.row.now) (c.args.at) ≡ takes c.peer_acked-1.given.0.0 c.peer_acked-1.given.0.1.0 = learn u32_says c.u32_at.ensures c.peer_acked-1.given.1 in peer-acked-read)) in peer-acked-took)))).here ≡ takes c.peer_read-1.given.0.0 c.peer_read-1.given.0.1.0 = learn u32_says c.u32_at-2.ensures c.peer_read-1.given.1 in peer-read-read)) in peer-read-took)))).here c.read_marked-1.given.0.0 c.read_marked-1.given.0.1.0 = took _ _ u32 (number-lawful 4) ((let by : Bytes (c.args.row.now) = typed (c.args.row.now) c.shared_slice_known-1.given in by)) ((let read-marked-read : read_at u32 (c.args.row.now) ((field-yes ((field-yes (start).so ((let peer-acked-took : Took u32 (c.args.row.now) (c.args.at) c.peer_acked-1.given.0.0 c.peer_acked-1.given.0.1.0 = took _ _ u32 (number-lawful 4) ((let by : Bytes (c.args.row.now) = typed (c.args.row.now) c.shared_slice_known-1.given in by)) ((let peer-acked-read : read_at u32 (c.args.row.now) (c.args.at) ≡ takes c.peer_acked-1.given.0.0 c.peer_acked-1.given.0.1.0 = learn u32_says c.u32_at.ensures c.peer_acked-1.given.1 in peer-acked-read)) in peer-acked-took)))).so ((let peer-read-took : Took u32 (c.args.row.now) ((field-yes (start).so ((let peer-acked-took : Took u32 (c.args.row.now) (c.args.at) c.peer_acked-1.given.0.0 c.peer_acked-1.given.0.1.0 = took _ _ u32 (number-lawful 4) ((let by : Bytes (c.args.row.now) = typed (c.args.row.now) c.shared_slice_known-1.given in by)) ((let peer-acked-read : read_at u32 (c.args.row.now) (c.args.at) ≡ takes c.peer_acked-1.given.0.0 c.peer_acked-1.given.0.1.0 = learn u32_says c.u32_at.ensures c.peer_acked-1.given.1 in peer-acked-read)) in peer-acked-took)))).here c.peer_read-1.given.0.0 c.peer_read-1.given.0.1.0 = took _ _ u32 (number-lawful 4) ((let by : Bytes (c.args.row.now) = typed (c.args.row.now) c.shared_slice_known-1.given in by)) ((let peer-read-read : read_at u32 (c.args.row.now) ((field-yes (start).so ((let peer-acked-took : Took u32 (c.args.row.now) (c.args.at) c.peer_acked-1.given.0.0 c.peer_acked-1.given.0.1.0 = took _ _ u32 (number-lawful 4) ((let by : Bytes (c.args.row.now) = typed (c.args.row.now) c.shared_slice_known-1.given in by)) ((let peer-acked-read : read_at u32 (c.args.row.now) (c.args.at) ≡ takes c.peer_acked-1.given.0.0 c.peer_acked-1.given.0.1.0 = learn u32_says c.u32_at.ensures c.peer_acked-1.given.1 in peer-acked-read)) in peer-acked-took)))).here ≡ takes c.peer_read-1.given.0.0 c.peer_read-1.given.0.1.0 = learn u32_says c.u32_at-2.ensures c.peer_read-1.given.1 in peer-read-read)) in peer-read-took)))).here ≡ takes c.read_marked-1.given.0.0 c.read_marked-1.given.0.1.0 = learn u32_says c.u32_at-3.ensures c.read_marked-1.given.1 in read-marked-read)) in read-marked-took)))).so ((let contiguous-took : Took u32 (c.args.row.now) ((field-yes ((field-yes ((field-yes (start).so ((let peer-acked-took : Took u32 (c.args.row.now) (c.args.at) c.peer_acked-1.given.0.0 c.peer_acked-1.given.0.1.0 = took _ _ u32 (number-lawful 4) ((let by : Bytes (c.args.row.now) = typed (c.args.row.now) c.shared_slice_known-1.given in by)) ((let peer-acked-read : read_at u32 (c.args.row.now) (c.args.at) ≡ takes c.peer_acked-1.given.0.0 c.peer_acked-1.given.0.1.0 = learn u32_says c.u32_at.ensures c.peer_acked-1.given.1 in peer-acked-read)) in peer-acked-took)))).so ((let peer-read-took : Took u32 (c.args.row.now) ((field-yes (start).so ((let peer-acked-took : Took u32 (c.args.row.now) (c.args.at) c.peer_acked-1.given.0.0 c.peer_acked-1.given.0.1.0 = took _ _ u32 (number-lawful 4) ((let by : Bytes (c.args.row.now) = typed (c.args.row.now) c.shared_slice_known-1.given in by)) ((let peer-acked-read : read_at u32 (c.args.row.now) (c.args.at) ≡ takes c.peer_acked-1.given.0.0 c.peer_acked-1.given.0.1.0 = learn u32_says c.u32_at.ensures c.peer_acked-1.given.1 in peer-acked-read)) in peer-acked-took)))).here c.peer_read-1.given.0.0 c.peer_read-1.given.0.1.0 = took _ _ u32 (number-lawful 4) ((let by : Bytes (c.args.row.now) = typed (c.args.row.now) c.shared_slice_known-1.given in by)) ((let peer-read-read : read_at u32 (c.args.row.now) ((field-yes (start).so ((let peer-acked-took : Took u32 (c.args.row.now) (c.args.at) c.peer_acked-1.given.0.0 c.peer_acked-1.given.0.1.0 = took _ _ u32 (number-lawful 4) ((let by : Bytes (c.args.row.now) = typed (c.args.row.now) c.shared_slice_known-1.given in by)) ((let peer-acked-read : read_at u32 (c.args.row.now) (c.args.at) ≡ takes c.peer_acked-1.given.0.0 c.peer_acked-1.given.0.1.0 = learn u32_says c.u32_at.ensures c.peer_acked-1.given.1 in peer-acked-read)) in peer-acked-took)))).here ≡ takes c.peer_read-1.given.0.0 c.peer_read-1.given.0.1.0 = learn u32_says c.u32_at-2.ensures c.peer_read-1.given.1 in peer-read-read)) in peer-read-took)))).so ((let read-marked-took : Took u32 (c.args.row.now) ((field-yes ((field-yes (start).so ((let peer-acked-took : Took u32 (c.args.row.now) (c.args.at) c.peer_acked-1.given.0.0 c.peer_acked-1.given.0.1.0 = took _ _ u32 (number-lawful 4) ((let by : Bytes (c.args.row.now) = typed (c.args.row.now) c.shared_slice_known-1.given in by)) ((let peer-acked-read : read_at u32 (c.args.row.now) (c.args.at) ≡ takes c.peer_acked-1.given.0.0 c.peer_acked-1.given.0.1.0 = learn u32_says c.u32_at.ensures c.peer_acked-1.given.1 in peer-acked-read)) in peer-acked-took)))).so ((let peer-read-took : Took u32 (c.args.row.now) ((field-yes (start).so ((let peer-acked-took : Took u32 (c.args.row.now) (c.args.at) c.peer_acked-1.given.0.0 c.peer_acked-1.given.0.1.0 = took _ _ u32 (number-lawful 4) ((let by : Bytes (c.args.row.now) = typed (c.args.row.now) c.shared_slice_known-1.given in by)) ((let peer-acked-read : read_at u32 (c.args.row.now) (c.args.at) ≡ takes c.peer_acked-1.given.0.0 c.peer_acked-1.given.0.1.0 = learn u32_says c.u32_at.ensures c.peer_acked-1.given.1 in peer-acked-read)) in peer-acked-took)))).here c.peer_read-1.given.0.0 c.peer_read-1.given.0.1.0 = took _ _ u32 (number-lawful 4) ((let by : Bytes (c.args.row.now) = typed (c.args.row.now) c.shared_slice_known-1.given in by)) ((let peer-read-read : read_at u32 (c.args.row.now) ((field-yes (start).so ((let peer-acked-took : Took u32 (c.args.row.now) (c.args.at) c.peer_acked-1.given.0.0 c.peer_acked-1.given.0.1.0 = took _ _ u32 (number-lawful 4) ((let by : Bytes (c.args.row.now) = typed (c.args.row.now) c.shared_slice_known-1.given in by)) ((let peer-acked-read : read_at u32 (c.args.row.now) (c.args.at) ≡ takes c.peer_acked-1.given.0.0 c.peer_acked-1.given.0.1.0 = learn u32_says c.u32_at.ensures c.peer_acked-1.given.1 in peer-acked-read)) in peer-acked-took)))).here ≡ takes c.peer_read-1.given.0.0 c.peer_read-1.given.0.1.0 = learn u32_says c.u32_at-2.ensures c.peer_read-1.given.1 in peer-read-read)) in peer-read-took)))).here c.read_marked-1.given.0.0 c.read_marked-1.given.0.1.0 = took _ _ u32 (number-lawful 4) ((let by : Bytes (c.args.row.now) = typed (c.args.row.now) c.shared_slice_known-1.given in by)) ((let read-marked-read : read_at u32 (c.args.row.now) ((field-yes ((field-yes (start).so ((let peer-acked-took : Took u32 (c.args.row.now) (c.args.at) c.peer_acked-1.given.0.0 c.peer_acked-1.given.0.1.0 = took _ _ u32 (number-lawful 4) ((let by : Bytes (c.args.row.now) = typed (c.args.row.now) c.shared_slice_known-1.given in by)) ((let peer-acked-read : read_at u32 (c.args.row.now) (c.args.at) ≡ takes c.peer_acked-1.given.0.0 c.peer_acked-1.given.0.1.0 = learn u32_says c.u32_at.ensures c.peer_acked-1.given.1 in peer-acked-read)) in peer-acked-took)))).so ((let peer-read-took : Took u32 (c.args.row.now) ((field-yes (start).so ((let peer-acked-took : Took u32 (c.args.row.now) (c.args.at) c.peer_acked-1.given.0.0 c.peer_acked-1.given.0.1.0 = took _ _ u32 (number-lawful 4) ((let by : Bytes (c.args.row.now) = typed (c.args.row.now) c.shared_slice_known-1.given in by)) ((let peer-acked-read : read_at u32 (c.args.row.now) (c.args.at) ≡ takes c.peer_acked-1.given.0.0 c.peer_acked-1.given.0.1.0 = learn u32_says c.u32_at.ensures c.peer_acked-1.given.1 in peer-acked-read)) in peer-acked-took)))).here c.peer_read-1.given.0.0 c.peer_read-1.given.0.1.0 = took _ _ u32 (number-lawful 4) ((let by : Bytes (c.args.row.now) = typed (c.args.row.now) c.shared_slice_known-1.given in by)) ((let peer-read-read : read_at u32 (c.args.row.now) ((field-yes (start).so ((let peer-acked-took : Took u32 (c.args.row.now) (c.args.at) c.peer_acked-1.given.0.0 c.peer_acked-1.given.0.1.0 = took _ _ u32 (number-lawful 4) ((let by : Bytes (c.args.row.now) = typed (c.args.row.now) c.shared_slice_known-1.given in by)) ((let peer-acked-read : read_at u32 (c.args.row.now) (c.args.at) ≡ takes c.peer_acked-1.given.0.0 c.peer_acked-1.given.0.1.0 = learn u32_says c.u32_at.ensures c.peer_acked-1.given.1 in peer-acked-read)) in peer-acked-took)))).here ≡ takes c.peer_read-1.given.0.0 c.peer_read-1.given.0.1.0 = learn u32_says c.u32_at-2.ensures c.peer_read-1.given.1 in peer-read-read)) in peer-read-took)))).here ≡ takes c.read_marked-1.given.0.0 c.read_marked-1.given.0.1.0 = learn u32_says c.u32_at-3.ensures c.read_marked-1.given.1 in read-marked-read)) in read-marked-took)))).here c.contiguous-1.given.0.0 c.contiguous-1.given.0.1.0 = took _ _ u32 (number-lawful 4) ((let by : Bytes (c.args.row.now) = typed (c.args.row.now) c.shared_slice_known-1.given in by)) ((let contiguous-read : read_at u32 (c.args.row.now) ((field-yes ((field-yes ((field-yes (start).so ((let peer-acked-took : Took u32 (c.args.row.now) (c.args.at) c.peer_acked-1.given.0.0 c.peer_acked-1.given.0.1.0 = took _ _ u32 (number-lawful 4) ((let by : Bytes (c.args.row.now) = typed (c.args.row.now) c.shared_slice_known-1.given in by)) ((let peer-acked-read : read_at u32 (c.args.row.now) (c.args.at) ≡ takes c.peer_acked-1.given.0.0 c.peer_acked-1.given.0.1.0 = learn u32_says c.u32_at.ensures c.peer_acked-1.given.1 in peer-acked-read)) in peer-acked-took)))).so ((let peer-read-took : Took u32 (c.args.row.now) ((field-yes (start).so ((let peer-acked-took : Took u32 (c.args.row.now) (c.args.at) c.peer_acked-1.given.0.0 c.peer_acked-1.given.0.1.0 = took _ _ u32 (number-lawful 4) ((let by : Bytes (c.args.row.now) = typed (c.args.row.now) c.shared_slice_known-1.given in by)) ((let peer-acked-read : read_at u32 (c.args.row.now) (c.args.at) ≡ takes c.peer_acked-1.given.0.0 c.peer_acked-1.given.0.1.0 = learn u32_says c.u32_at.ensures c.peer_acked-1.given.1 in peer-acked-read)) in peer-acked-took)))).here c.peer_read-1.given.0.0 c.peer_read-1.given.0.1.0 = took _ _ u32 (number-lawful 4) ((let by : Bytes (c.args.row.now) = typed (c.args.row.now) c.shared_slice_known-1.given in by)) ((let peer-read-read : read_at u32 (c.args.row.now) ((field-yes (start).so ((let peer-acked-took : Took u32 (c.args.row.now) (c.args.at) c.peer_acked-1.given.0.0 c.peer_acked-1.given.0.1.0 = took _ _ u32 (number-lawful 4) ((let by : Bytes (c.args.row.now) = typed (c.args.row.now) c.shared_slice_known-1.given in by)) ((let peer-acked-read : read_at u32 (c.args.row.now) (c.args.at) ≡ takes c.peer_acked-1.given.0.0 c.peer_acked-1.given.0.1.0 = learn u32_says c.u32_at.ensures c.peer_acked-1.given.1 in peer-acked-read)) in peer-acked-took)))).here ≡ takes c.peer_read-1.given.0.0 c.peer_read-1.given.0.1.0 = learn u32_says c.u32_at-2.ensures c.peer_read-1.given.1 in peer-read-read)) in peer-read-took)))).so ((let read-marked-took : Took u32 (c.args.row.now) ((field-yes ((field-yes (start).so ((let peer-acked-took : Took u32 (c.args.row.now) (c.args.at) c.peer_acked-1.given.0.0 c.peer_acked-1.given.0.1.0 = took _ _ u32 (number-lawful 4) ((let by : Bytes (c.args.row.now) = typed (c.args.row.now) c.shared_slice_known-1.given in by)) ((let peer-acked-read : read_at u32 (c.args.row.now) (c.args.at) ≡ takes c.peer_acked-1.given.0.0 c.peer_acked-1.given.0.1.0 = learn u32_says c.u32_at.ensures c.peer_acked-1.given.1 in peer-acked-read)) in peer-acked-took)))).so ((let peer-read-took : Took u32 (c.args.row.now) ((field-yes (start).so ((let peer-acked-took : Took u32 (c.args.row.now) (c.args.at) c.peer_acked-1.given.0.0 c.peer_acked-1.given.0.1.0 = took _ _ u32 (number-lawful 4) ((let by : Bytes (c.args.row.now) = typed (c.args.row.now) c.shared_slice_known-1.given in by)) ((let peer-acked-read : read_at u32 (c.args.row.now) (c.args.at) ≡ takes c.peer_acked-1.given.0.0 c.peer_acked-1.given.0.1.0 = learn u32_says c.u32_at.ensures c.peer_acked-1.given.1 in peer-acked-read)) in peer-acked-took)))).here c.peer_read-1.given.0.0 c.peer_read-1.given.0.1.0 = took _ _ u32 (number-lawful 4) ((let by : Bytes (c.args.row.now) = typed (c.args.row.now) c.shared_slice_known-1.given in by)) ((let peer-read-read : read_at u32 (c.args.row.now) ((field-yes (start).so ((let peer-acked-took : Took u32 (c.args.row.now) (c.args.at) c.peer_acked-1.given.0.0 c.peer_acked-1.given.0.1.0 = took _ _ u32 (number-lawful 4) ((let by : Bytes (c.args.row.now) = typed (c.args.row.now) c.shared_slice_known-1.given in by)) ((let peer-acked-read : read_at u32 (c.args.row.now) (c.args.at) ≡ takes c.peer_acked-1.given.0.0 c.peer_acked-1.given.0.1.0 = learn u32_says c.u32_at.ensures c.peer_acked-1.given.1 in peer-acked-read)) in peer-acked-took)))).here ≡ takes c.peer_read-1.given.0.0 c.peer_read-1.given.0.1.0 = learn u32_says c.u32_at-2.ensures c.peer_read-1.given.1 in peer-read-read)) in peer-read-took)))).here c.read_marked-1.given.0.0 c.read_marked-1.given.0.1.0 = took _ _ u32 (number-lawful 4) ((let by : Bytes (c.args.row.now) = typed (c.args.row.now) c.shared_slice_known-1.given in by)) ((let read-marked-read : read_at u32 (c.args.row.now) ((field-yes ((field-yes (start).so ((let peer-acked-took : Took u32 (c.args.row.now) (c.args.at) c.peer_acked-1.given.0.0 c.peer_acked-1.given.0.1.0 = took _ _ u32 (number-lawful 4) ((let by : Bytes (c.args.row.now) = typed (c.args.row.now) c.shared_slice_known-1.given in by)) ((let peer-acked-read : read_at u32 (c.args.row.now) (c.args.at) ≡ takes c.peer_acked-1.given.0.0 c.peer_acked-1.given.0.1.0 = learn u32_says c.u32_at.ensures c.peer_acked-1.given.1 in peer-acked-read)) in peer-acked-took)))).so ((let peer-read-took : Took u32 (c.args.row.now) ((field-yes (start).so ((let peer-acked-took : Took u32 (c.args.row.now) (c.args.at) c.peer_acked-1.given.0.0 c.peer_acked-1.given.0.1.0 = took _ _ u32 (number-lawful 4) ((let by : Bytes (c.args.row.now) = typed (c.args.row.now) c.shared_slice_known-1.given in by)) ((let peer-acked-read : read_at u32 (c.args.row.now) (c.args.at) ≡ takes c.peer_acked-1.given.0.0 c.peer_acked-1.given.0.1.0 = learn u32_says c.u32_at.ensures c.peer_acked-1.given.1 in peer-acked-read)) in peer-acked-took)))).here c.peer_read-1.given.0.0 c.peer_read-1.given.0.1.0 = took _ _ u32 (number-lawful 4) ((let by : Bytes (c.args.row.now) = typed (c.args.row.now) c.shared_slice_known-1.given in by)) ((let peer-read-read : read_at u32 (c.args.row.now) ((field-yes (start).so ((let peer-acked-took : Took u32 (c.args.row.now) (c.args.at) c.peer_acked-1.given.0.0 c.peer_acked-1.given.0.1.0 = took _ _ u32 (number-lawful 4) ((let by : Bytes (c.args.row.now) = typed (c.args.row.now) c.shared_slice_known-1.given in by)) ((let peer-acked-read : read_at u32 (c.args.row.now) (c.args.at) ≡ takes c.peer_acked-1.given.0.0 c.peer_acked-1.given.0.1.0 = learn u32_says c.u32_at.ensures c.peer_acked-1.given.1 in peer-acked-read)) in peer-acked-took)))).here ≡ takes c.peer_read-1.given.0.0 c.peer_read-1.given.0.1.0 = learn u32_says c.u32_at-2.ensures c.peer_read-1.given.1 in peer-read-read)) in peer-read-took)))).here ≡ takes c.read_marked-1.given.0.0 c.read_marked-1.given.0.1.0 = learn u32_says c.u32_at-3.ensures c.read_marked-1.given.1 in read-marked-read)) in read-marked-took)))).here ≡ takes c.contiguous-1.given.0.0 c.contiguous-1.given.0.1.0 = learn u32_says c.u32_at-4.ensures c.contiguous-1.given.1 in contiguous-read)) in contiguous-took)))).here (list_in (group range) (c.args.row.now) c.above_field-1.given.0.0) c.above_field-1.given.0.0.next = list-took (group range) range-lawful (c.args.row.now) ((let by : Bytes (c.args.row.now) = typed (c.args.row.now) c.shared_slice_known-1.given in by)) _ c.ranges_at-above_field.ensures c.above_field-1.given.1 in above-took)))).here (list_in u32 (c.args.row.now) c.unacked_field-1.given.0.0) c.unacked_field-1.given.0.0.next = list-took u32 (number-lawful 4) (c.args.row.now) ((let by : Bytes (c.args.row.now) = typed (c.args.row.now) c.shared_slice_known-1.given in by)) _ c.numbers_at-unacked_field.ensures c.unacked_field-1.given.1 in unacked-took)))).so (refused-at _ _ (list (group range)) (learn (list_says (group range) (c.args.row.now)) c.ranges_at-expired_field.ensures.0 c.enum_told-in_default-expired_field-1.given.1)) in
-    rw (c.refusal-in_default-expired_field.ensures ∙ ap list_refusal c.enum_told-in_default-expired_field-1.given.1) ((sym (ap (numbers_found (c.args.at)) (refuses-at (c.args.row.now) (c.args.at) (group numbers) stop))))
+    let r0 : (Reached numbers c.args.row.now c.args.at) = start in
+    let by : Bytes c.args.row.now = typed c.args.row.now c.type_inv.row in
+    let peer-acked-read : read_at u32 c.args.row.now c.args.at ≡ takes c.in-Value.peer_acked c.in-Value.at1 = learn u32_says c.u32_at.ensures c.in-Value.is in
+    let peer-acked-took : Took u32 c.args.row.now c.args.at c.in-Value.peer_acked c.in-Value.at1 = took _ _ u32 (number-lawful 4) by peer-acked-read in
+    let r1 : (Reached numbers c.args.row.now c.args.at) = field-yes r0.so peer-acked-took in
+    let peer-read-read : read_at u32 c.args.row.now r1.here ≡ takes c.in-Value-u32_at.peer_read c.in-Value-u32_at.at2 = learn u32_says c.u32_at-2.ensures c.in-Value-u32_at.is in
+    let peer-read-took : Took u32 c.args.row.now r1.here c.in-Value-u32_at.peer_read c.in-Value-u32_at.at2 = took _ _ u32 (number-lawful 4) by peer-read-read in
+    let r2 : (Reached numbers c.args.row.now c.args.at) = field-yes r1.so peer-read-took in
+    let read-marked-read : read_at u32 c.args.row.now r2.here ≡ takes c.in-Value-u32_at-2.read_marked c.in-Value-u32_at-2.at3 = learn u32_says c.u32_at-3.ensures c.in-Value-u32_at-2.is in
+    let read-marked-took : Took u32 c.args.row.now r2.here c.in-Value-u32_at-2.read_marked c.in-Value-u32_at-2.at3 = took _ _ u32 (number-lawful 4) by read-marked-read in
+    let r3 : (Reached numbers c.args.row.now c.args.at) = field-yes r2.so read-marked-took in
+    let contiguous-read : read_at u32 c.args.row.now r3.here ≡ takes c.in-Value-u32_at-3.contiguous c.in-Value-u32_at-3.at4 = learn u32_says c.u32_at-4.ensures c.in-Value-u32_at-3.is in
+    let contiguous-took : Took u32 c.args.row.now r3.here c.in-Value-u32_at-3.contiguous c.in-Value-u32_at-3.at4 = took _ _ u32 (number-lawful 4) by contiguous-read in
+    let r4 : (Reached numbers c.args.row.now c.args.at) = field-yes r3.so contiguous-took in
+    let above-took : Took (list (group range)) c.args.row.now r4.here (list_in (group range) c.args.row.now c.in-Value-above_field.above) c.in-Value-above_field.above.next = list-took (group range) range-lawful c.args.row.now by _ c.ranges_at-above_field.ensures c.in-Value-above_field.is in
+    let r5 : (Reached numbers c.args.row.now c.args.at) = field-yes r4.so above-took in
+    let unacked-took : Took (list u32) c.args.row.now r5.here (list_in u32 c.args.row.now c.in-Value-unacked_field.unacked) c.in-Value-unacked_field.unacked.next = list-took u32 (number-lawful 4) c.args.row.now by _ c.numbers_at-unacked_field.ensures c.in-Value-unacked_field.is in
+    let r6 : (Reached numbers c.args.row.now c.args.at) = field-yes r5.so unacked-took in
+    let stop = field-no r6.so (refused-at _ _ (list (group range)) (learn (list_says (group range) c.args.row.now) c.ranges_at-expired_field.ensures.0 c.in_default-expired_field.is)) in
+    rw (c.refusal-in_default-expired_field.ensures ∙ ap list_refusal c.in_default-expired_field.is) ((sym (ap (numbers_found c.args.at) (refuses-at c.args.row.now c.args.at (group numbers) stop))))
 
 pub returns : goal.returns
 returns c =
+    let r0 : (Reached numbers c.args.row.now c.args.at) = start in
+    let by : Bytes c.args.row.now = typed c.args.row.now c.type_inv.row in
+    let peer-acked-read : read_at u32 c.args.row.now c.args.at ≡ takes c.in-Value.peer_acked c.in-Value.at1 = learn u32_says c.u32_at.ensures c.in-Value.is in
+    let peer-acked-took : Took u32 c.args.row.now c.args.at c.in-Value.peer_acked c.in-Value.at1 = took _ _ u32 (number-lawful 4) by peer-acked-read in
+    let r1 : (Reached numbers c.args.row.now c.args.at) = field-yes r0.so peer-acked-took in
+    let peer-read-read : read_at u32 c.args.row.now r1.here ≡ takes c.in-Value-u32_at.peer_read c.in-Value-u32_at.at2 = learn u32_says c.u32_at-2.ensures c.in-Value-u32_at.is in
+    let peer-read-took : Took u32 c.args.row.now r1.here c.in-Value-u32_at.peer_read c.in-Value-u32_at.at2 = took _ _ u32 (number-lawful 4) by peer-read-read in
+    let r2 : (Reached numbers c.args.row.now c.args.at) = field-yes r1.so peer-read-took in
+    let read-marked-read : read_at u32 c.args.row.now r2.here ≡ takes c.in-Value-u32_at-2.read_marked c.in-Value-u32_at-2.at3 = learn u32_says c.u32_at-3.ensures c.in-Value-u32_at-2.is in
+    let read-marked-took : Took u32 c.args.row.now r2.here c.in-Value-u32_at-2.read_marked c.in-Value-u32_at-2.at3 = took _ _ u32 (number-lawful 4) by read-marked-read in
+    let r3 : (Reached numbers c.args.row.now c.args.at) = field-yes r2.so read-marked-took in
+    let contiguous-read : read_at u32 c.args.row.now r3.here ≡ takes c.in-Value-u32_at-3.contiguous c.in-Value-u32_at-3.at4 = learn u32_says c.u32_at-4.ensures c.in-Value-u32_at-3.is in
+    let contiguous-took : Took u32 c.args.row.now r3.here c.in-Value-u32_at-3.contiguous c.in-Value-u32_at-3.at4 = took _ _ u32 (number-lawful 4) by contiguous-read in
+    let r4 : (Reached numbers c.args.row.now c.args.at) = field-yes r3.so contiguous-took in
+    let above-took : Took (list (group range)) c.args.row.now r4.here (list_in (group range) c.args.row.now c.in-Value-above_field.above) c.in-Value-above_field.above.next = list-took (group range) range-lawful c.args.row.now by _ c.ranges_at-above_field.ensures c.in-Value-above_field.is in
+    let r5 : (Reached numbers c.args.row.now c.args.at) = field-yes r4.so above-took in
+    let unacked-took : Took (list u32) c.args.row.now r5.here (list_in u32 c.args.row.now c.in-Value-unacked_field.unacked) c.in-Value-unacked_field.unacked.next = list-took u32 (number-lawful 4) c.args.row.now by _ c.numbers_at-unacked_field.ensures c.in-Value-unacked_field.is in
+    let r6 : (Reached numbers c.args.row.now c.args.at) = field-yes r5.so unacked-took in
+    let expired-took : Took (list (group range)) c.args.row.now r6.here (list_in (group range) c.args.row.now c.in-Value-expired_field.expired) c.in-Value-expired_field.expired.next = list-took (group range) range-lawful c.args.row.now by _ c.ranges_at-expired_field.ensures c.in-Value-expired_field.is in
+    let r7 : (Reached numbers c.args.row.now c.args.at) = field-yes r6.so expired-took in
+    let above-starts : c.in-Value-above_field.above ≡ list_at (group range) r4.here (list_in (group range) c.args.row.now c.in-Value-above_field.above) = list-starts (group range) range-lawful c.args.row.now by _ c.ranges_at-above_field.ensures c.in-Value-above_field.is contiguous-took.inside in
+    let peer-acked-next : c.in-Value.at1 ≡ c.args.at + length (u32.print c.in-Value.peer_acked) = took-next _ _ u32 (number-lawful 4) by peer-acked-read (not-past _ _ u32 refl peer-acked-read) in
+    let peer-read-next : c.in-Value-u32_at.at2 ≡ r1.here + length (u32.print c.in-Value-u32_at.peer_read) = took-next _ _ u32 (number-lawful 4) by peer-read-read peer-acked-took.inside in
+    let read-marked-next : c.in-Value-u32_at-2.at3 ≡ r2.here + length (u32.print c.in-Value-u32_at-2.read_marked) = took-next _ _ u32 (number-lawful 4) by read-marked-read peer-read-took.inside in
+    let contiguous-next : c.in-Value-u32_at-3.at4 ≡ r3.here + length (u32.print c.in-Value-u32_at-3.contiguous) = took-next _ _ u32 (number-lawful 4) by contiguous-read read-marked-took.inside in
+    let unacked-starts : c.in-Value-unacked_field.unacked ≡ list_at u32 r5.here (list_in u32 c.args.row.now c.in-Value-unacked_field.unacked) = list-starts u32 (number-lawful 4) c.args.row.now by _ c.numbers_at-unacked_field.ensures c.in-Value-unacked_field.is above-took.inside in
+    let above-next : c.in-Value-above_field.above.next ≡ r4.here + length ((list (group range)).print (list_in (group range) c.args.row.now c.in-Value-above_field.above)) = list-next (group range) range-lawful c.args.row.now by _ c.ranges_at-above_field.ensures c.in-Value-above_field.is contiguous-took.inside in
+    let expired-starts : c.in-Value-expired_field.expired ≡ list_at (group range) r6.here (list_in (group range) c.args.row.now c.in-Value-expired_field.expired) = list-starts (group range) range-lawful c.args.row.now by _ c.ranges_at-expired_field.ensures c.in-Value-expired_field.is unacked-took.inside in
+    let unacked-next : c.in-Value-unacked_field.unacked.next ≡ r5.here + length ((list u32).print (list_in u32 c.args.row.now c.in-Value-unacked_field.unacked)) = list-next u32 (number-lawful 4) c.args.row.now by _ c.numbers_at-unacked_field.ensures c.in-Value-unacked_field.is above-took.inside in
     let its : Numbers = record {
-      peer_acked = c.peer_acked-1.given.0.0;
-      peer_read = c.peer_read-1.given.0.0;
-      read_marked = c.read_marked-1.given.0.0;
-      contiguous = c.contiguous-1.given.0.0;
-      above = list_in (group range) (c.args.row.now) c.above_field-1.given.0.0;
-      unacked = list_in u32 (c.args.row.now) c.unacked_field-1.given.0.0;
-      expired = list_in (group range) (c.args.row.now) c.expired_field-1.given.0.0;
+      peer_acked = c.in-Value.peer_acked;
+      peer_read = c.in-Value-u32_at.peer_read;
+      read_marked = c.in-Value-u32_at-2.read_marked;
+      contiguous = c.in-Value-u32_at-3.contiguous;
+      above = list_in (group range) c.args.row.now c.in-Value-above_field.above;
+      unacked = list_in u32 c.args.row.now c.in-Value-unacked_field.unacked;
+      expired = list_in (group range) c.args.row.now c.in-Value-expired_field.expired;
     } in
-    (next} all inside is = ap (λ (place : NumbersAt). Value place next) is ∙ sym (ap (numbers_found (c.args.at)) (takes_at (c.args.row.now) (c.args.at) (group numbers) all inside))) (done-yes ((field-yes ((field-yes ((field-yes ((field-yes ((field-yes ((field-yes ((field-yes (start).so ((let peer-acked-took : Took u32 (c.args.row.now) (c.args.at) c.peer_acked-1.given.0.0 c.peer_acked-1.given.0.1.0 = took _ _ u32 (number-lawful 4) ((let by : Bytes (c.args.row.now) = typed (c.args.row.now) c.shared_slice_known-1.given in by)) ((let peer-acked-read : read_at u32 (c.args.row.now) (c.args.at) ≡ takes c.peer_acked-1.given.0.0 c.peer_acked-1.given.0.1.0 = learn u32_says c.u32_at.ensures c.peer_acked-1.given.1 in peer-acked-read)) in peer-acked-took)))).so ((let peer-read-took : Took u32 (c.args.row.now) ((field-yes (start).so ((let peer-acked-took : Took u32 (c.args.row.now) (c.args.at) c.peer_acked-1.given.0.0 c.peer_acked-1.given.0.1.0 = took _ _ u32 (number-lawful 4) ((let by : Bytes (c.args.row.now) = typed (c.args.row.now) c.shared_slice_known-1.given in by)) ((let peer-acked-read : read_at u32 (c.args.row.now) (c.args.at) ≡ takes c.peer_acked-1.given.0.0 c.peer_acked-1.given.0.1.0 = learn u32_says c.u32_at.ensures c.peer_acked-1.given.1 in peer-acked-read)) in peer-acked-took)))).here c.peer_read-1.given.0.0 c.peer_read-1.given.0.1.0 = took _ _ u32 (number-lawful 4) ((let by : Bytes (c.args.row.now) = typed (c.args.row.now) c.shared_slice_known-1.given in by)) ((let peer-read-read : read_at u32 (c.args.row.now) ((field-yes (start).so ((let peer-acked-took : Took u32 (c.args.row.now) (c.args.at) c.peer_acked-1.given.0.0 c.peer_acked-1.given.0.1.0 = took _ _ u32 (number-lawful 4) ((let by : Bytes (c.args.row.now) = typed (c.args.row.now) c.shared_slice_known-1.given in by)) ((let peer-acked-read : read_at u32 (c.args.row.now) (c.args.at) ≡ takes c.peer_acked-1.given.0.0 c.peer_acked-1.given.0.1.0 = learn u32_says c.u32_at.ensures c.peer_acked-1.given.1 in peer-acked-read)) in peer-acked-took)))).here ≡ takes c.peer_read-1.given.0.0 c.peer_read-1.given.0.1.0 = learn u32_says c.u32_at-2.ensures c.peer_read-1.given.1 in peer-read-read)) in peer-read-took)))).so ((let read-marked-took : Took u32 (c.args.row.now) ((field-yes ((field-yes (start).so ((let peer-acked-took : Took u32 (c.args.row.now) (c.args.at) c.peer_acked-1.given.0.0 c.peer_acked-1.given.0.1.0 = took _ _ u32 (number-lawful 4) ((let by : Bytes (c.args.row.now) = typed (c.args.row.now) c.shared_slice_known-1.given in by)) ((let peer-acked-read : read_at u32 (c.args.row.now) (c.args.at) ≡ takes c.peer_acked-1.given.0.0 c.peer_acked-1.given.0.1.0 = learn u32_says c.u32_at.ensures c.peer_acked-1.given.1 in peer-acked-read)) in peer-acked-took)))).so ((let peer-read-took : Took u32 (c.args.row.now) ((field-yes (start).so ((let peer-acked-took : Took u32 (c.args.row.now) (c.args.at) c.peer_acked-1.given.0.0 c.peer_acked-1.given.0.1.0 = took _ _ u32 (number-lawful 4) ((let by : Bytes (c.args.row.now) = typed (c.args.row.now) c.shared_slice_known-1.given in by)) ((let peer-acked-read : read_at u32 (c.args.row.now) (c.args.at) ≡ takes c.peer_acked-1.given.0.0 c.peer_acked-1.given.0.1.0 = learn u32_says c.u32_at.ensures c.peer_acked-1.given.1 in peer-acked-read)) in peer-acked-took)))).here c.peer_read-1.given.0.0 c.peer_read-1.given.0.1.0 = took _ _ u32 (number-lawful 4) ((let by : Bytes (c.args.row.now) = typed (c.args.row.now) c.shared_slice_known-1.given in by)) ((let peer-read-read : read_at u32 (c.args.row.now) ((field-yes (start).so ((let peer-acked-took : Took u32 (c.args.row.now) (c.args.at) c.peer_acked-1.given.0.0 c.peer_acked-1.given.0.1.0 = took _ _ u32 (number-lawful 4) ((let by : Bytes (c.args.row.now) = typed (c.args.row.now) c.shared_slice_known-1.given in by)) ((let peer-acked-read : read_at u32 (c.args.row.now) (c.args.at) ≡ takes c.peer_acked-1.given.0.0 c.peer_acked-1.given.0.1.0 = learn u32_says c.u32_at.ensures c.peer_acked-1.given.1 in peer-acked-read)) in peer-acked-took)))).here ≡ takes c.peer_read-1.given.0.0 c.peer_read-1.given.0.1.0 = learn u32_says c.u32_at-2.ensures c.peer_read-1.given.1 in peer-read-read)) in peer-read-took)))).here c.read_marked-1.given.0.0 c.read_marked-1.given.0.1.0 = took _ _ u32 (number-lawful 4) ((let by : Bytes (c.args.row.now) = typed (c.args.row.now) c.shared_slice_known-1.given in by)) ((let read-marked-read : read_at u32 (c.args.row.now) ((field-yes ((field-yes (start).so ((let peer-acked-took : Took u32 (c.args.row.now) (c.args.at) c.peer_acked-1.given.0.0 c.peer_acked-1.given.0.1.0 = took _ _ u32 (number-lawful 4) ((let by : Bytes (c.args.row.now) = typed (c.args.row.now) c.shared_slice_known-1.given in by)) ((let peer-acked-read : read_at u32 (c.args.row.now) (c.args.at) ≡ takes c.peer_acked-1.given.0.0 c.peer_acked-1.given.0.1.0 = learn u32_says c.u32_at.ensures c.peer_acked-1.given.1 in peer-acked-read)) in peer-acked-took)))).so ((let peer-read-took : Took u32 (c.args.row.now) ((field-yes (start).so ((let peer-acked-took : Took u32 (c.args.row.now) (c.args.at) c.peer_acked-1.given.0.0 c.peer_acked-1.given.0.1.0 = took _ _ u32 (number-lawful 4) ((let by : Bytes (c.args.row.now) = typed (c.args.row.now) c.shared_slice_known-1.given in by)) ((let peer-acked-read : read_at u32 (c.args.row.now) (c.args.at) ≡ takes c.peer_acked-1.given.0.0 c.peer_acked-1.given.0.1.0 = learn u32_says c.u32_at.ensures c.peer_acked-1.given.1 in peer-acked-read)) in peer-acked-took)))).here c.peer_read-1.given.0.0 c.peer_read-1.given.0.1.0 = took _ _ u32 (number-lawful 4) ((let by : Bytes (c.args.row.now) = typed (c.args.row.now) c.shared_slice_known-1.given in by)) ((let peer-read-read : read_at u32 (c.args.row.now) ((field-yes (start).so ((let peer-acked-took : Took u32 (c.args.row.now) (c.args.at) c.peer_acked-1.given.0.0 c.peer_acked-1.given.0.1.0 = took _ _ u32 (number-lawful 4) ((let by : Bytes (c.args.row.now) = typed (c.args.row.now) c.shared_slice_known-1.given in by)) ((let peer-acked-read : read_at u32 (c.args.row.now) (c.args.at) ≡ takes c.peer_acked-1.given.0.0 c.peer_acked-1.given.0.1.0 = learn u32_says c.u32_at.ensures c.peer_acked-1.given.1 in peer-acked-read)) in peer-acked-took)))).here ≡ takes c.peer_read-1.given.0.0 c.peer_read-1.given.0.1.0 = learn u32_says c.u32_at-2.ensures c.peer_read-1.given.1 in peer-read-read)) in peer-read-took)))).here ≡ takes c.read_marked-1.given.0.0 c.read_marked-1.given.0.1.0 = learn u32_says c.u32_at-3.ensures c.read_marked-1.given.1 in read-marked-read)) in read-marked-took)))).so ((let contiguous-took : Took u32 (c.args.row.now) ((field-yes ((field-yes ((field-yes (start).so ((let peer-acked-took : Took u32 (c.args.row.now) (c.args.at) c.peer_acked-1.given.0.0 c.peer_acked-1.given.0.1.0 = took _ _ u32 (number-lawful 4) ((let by : Bytes (c.args.row.now) = typed (c.args.row.now) c.shared_slice_known-1.given in by)) ((let peer-acked-read : read_at u32 (c.args.row.now) (c.args.at) ≡ takes c.peer_acked-1.given.0.0 c.peer_acked-1.given.0.1.0 = learn u32_says c.u32_at.ensures c.peer_acked-1.given.1 in peer-acked-read)) in peer-acked-took)))).so ((let peer-read-took : Took u32 (c.args.row.now) ((field-yes (start).so ((let peer-acked-took : Took u32 (c.args.row.now) (c.args.at) c.peer_acked-1.given.0.0 c.peer_acked-1.given.0.1.0 = took _ _ u32 (number-lawful 4) ((let by : Bytes (c.args.row.now) = typed (c.args.row.now) c.shared_slice_known-1.given in by)) ((let peer-acked-read : read_at u32 (c.args.row.now) (c.args.at) ≡ takes c.peer_acked-1.given.0.0 c.peer_acked-1.given.0.1.0 = learn u32_says c.u32_at.ensures c.peer_acked-1.given.1 in peer-acked-read)) in peer-acked-took)))).here c.peer_read-1.given.0.0 c.peer_read-1.given.0.1.0 = took _ _ u32 (number-lawful 4) ((let by : Bytes (c.args.row.now) = typed (c.args.row.now) c.shared_slice_known-1.given in by)) ((let peer-read-read : read_at u32 (c.args.row.now) ((field-yes (start).so ((let peer-acked-took : Took u32 (c.args.row.now) (c.args.at) c.peer_acked-1.given.0.0 c.peer_acked-1.given.0.1.0 = took _ _ u32 (number-lawful 4) ((let by : Bytes (c.args.row.now) = typed (c.args.row.now) c.shared_slice_known-1.given in by)) ((let peer-acked-read : read_at u32 (c.args.row.now) (c.args.at) ≡ takes c.peer_acked-1.given.0.0 c.peer_acked-1.given.0.1.0 = learn u32_says c.u32_at.ensures c.peer_acked-1.given.1 in peer-acked-read)) in peer-acked-took)))).here ≡ takes c.peer_read-1.given.0.0 c.peer_read-1.given.0.1.0 = learn u32_says c.u32_at-2.ensures c.peer_read-1.given.1 in peer-read-read)) in peer-read-took)))).so ((let read-marked-took : Took u32 (c.args.row.now) ((field-yes ((field-yes (start).so ((let peer-acked-took : Took u32 (c.args.row.now) (c.args.at) c.peer_acked-1.given.0.0 c.peer_acked-1.given.0.1.0 = took _ _ u32 (number-lawful 4) ((let by : Bytes (c.args.row.now) = typed (c.args.row.now) c.shared_slice_known-1.given in by)) ((let peer-acked-read : read_at u32 (c.args.row.now) (c.args.at) ≡ takes c.peer_acked-1.given.0.0 c.peer_acked-1.given.0.1.0 = learn u32_says c.u32_at.ensures c.peer_acked-1.given.1 in peer-acked-read)) in peer-acked-took)))).so ((let peer-read-took : Took u32 (c.args.row.now) ((field-yes (start).so ((let peer-acked-took : Took u32 (c.args.row.now) (c.args.at) c.peer_acked-1.given.0.0 c.peer_acked-1.given.0.1.0 = took _ _ u32 (number-lawful 4) ((let by : Bytes (c.args.row.now) = typed (c.args.row.now) c.shared_slice_known-1.given in by)) ((let peer-acked-read : read_at u32 (c.args.row.now) (c.args.at) ≡ takes c.peer_acked-1.given.0.0 c.peer_acked-1.given.0.1.0 = learn u32_says c.u32_at.ensures c.peer_acked-1.given.1 in peer-acked-read)) in peer-acked-took)))).here c.peer_read-1.given.0.0 c.peer_read-1.given.0.1.0 = took _ _ u32 (number-lawful 4) ((let by : Bytes (c.args.row.now) = typed (c.args.row.now) c.shared_slice_known-1.given in by)) ((let peer-read-read : read_at u32 (c.args.row.now) ((field-yes (start).so ((let peer-acked-took : Took u32 (c.args.row.now) (c.args.at) c.peer_acked-1.given.0.0 c.peer_acked-1.given.0.1.0 = took _ _ u32 (number-lawful 4) ((let by : Bytes (c.args.row.now) = typed (c.args.row.now) c.shared_slice_known-1.given in by)) ((let peer-acked-read : read_at u32 (c.args.row.now) (c.args.at) ≡ takes c.peer_acked-1.given.0.0 c.peer_acked-1.given.0.1.0 = learn u32_says c.u32_at.ensures c.peer_acked-1.given.1 in peer-acked-read)) in peer-acked-took)))).here ≡ takes c.peer_read-1.given.0.0 c.peer_read-1.given.0.1.0 = learn u32_says c.u32_at-2.ensures c.peer_read-1.given.1 in peer-read-read)) in peer-read-took)))).here c.read_marked-1.given.0.0 c.read_marked-1.given.0.1.0 = took _ _ u32 (number-lawful 4) ((let by : Bytes (c.args.row.now) = typed (c.args.row.now) c.shared_slice_known-1.given in by)) ((let read-marked-read : read_at u32 (c.args.row.now) ((field-yes ((field-yes (start).so ((let peer-acked-took : Took u32 (c.args.row.now) (c.args.at) c.peer_acked-1.given.0.0 c.peer_acked-1.given.0.1.0 = took _ _ u32 (number-lawful 4) ((let by : Bytes (c.args.row.now) = typed (c.args.row.now) c.shared_slice_known-1.given in by)) ((let peer-acked-read : read_at u32 (c.args.row.now) (c.args.at) ≡ takes c.peer_acked-1.given.0.0 c.peer_acked-1.given.0.1.0 = learn u32_says c.u32_at.ensures c.peer_acked-1.given.1 in peer-acked-read)) in peer-acked-took)))).so ((let peer-read-took : Took u32 (c.args.row.now) ((field-yes (start).so ((let peer-acked-took : Took u32 (c.args.row.now) (c.args.at) c.peer_acked-1.given.0.0 c.peer_acked-1.given.0.1.0 = took _ _ u32 (number-lawful 4) ((let by : Bytes (c.args.row.now) = typed (c.args.row.now) c.shared_slice_known-1.given in by)) ((let peer-acked-read : read_at u32 (c.args.row.now) (c.args.at) ≡ takes c.peer_acked-1.given.0.0 c.peer_acked-1.given.0.1.0 = learn u32_says c.u32_at.ensures c.peer_acked-1.given.1 in peer-acked-read)) in peer-acked-took)))).here c.peer_read-1.given.0.0 c.peer_read-1.given.0.1.0 = took _ _ u32 (number-lawful 4) ((let by : Bytes (c.args.row.now) = typed (c.args.row.now) c.shared_slice_known-1.given in by)) ((let peer-read-read : read_at u32 (c.args.row.now) ((field-yes (start).so ((let peer-acked-took : Took u32 (c.args.row.now) (c.args.at) c.peer_acked-1.given.0.0 c.peer_acked-1.given.0.1.0 = took _ _ u32 (number-lawful 4) ((let by : Bytes (c.args.row.now) = typed (c.args.row.now) c.shared_slice_known-1.given in by)) ((let peer-acked-read : read_at u32 (c.args.row.now) (c.args.at) ≡ takes c.peer_acked-1.given.0.0 c.peer_acked-1.given.0.1.0 = learn u32_says c.u32_at.ensures c.peer_acked-1.given.1 in peer-acked-read)) in peer-acked-took)))).here ≡ takes c.peer_read-1.given.0.0 c.peer_read-1.given.0.1.0 = learn u32_says c.u32_at-2.ensures c.peer_read-1.given.1 in peer-read-read)) in peer-read-took)))).here ≡ takes c.read_marked-1.given.0.0 c.read_marked-1.given.0.1.0 = learn u32_says c.u32_at-3.ensures c.read_marked-1.given.1 in read-marked-read)) in read-marked-took)))).here c.contiguous-1.given.0.0 c.contiguous-1.given.0.1.0 = took _ _ u32 (number-lawful 4) ((let by : Bytes (c.args.row.now) = typed (c.args.row.now) c.shared_slice_known-1.given in by)) ((let contiguous-read : read_at u32 (c.args.row.now) ((field-yes ((field-yes ((field-yes (start).so ((let peer-acked-took : Took u32 (c.args.row.now) (c.args.at) c.peer_acked-1.given.0.0 c.peer_acked-1.given.0.1.0 = took _ _ u32 (number-lawful 4) ((let by : Bytes (c.args.row.now) = typed (c.args.row.now) c.shared_slice_known-1.given in by)) ((let peer-acked-read : read_at u32 (c.args.row.now) (c.args.at) ≡ takes c.peer_acked-1.given.0.0 c.peer_acked-1.given.0.1.0 = learn u32_says c.u32_at.ensures c.peer_acked-1.given.1 in peer-acked-read)) in peer-acked-took)))).so ((let peer-read-took : Took u32 (c.args.row.now) ((field-yes (start).so ((let peer-acked-took : Took u32 (c.args.row.now) (c.args.at) c.peer_acked-1.given.0.0 c.peer_acked-1.given.0.1.0 = took _ _ u32 (number-lawful 4) ((let by : Bytes (c.args.row.now) = typed (c.args.row.now) c.shared_slice_known-1.given in by)) ((let peer-acked-read : read_at u32 (c.args.row.now) (c.args.at) ≡ takes c.peer_acked-1.given.0.0 c.peer_acked-1.given.0.1.0 = learn u32_says c.u32_at.ensures c.peer_acked-1.given.1 in peer-acked-read)) in peer-acked-took)))).here c.peer_read-1.given.0.0 c.peer_read-1.given.0.1.0 = took _ _ u32 (number-lawful 4) ((let by : Bytes (c.args.row.now) = typed (c.args.row.now) c.shared_slice_known-1.given in by)) ((let peer-read-read : read_at u32 (c.args.row.now) ((field-yes (start).so ((let peer-acked-took : Took u32 (c.args.row.now) (c.args.at) c.peer_acked-1.given.0.0 c.peer_acked-1.given.0.1.0 = took _ _ u32 (number-lawful 4) ((let by : Bytes (c.args.row.now) = typed (c.args.row.now) c.shared_slice_known-1.given in by)) ((let peer-acked-read : read_at u32 (c.args.row.now) (c.args.at) ≡ takes c.peer_acked-1.given.0.0 c.peer_acked-1.given.0.1.0 = learn u32_says c.u32_at.ensures c.peer_acked-1.given.1 in peer-acked-read)) in peer-acked-took)))).here ≡ takes c.peer_read-1.given.0.0 c.peer_read-1.given.0.1.0 = learn u32_says c.u32_at-2.ensures c.peer_read-1.given.1 in peer-read-read)) in peer-read-took)))).so ((let read-marked-took : Took u32 (c.args.row.now) ((field-yes ((field-yes (start).so ((let peer-acked-took : Took u32 (c.args.row.now) (c.args.at) c.peer_acked-1.given.0.0 c.peer_acked-1.given.0.1.0 = took _ _ u32 (number-lawful 4) ((let by : Bytes (c.args.row.now) = typed (c.args.row.now) c.shared_slice_known-1.given in by)) ((let peer-acked-read : read_at u32 (c.args.row.now) (c.args.at) ≡ takes c.peer_acked-1.given.0.0 c.peer_acked-1.given.0.1.0 = learn u32_says c.u32_at.ensures c.peer_acked-1.given.1 in peer-acked-read)) in peer-acked-took)))).so ((let peer-read-took : Took u32 (c.args.row.now) ((field-yes (start).so ((let peer-acked-took : Took u32 (c.args.row.now) (c.args.at) c.peer_acked-1.given.0.0 c.peer_acked-1.given.0.1.0 = took _ _ u32 (number-lawful 4) ((let by : Bytes (c.args.row.now) = typed (c.args.row.now) c.shared_slice_known-1.given in by)) ((let peer-acked-read : read_at u32 (c.args.row.now) (c.args.at) ≡ takes c.peer_acked-1.given.0.0 c.peer_acked-1.given.0.1.0 = learn u32_says c.u32_at.ensures c.peer_acked-1.given.1 in peer-acked-read)) in peer-acked-took)))).here c.peer_read-1.given.0.0 c.peer_read-1.given.0.1.0 = took _ _ u32 (number-lawful 4) ((let by : Bytes (c.args.row.now) = typed (c.args.row.now) c.shared_slice_known-1.given in by)) ((let peer-read-read : read_at u32 (c.args.row.now) ((field-yes (start).so ((let peer-acked-took : Took u32 (c.args.row.now) (c.args.at) c.peer_acked-1.given.0.0 c.peer_acked-1.given.0.1.0 = took _ _ u32 (number-lawful 4) ((let by : Bytes (c.args.row.now) = typed (c.args.row.now) c.shared_slice_known-1.given in by)) ((let peer-acked-read : read_at u32 (c.args.row.now) (c.args.at) ≡ takes c.peer_acked-1.given.0.0 c.peer_acked-1.given.0.1.0 = learn u32_says c.u32_at.ensures c.peer_acked-1.given.1 in peer-acked-read)) in peer-acked-took)))).here ≡ takes c.peer_read-1.given.0.0 c.peer_read-1.given.0.1.0 = learn u32_says c.u32_at-2.ensures c.peer_read-1.given.1 in peer-read-read)) in peer-read-took)))).here c.read_marked-1.given.0.0 c.read_marked-1.given.0.1.0 = took _ _ u32 (number-lawful 4) ((let by : Bytes (c.args.row.now) = typed (c.args.row.now) c.shared_slice_known-1.given in by)) ((let read-marked-read : read_at u32 (c.args.row.now) ((field-yes ((field-yes (start).so ((let peer-acked-took : Took u32 (c.args.row.now) (c.args.at) c.peer_acked-1.given.0.0 c.peer_acked-1.given.0.1.0 = took _ _ u32 (number-lawful 4) ((let by : Bytes (c.args.row.now) = typed (c.args.row.now) c.shared_slice_known-1.given in by)) ((let peer-acked-read : read_at u32 (c.args.row.now) (c.args.at) ≡ takes c.peer_acked-1.given.0.0 c.peer_acked-1.given.0.1.0 = learn u32_says c.u32_at.ensures c.peer_acked-1.given.1 in peer-acked-read)) in peer-acked-took)))).so ((let peer-read-took : Took u32 (c.args.row.now) ((field-yes (start).so ((let peer-acked-took : Took u32 (c.args.row.now) (c.args.at) c.peer_acked-1.given.0.0 c.peer_acked-1.given.0.1.0 = took _ _ u32 (number-lawful 4) ((let by : Bytes (c.args.row.now) = typed (c.args.row.now) c.shared_slice_known-1.given in by)) ((let peer-acked-read : read_at u32 (c.args.row.now) (c.args.at) ≡ takes c.peer_acked-1.given.0.0 c.peer_acked-1.given.0.1.0 = learn u32_says c.u32_at.ensures c.peer_acked-1.given.1 in peer-acked-read)) in peer-acked-took)))).here c.peer_read-1.given.0.0 c.peer_read-1.given.0.1.0 = took _ _ u32 (number-lawful 4) ((let by : Bytes (c.args.row.now) = typed (c.args.row.now) c.shared_slice_known-1.given in by)) ((let peer-read-read : read_at u32 (c.args.row.now) ((field-yes (start).so ((let peer-acked-took : Took u32 (c.args.row.now) (c.args.at) c.peer_acked-1.given.0.0 c.peer_acked-1.given.0.1.0 = took _ _ u32 (number-lawful 4) ((let by : Bytes (c.args.row.now) = typed (c.args.row.now) c.shared_slice_known-1.given in by)) ((let peer-acked-read : read_at u32 (c.args.row.now) (c.args.at) ≡ takes c.peer_acked-1.given.0.0 c.peer_acked-1.given.0.1.0 = learn u32_says c.u32_at.ensures c.peer_acked-1.given.1 in peer-acked-read)) in peer-acked-took)))).here ≡ takes c.peer_read-1.given.0.0 c.peer_read-1.given.0.1.0 = learn u32_says c.u32_at-2.ensures c.peer_read-1.given.1 in peer-read-read)) in peer-read-took)))).here ≡ takes c.read_marked-1.given.0.0 c.read_marked-1.given.0.1.0 = learn u32_says c.u32_at-3.ensures c.read_marked-1.given.1 in read-marked-read)) in read-marked-took)))).here ≡ takes c.contiguous-1.given.0.0 c.contiguous-1.given.0.1.0 = learn u32_says c.u32_at-4.ensures c.contiguous-1.given.1 in contiguous-read)) in contiguous-took)))).so ((let above-took : Took (list (group range)) (c.args.row.now) ((field-yes ((field-yes ((field-yes ((field-yes (start).so ((let peer-acked-took : Took u32 (c.args.row.now) (c.args.at) c.peer_acked-1.given.0.0 c.peer_acked-1.given.0.1.0 = took _ _ u32 (number-lawful 4) ((let by : Bytes (c.args.row.now) = typed (c.args.row.now) c.shared_slice_known-1.given in by)) ((let peer-acked-read : read_at u32 (c.args.row.now) (c.args.at) ≡ takes c.peer_acked-1.given.0.0 c.peer_acked-1.given.0.1.0 = learn u32_says c.u32_at.ensures c.peer_acked-1.given.1 in peer-acked-read)) in peer-acked-took)))).so ((let peer-read-took : Took u32 (c.args.row.now) ((field-yes (start).so ((let peer-acked-took : Took u32 (c.args.row.now) (c.args.at) c.peer_acked-1.given.0.0 c.peer_acked-1.given.0.1.0 = took _ _ u32 (number-lawful 4) ((let by : Bytes (c.args.row.now) = typed (c.args.row.now) c.shared_slice_known-1.given in by)) ((let peer-acked-read : read_at u32 (c.args.row.now) (c.args.at) ≡ takes c.peer_acked-1.given.0.0 c.peer_acked-1.given.0.1.0 = learn u32_says c.u32_at.ensures c.peer_acked-1.given.1 in peer-acked-read)) in peer-acked-took)))).here c.peer_read-1.given.0.0 c.peer_read-1.given.0.1.0 = took _ _ u32 (number-lawful 4) ((let by : Bytes (c.args.row.now) = typed (c.args.row.now) c.shared_slice_known-1.given in by)) ((let peer-read-read : read_at u32 (c.args.row.now) ((field-yes (start).so ((let peer-acked-took : Took u32 (c.args.row.now) (c.args.at) c.peer_acked-1.given.0.0 c.peer_acked-1.given.0.1.0 = took _ _ u32 (number-lawful 4) ((let by : Bytes (c.args.row.now) = typed (c.args.row.now) c.shared_slice_known-1.given in by)) ((let peer-acked-read : read_at u32 (c.args.row.now) (c.args.at) ≡ takes c.peer_acked-1.given.0.0 c.peer_acked-1.given.0.1.0 = learn u32_says c.u32_at.ensures c.peer_acked-1.given.1 in peer-acked-read)) in peer-acked-took)))).here ≡ takes c.peer_read-1.given.0.0 c.peer_read-1.given.0.1.0 = learn u32_says c.u32_at-2.ensures c.peer_read-1.given.1 in peer-read-read)) in peer-read-took)))).so ((let read-marked-took : Took u32 (c.args.row.now) ((field-yes ((field-yes (start).so ((let peer-acked-took : Took u32 (c.args.row.now) (c.args.at) c.peer_acked-1.given.0.0 c.peer_acked-1.given.0.1.0 = took _ _ u32 (number-lawful 4) ((let by : Bytes (c.args.row.now) = typed (c.args.row.now) c.shared_slice_known-1.given in by)) ((let peer-acked-read : read_at u32 (c.args.row.now) (c.args.at) ≡ takes c.peer_acked-1.given.0.0 c.peer_acked-1.given.0.1.0 = learn u32_says c.u32_at.ensures c.peer_acked-1.given.1 in peer-acked-read)) in peer-acked-took)))).so ((let peer-read-took : Took u32 (c.args.row.now) ((field-yes (start).so ((let peer-acked-took : Took u32 (c.args.row.now) (c.args.at) c.peer_acked-1.given.0.0 c.peer_acked-1.given.0.1.0 = took _ _ u32 (number-lawful 4) ((let by : Bytes (c.args.row.now) = typed (c.args.row.now) c.shared_slice_known-1.given in by)) ((let peer-acked-read : read_at u32 (c.args.row.now) (c.args.at) ≡ takes c.peer_acked-1.given.0.0 c.peer_acked-1.given.0.1.0 = learn u32_says c.u32_at.ensures c.peer_acked-1.given.1 in peer-acked-read)) in peer-acked-took)))).here c.peer_read-1.given.0.0 c.peer_read-1.given.0.1.0 = took _ _ u32 (number-lawful 4) ((let by : Bytes (c.args.row.now) = typed (c.args.row.now) c.shared_slice_known-1.given in by)) ((let peer-read-read : read_at u32 (c.args.row.now) ((field-yes (start).so ((let peer-acked-took : Took u32 (c.args.row.now) (c.args.at) c.peer_acked-1.given.0.0 c.peer_acked-1.given.0.1.0 = took _ _ u32 (number-lawful 4) ((let by : Bytes (c.args.row.now) = typed (c.args.row.now) c.shared_slice_known-1.given in by)) ((let peer-acked-read : read_at u32 (c.args.row.now) (c.args.at) ≡ takes c.peer_acked-1.given.0.0 c.peer_acked-1.given.0.1.0 = learn u32_says c.u32_at.ensures c.peer_acked-1.given.1 in peer-acked-read)) in peer-acked-took)))).here ≡ takes c.peer_read-1.given.0.0 c.peer_read-1.given.0.1.0 = learn u32_says c.u32_at-2.ensures c.peer_read-1.given.1 in peer-read-read)) in peer-read-took)))).here c.read_marked-1.given.0.0 c.read_marked-1.given.0.1.0 = took _ _ u32 (number-lawful 4) ((let by : Bytes (c.args.row.now) = typed (c.args.row.now) c.shared_slice_known-1.given in by)) ((let read-marked-read : read_at u32 (c.args.row.now) ((field-yes ((field-yes (start).so ((let peer-acked-took : Took u32 (c.args.row.now) (c.args.at) c.peer_acked-1.given.0.0 c.peer_acked-1.given.0.1.0 = took _ _ u32 (number-lawful 4) ((let by : Bytes (c.args.row.now) = typed (c.args.row.now) c.shared_slice_known-1.given in by)) ((let peer-acked-read : read_at u32 (c.args.row.now) (c.args.at) ≡ takes c.peer_acked-1.given.0.0 c.peer_acked-1.given.0.1.0 = learn u32_says c.u32_at.ensures c.peer_acked-1.given.1 in peer-acked-read)) in peer-acked-took)))).so ((let peer-read-took : Took u32 (c.args.row.now) ((field-yes (start).so ((let peer-acked-took : Took u32 (c.args.row.now) (c.args.at) c.peer_acked-1.given.0.0 c.peer_acked-1.given.0.1.0 = took _ _ u32 (number-lawful 4) ((let by : Bytes (c.args.row.now) = typed (c.args.row.now) c.shared_slice_known-1.given in by)) ((let peer-acked-read : read_at u32 (c.args.row.now) (c.args.at) ≡ takes c.peer_acked-1.given.0.0 c.peer_acked-1.given.0.1.0 = learn u32_says c.u32_at.ensures c.peer_acked-1.given.1 in peer-acked-read)) in peer-acked-took)))).here c.peer_read-1.given.0.0 c.peer_read-1.given.0.1.0 = took _ _ u32 (number-lawful 4) ((let by : Bytes (c.args.row.now) = typed (c.args.row.now) c.shared_slice_known-1.given in by)) ((let peer-read-read : read_at u32 (c.args.row.now) ((field-yes (start).so ((let peer-acked-took : Took u32 (c.args.row.now) (c.args.at) c.peer_acked-1.given.0.0 c.peer_acked-1.given.0.1.0 = took _ _ u32 (number-lawful 4) ((let by : Bytes (c.args.row.now) = typed (c.args.row.now) c.shared_slice_known-1.given in by)) ((let peer-acked-read : read_at u32 (c.args.row.now) (c.args.at) ≡ takes c.peer_acked-1.given.0.0 c.peer_acked-1.given.0.1.0 = learn u32_says c.u32_at.ensures c.peer_acked-1.given.1 in peer-acked-read)) in peer-acked-took)))).here ≡ takes c.peer_read-1.given.0.0 c.peer_read-1.given.0.1.0 = learn u32_says c.u32_at-2.ensures c.peer_read-1.given.1 in peer-read-read)) in peer-read-took)))).here ≡ takes c.read_marked-1.given.0.0 c.read_marked-1.given.0.1.0 = learn u32_says c.u32_at-3.ensures c.read_marked-1.given.1 in read-marked-read)) in read-marked-took)))).so ((let contiguous-took : Took u32 (c.args.row.now) ((field-yes ((field-yes ((field-yes (start).so ((let peer-acked-took : Took u32 (c.args.row.now) (c.args.at) c.peer_acked-1.given.0.0 c.peer_acked-1.given.0.1.0 = took _ _ u32 (number-lawful 4) ((let by : Bytes (c.args.row.now) = typed (c.args.row.now) c.shared_slice_known-1.given in by)) ((let peer-acked-read : read_at u32 (c.args.row.now) (c.args.at) ≡ takes c.peer_acked-1.given.0.0 c.peer_acked-1.given.0.1.0 = learn u32_says c.u32_at.ensures c.peer_acked-1.given.1 in peer-acked-read)) in peer-acked-took)))).so ((let peer-read-took : Took u32 (c.args.row.now) ((field-yes (start).so ((let peer-acked-took : Took u32 (c.args.row.now) (c.args.at) c.peer_acked-1.given.0.0 c.peer_acked-1.given.0.1.0 = took _ _ u32 (number-lawful 4) ((let by : Bytes (c.args.row.now) = typed (c.args.row.now) c.shared_slice_known-1.given in by)) ((let peer-acked-read : read_at u32 (c.args.row.now) (c.args.at) ≡ takes c.peer_acked-1.given.0.0 c.peer_acked-1.given.0.1.0 = learn u32_says c.u32_at.ensures c.peer_acked-1.given.1 in peer-acked-read)) in peer-acked-took)))).here c.peer_read-1.given.0.0 c.peer_read-1.given.0.1.0 = took _ _ u32 (number-lawful 4) ((let by : Bytes (c.args.row.now) = typed (c.args.row.now) c.shared_slice_known-1.given in by)) ((let peer-read-read : read_at u32 (c.args.row.now) ((field-yes (start).so ((let peer-acked-took : Took u32 (c.args.row.now) (c.args.at) c.peer_acked-1.given.0.0 c.peer_acked-1.given.0.1.0 = took _ _ u32 (number-lawful 4) ((let by : Bytes (c.args.row.now) = typed (c.args.row.now) c.shared_slice_known-1.given in by)) ((let peer-acked-read : read_at u32 (c.args.row.now) (c.args.at) ≡ takes c.peer_acked-1.given.0.0 c.peer_acked-1.given.0.1.0 = learn u32_says c.u32_at.ensures c.peer_acked-1.given.1 in peer-acked-read)) in peer-acked-took)))).here ≡ takes c.peer_read-1.given.0.0 c.peer_read-1.given.0.1.0 = learn u32_says c.u32_at-2.ensures c.peer_read-1.given.1 in peer-read-read)) in peer-read-took)))).so ((let read-marked-took : Took u32 (c.args.row.now) ((field-yes ((field-yes (start).so ((let peer-acked-took : Took u32 (c.args.row.now) (c.args.at) c.peer_acked-1.given.0.0 c.peer_acked-1.given.0.1.0 = took _ _ u32 (number-lawful 4) ((let by : Bytes (c.args.row.now) = typed (c.args.row.now) c.shared_slice_known-1.given in by)) ((let peer-acked-read : read_at u32 (c.args.row.now) (c.args.at) ≡ takes c.peer_acked-1.given.0.0 c.peer_acked-1.given.0.1.0 = learn u32_says c.u32_at.ensures c.peer_acked-1.given.1 in peer-acked-read)) in peer-acked-took)))).so ((let peer-read-took : Took u32 (c.args.row.now) ((field-yes (start).so ((let peer-acked-took : Took u32 (c.args.row.now) (c.args.at) c.peer_acked-1.given.0.0 c.peer_acked-1.given.0.1.0 = took _ _ u32 (number-lawful 4) ((let by : Bytes (c.args.row.now) = typed (c.args.row.now) c.shared_slice_known-1.given in by)) ((let peer-acked-read : read_at u32 (c.args.row.now) (c.args.at) ≡ takes c.peer_acked-1.given.0.0 c.peer_acked-1.given.0.1.0 = learn u32_says c.u32_at.ensures c.peer_acked-1.given.1 in peer-acked-read)) in peer-acked-took)))).here c.peer_read-1.given.0.0 c.peer_read-1.given.0.1.0 = took _ _ u32 (number-lawful 4) ((let by : Bytes (c.args.row.now) = typed (c.args.row.now) c.shared_slice_known-1.given in by)) ((let peer-read-read : read_at u32 (c.args.row.now) ((field-yes (start).so ((let peer-acked-took : Took u32 (c.args.row.now) (c.args.at) c.peer_acked-1.given.0.0 c.peer_acked-1.given.0.1.0 = took _ _ u32 (number-lawful 4) ((let by : Bytes (c.args.row.now) = typed (c.args.row.now) c.shared_slice_known-1.given in by)) ((let peer-acked-read : read_at u32 (c.args.row.now) (c.args.at) ≡ takes c.peer_acked-1.given.0.0 c.peer_acked-1.given.0.1.0 = learn u32_says c.u32_at.ensures c.peer_acked-1.given.1 in peer-acked-read)) in peer-acked-took)))).here ≡ takes c.peer_read-1.given.0.0 c.peer_read-1.given.0.1.0 = learn u32_says c.u32_at-2.ensures c.peer_read-1.given.1 in peer-read-read)) in peer-read-took)))).here c.read_marked-1.given.0.0 c.read_marked-1.given.0.1.0 = took _ _ u32 (number-lawful 4) ((let by : Bytes (c.args.row.now) = typed (c.args.row.now) c.shared_slice_known-1.given in by)) ((let read-marked-read : read_at u32 (c.args.row.now) ((field-yes ((field-yes (start).so ((let peer-acked-took : Took u32 (c.args.row.now) (c.args.at) c.peer_acked-1.given.0.0 c.peer_acked-1.given.0.1.0 = took _ _ u32 (number-lawful 4) ((let by : Bytes (c.args.row.now) = typed (c.args.row.now) c.shared_slice_known-1.given in by)) ((let peer-acked-read : read_at u32 (c.args.row.now) (c.args.at) ≡ takes c.peer_acked-1.given.0.0 c.peer_acked-1.given.0.1.0 = learn u32_says c.u32_at.ensures c.peer_acked-1.given.1 in peer-acked-read)) in peer-acked-took)))).so ((let peer-read-took : Took u32 (c.args.row.now) ((field-yes (start).so ((let peer-acked-took : Took u32 (c.args.row.now) (c.args.at) c.peer_acked-1.given.0.0 c.peer_acked-1.given.0.1.0 = took _ _ u32 (number-lawful 4) ((let by : Bytes (c.args.row.now) = typed (c.args.row.now) c.shared_slice_known-1.given in by)) ((let peer-acked-read : read_at u32 (c.args.row.now) (c.args.at) ≡ takes c.peer_acked-1.given.0.0 c.peer_acked-1.given.0.1.0 = learn u32_says c.u32_at.ensures c.peer_acked-1.given.1 in peer-acked-read)) in peer-acked-took)))).here c.peer_read-1.given.0.0 c.peer_read-1.given.0.1.0 = took _ _ u32 (number-lawful 4) ((let by : Bytes (c.args.row.now) = typed (c.args.row.now) c.shared_slice_known-1.given in by)) ((let peer-read-read : read_at u32 (c.args.row.now) ((field-yes (start).so ((let peer-acked-took : Took u32 (c.args.row.now) (c.args.at) c.peer_acked-1.given.0.0 c.peer_acked-1.given.0.1.0 = took _ _ u32 (number-lawful 4) ((let by : Bytes (c.args.row.now) = typed (c.args.row.now) c.shared_slice_known-1.given in by)) ((let peer-acked-read : read_at u32 (c.args.row.now) (c.args.at) ≡ takes c.peer_acked-1.given.0.0 c.peer_acked-1.given.0.1.0 = learn u32_says c.u32_at.ensures c.peer_acked-1.given.1 in peer-acked-read)) in peer-acked-took)))).here ≡ takes c.peer_read-1.given.0.0 c.peer_read-1.given.0.1.0 = learn u32_says c.u32_at-2.ensures c.peer_read-1.given.1 in peer-read-read)) in peer-read-took)))).here ≡ takes c.read_marked-1.given.0.0 c.read_marked-1.given.0.1.0 = learn u32_says c.u32_at-3.ensures c.read_marked-1.given.1 in read-marked-read)) in read-marked-took)))).here c.contiguous-1.given.0.0 c.contiguous-1.given.0.1.0 = took _ _ u32 (number-lawful 4) ((let by : Bytes (c.args.row.now) = typed (c.args.row.now) c.shared_slice_known-1.given in by)) ((let contiguous-read : read_at u32 (c.args.row.now) ((field-yes ((field-yes ((field-yes (start).so ((let peer-acked-took : Took u32 (c.args.row.now) (c.args.at) c.peer_acked-1.given.0.0 c.peer_acked-1.given.0.1.0 = took _ _ u32 (number-lawful 4) ((let by : Bytes (c.args.row.now) = typed (c.args.row.now) c.shared_slice_known-1.given in by)) ((let peer-acked-read : read_at u32 (c.args.row.now) (c.args.at) ≡ takes c.peer_acked-1.given.0.0 c.peer_acked-1.given.0.1.0 = learn u32_says c.u32_at.ensures c.peer_acked-1.given.1 in peer-acked-read)) in peer-acked-took)))).so ((let peer-read-took : Took u32 (c.args.row.now) ((field-yes (start).so ((let peer-acked-took : Took u32 (c.args.row.now) (c.args.at) c.peer_acked-1.given.0.0 c.peer_acked-1.given.0.1.0 = took _ _ u32 (number-lawful 4) ((let by : Bytes (c.args.row.now) = typed (c.args.row.now) c.shared_slice_known-1.given in by)) ((let peer-acked-read : read_at u32 (c.args.row.now) (c.args.at) ≡ takes c.peer_acked-1.given.0.0 c.peer_acked-1.given.0.1.0 = learn u32_says c.u32_at.ensures c.peer_acked-1.given.1 in peer-acked-read)) in peer-acked-took)))).here c.peer_read-1.given.0.0 c.peer_read-1.given.0.1.0 = took _ _ u32 (number-lawful 4) ((let by : Bytes (c.args.row.now) = typed (c.args.row.now) c.shared_slice_known-1.given in by)) ((let peer-read-read : read_at u32 (c.args.row.now) ((field-yes (start).so ((let peer-acked-took : Took u32 (c.args.row.now) (c.args.at) c.peer_acked-1.given.0.0 c.peer_acked-1.given.0.1.0 = took _ _ u32 (number-lawful 4) ((let by : Bytes (c.args.row.now) = typed (c.args.row.now) c.shared_slice_known-1.given in by)) ((let peer-acked-read : read_at u32 (c.args.row.now) (c.args.at) ≡ takes c.peer_acked-1.given.0.0 c.peer_acked-1.given.0.1.0 = learn u32_says c.u32_at.ensures c.peer_acked-1.given.1 in peer-acked-read)) in peer-acked-took)))).here ≡ takes c.peer_read-1.given.0.0 c.peer_read-1.given.0.1.0 = learn u32_says c.u32_at-2.ensures c.peer_read-1.given.1 in peer-read-read)) in peer-read-took)))).so ((let read-marked-took : Took u32 (c.args.row.now) ((field-yes ((field-yes (start).so ((let peer-acked-took : Took u32 (c.args.row.now) (c.args.at) c.peer_acked-1.given.0.0 c.peer_acked-1.given.0.1.0 = took _ _ u32 (number-lawful 4) ((let by : Bytes (c.args.row.now) = typed (c.args.row.now) c.shared_slice_known-1.given in by)) ((let peer-acked-read : read_at u32 (c.args.row.now) (c.args.at) ≡ takes c.peer_acked-1.given.0.0 c.peer_acked-1.given.0.1.0 = learn u32_says c.u32_at.ensures c.peer_acked-1.given.1 in peer-acked-read)) in peer-acked-took)))).so ((let peer-read-took : Took u32 (c.args.row.now) ((field-yes (start).so ((let peer-acked-took : Took u32 (c.args.row.now) (c.args.at) c.peer_acked-1.given.0.0 c.peer_acked-1.given.0.1.0 = took _ _ u32 (number-lawful 4) ((let by : Bytes (c.args.row.now) = typed (c.args.row.now) c.shared_slice_known-1.given in by)) ((let peer-acked-read : read_at u32 (c.args.row.now) (c.args.at) ≡ takes c.peer_acked-1.given.0.0 c.peer_acked-1.given.0.1.0 = learn u32_says c.u32_at.ensures c.peer_acked-1.given.1 in peer-acked-read)) in peer-acked-took)))).here c.peer_read-1.given.0.0 c.peer_read-1.given.0.1.0 = took _ _ u32 (number-lawful 4) ((let by : Bytes (c.args.row.now) = typed (c.args.row.now) c.shared_slice_known-1.given in by)) ((let peer-read-read : read_at u32 (c.args.row.now) ((field-yes (start).so ((let peer-acked-took : Took u32 (c.args.row.now) (c.args.at) c.peer_acked-1.given.0.0 c.peer_acked-1.given.0.1.0 = took _ _ u32 (number-lawful 4) ((let by : Bytes (c.args.row.now) = typed (c.args.row.now) c.shared_slice_known-1.given in by)) ((let peer-acked-read : read_at u32 (c.args.row.now) (c.args.at) ≡ takes c.peer_acked-1.given.0.0 c.peer_acked-1.given.0.1.0 = learn u32_says c.u32_at.ensures c.peer_acked-1.given.1 in peer-acked-read)) in peer-acked-took)))).here ≡ takes c.peer_read-1.given.0.0 c.peer_read-1.given.0.1.0 = learn u32_says c.u32_at-2.ensures c.peer_read-1.given.1 in peer-read-read)) in peer-read-took)))).here c.read_marked-1.given.0.0 c.read_marked-1.given.0.1.0 = took _ _ u32 (number-lawful 4) ((let by : Bytes (c.args.row.now) = typed (c.args.row.now) c.shared_slice_known-1.given in by)) ((let read-marked-read : read_at u32 (c.args.row.now) ((field-yes ((field-yes (start).so ((let peer-acked-took : Took u32 (c.args.row.now) (c.args.at) c.peer_acked-1.given.0.0 c.peer_acked-1.given.0.1.0 = took _ _ u32 (number-lawful 4) ((let by : Bytes (c.args.row.now) = typed (c.args.row.now) c.shared_slice_known-1.given in by)) ((let peer-acked-read : read_at u32 (c.args.row.now) (c.args.at) ≡ takes c.peer_acked-1.given.0.0 c.peer_acked-1.given.0.1.0 = learn u32_says c.u32_at.ensures c.peer_acked-1.given.1 in peer-acked-read)) in peer-acked-took)))).so ((let peer-read-took : Took u32 (c.args.row.now) ((field-yes (start).so ((let peer-acked-took : Took u32 (c.args.row.now) (c.args.at) c.peer_acked-1.given.0.0 c.peer_acked-1.given.0.1.0 = took _ _ u32 (number-lawful 4) ((let by : Bytes (c.args.row.now) = typed (c.args.row.now) c.shared_slice_known-1.given in by)) ((let peer-acked-read : read_at u32 (c.args.row.now) (c.args.at) ≡ takes c.peer_acked-1.given.0.0 c.peer_acked-1.given.0.1.0 = learn u32_says c.u32_at.ensures c.peer_acked-1.given.1 in peer-acked-read)) in peer-acked-took)))).here c.peer_read-1.given.0.0 c.peer_read-1.given.0.1.0 = took _ _ u32 (number-lawful 4) ((let by : Bytes (c.args.row.now) = typed (c.args.row.now) c.shared_slice_known-1.given in by)) ((let peer-read-read : read_at u32 (c.args.row.now) ((field-yes (start).so ((let peer-acked-took : Took u32 (c.args.row.now) (c.args.at) c.peer_acked-1.given.0.0 c.peer_acked-1.given.0.1.0 = took _ _ u32 (number-lawful 4) ((let by : Bytes (c.args.row.now) = typed (c.args.row.now) c.shared_slice_known-1.given in by)) ((let peer-acked-read : read_at u32 (c.args.row.now) (c.args.at) ≡ takes c.peer_acked-1.given.0.0 c.peer_acked-1.given.0.1.0 = learn u32_says c.u32_at.ensures c.peer_acked-1.given.1 in peer-acked-read)) in peer-acked-took)))).here ≡ takes c.peer_read-1.given.0.0 c.peer_read-1.given.0.1.0 = learn u32_says c.u32_at-2.ensures c.peer_read-1.given.1 in peer-read-read)) in peer-read-took)))).here ≡ takes c.read_marked-1.given.0.0 c.read_marked-1.given.0.1.0 = learn u32_says c.u32_at-3.ensures c.read_marked-1.given.1 in read-marked-read)) in read-marked-took)))).here ≡ takes c.contiguous-1.given.0.0 c.contiguous-1.given.0.1.0 = learn u32_says c.u32_at-4.ensures c.contiguous-1.given.1 in contiguous-read)) in contiguous-took)))).here (list_in (group range) (c.args.row.now) c.above_field-1.given.0.0) c.above_field-1.given.0.0.next = list-took (group range) range-lawful (c.args.row.now) ((let by : Bytes (c.args.row.now) = typed (c.args.row.now) c.shared_slice_known-1.given in by)) _ c.ranges_at-above_field.ensures c.above_field-1.given.1 in above-took)))).so ((let unacked-took : Took (list u32) (c.args.row.now) ((field-yes ((field-yes ((field-yes ((field-yes ((field-yes (start).so ((let peer-acked-took : Took u32 (c.args.row.now) (c.args.at) c.peer_acked-1.given.0.0 c.peer_acked-1.given.0.1.0 = took _ _ u32 (number-lawful 4) ((let by : Bytes (c.args.row.now) = typed (c.args.row.now) c.shared_slice_known-1.given in by)) ((let peer-acked-read : read_at u32 (c.args.row.now) (c.args.at) ≡ takes c.peer_acked-1.given.0.0 c.peer_acked-1.given.0.1.0 = learn u32_says c.u32_at.ensures c.peer_acked-1.given.1 in peer-acked-read)) in peer-acked-took)))).so ((let peer-read-took : Took u32 (c.args.row.now) ((field-yes (start).so ((let peer-acked-took : Took u32 (c.args.row.now) (c.args.at) c.peer_acked-1.given.0.0 c.peer_acked-1.given.0.1.0 = took _ _ u32 (number-lawful 4) ((let by : Bytes (c.args.row.now) = typed (c.args.row.now) c.shared_slice_known-1.given in by)) ((let peer-acked-read : read_at u32 (c.args.row.now) (c.args.at) ≡ takes c.peer_acked-1.given.0.0 c.peer_acked-1.given.0.1.0 = learn u32_says c.u32_at.ensures c.peer_acked-1.given.1 in peer-acked-read)) in peer-acked-took)))).here c.peer_read-1.given.0.0 c.peer_read-1.given.0.1.0 = took _ _ u32 (number-lawful 4) ((let by : Bytes (c.args.row.now) = typed (c.args.row.now) c.shared_slice_known-1.given in by)) ((let peer-read-read : read_at u32 (c.args.row.now) ((field-yes (start).so ((let peer-acked-took : Took u32 (c.args.row.now) (c.args.at) c.peer_acked-1.given.0.0 c.peer_acked-1.given.0.1.0 = took _ _ u32 (number-lawful 4) ((let by : Bytes (c.args.row.now) = typed (c.args.row.now) c.shared_slice_known-1.given in by)) ((let peer-acked-read : read_at u32 (c.args.row.now) (c.args.at) ≡ takes c.peer_acked-1.given.0.0 c.peer_acked-1.given.0.1.0 = learn u32_says c.u32_at.ensures c.peer_acked-1.given.1 in peer-acked-read)) in peer-acked-took)))).here ≡ takes c.peer_read-1.given.0.0 c.peer_read-1.given.0.1.0 = learn u32_says c.u32_at-2.ensures c.peer_read-1.given.1 in peer-read-read)) in peer-read-took)))).so ((let read-marked-took : Took u32 (c.args.row.now) ((field-yes ((field-yes (start).so ((let peer-acked-took : Took u32 (c.args.row.now) (c.args.at) c.peer_acked-1.given.0.0 c.peer_acked-1.given.0.1.0 = took _ _ u32 (number-lawful 4) ((let by : Bytes (c.args.row.now) = typed (c.args.row.now) c.shared_slice_known-1.given in by)) ((let peer-acked-read : read_at u32 (c.args.row.now) (c.args.at) ≡ takes c.peer_acked-1.given.0.0 c.peer_acked-1.given.0.1.0 = learn u32_says c.u32_at.ensures c.peer_acked-1.given.1 in peer-acked-read)) in peer-acked-took)))).so ((let peer-read-took : Took u32 (c.args.row.now) ((field-yes (start).so ((let peer-acked-took : Took u32 (c.args.row.now) (c.args.at) c.peer_acked-1.given.0.0 c.peer_acked-1.given.0.1.0 = took _ _ u32 (number-lawful 4) ((let by : Bytes (c.args.row.now) = typed (c.args.row.now) c.shared_slice_known-1.given in by)) ((let peer-acked-read : read_at u32 (c.args.row.now) (c.args.at) ≡ takes c.peer_acked-1.given.0.0 c.peer_acked-1.given.0.1.0 = learn u32_says c.u32_at.ensures c.peer_acked-1.given.1 in peer-acked-read)) in peer-acked-took)))).here c.peer_read-1.given.0.0 c.peer_read-1.given.0.1.0 = took _ _ u32 (number-lawful 4) ((let by : Bytes (c.args.row.now) = typed (c.args.row.now) c.shared_slice_known-1.given in by)) ((let peer-read-read : read_at u32 (c.args.row.now) ((field-yes (start).so ((let peer-acked-took : Took u32 (c.args.row.now) (c.args.at) c.peer_acked-1.given.0.0 c.peer_acked-1.given.0.1.0 = took _ _ u32 (number-lawful 4) ((let by : Bytes (c.args.row.now) = typed (c.args.row.now) c.shared_slice_known-1.given in by)) ((let peer-acked-read : read_at u32 (c.args.row.now) (c.args.at) ≡ takes c.peer_acked-1.given.0.0 c.peer_acked-1.given.0.1.0 = learn u32_says c.u32_at.ensures c.peer_acked-1.given.1 in peer-acked-read)) in peer-acked-took)))).here ≡ takes c.peer_read-1.given.0.0 c.peer_read-1.given.0.1.0 = learn u32_says c.u32_at-2.ensures c.peer_read-1.given.1 in peer-read-read)) in peer-read-took)))).here c.read_marked-1.given.0.0 c.read_marked-1.given.0.1.0 = took _ _ u32 (number-lawful 4) ((let by : Bytes (c.args.row.now) = typed (c.args.row.now) c.shared_slice_known-1.given in by)) ((let read-marked-read : read_at u32 (c.args.row.now) ((field-yes ((field-yes (start).so ((let peer-acked-took : Took u32 (c.args.row.now) (c.args.at) c.peer_acked-1.given.0.0 c.peer_acked-1.given.0.1.0 = took _ _ u32 (number-lawful 4) ((let by : Bytes (c.args.row.now) = typed (c.args.row.now) c.shared_slice_known-1.given in by)) ((let peer-acked-read : read_at u32 (c.args.row.now) (c.args.at) ≡ takes c.peer_acked-1.given.0.0 c.peer_acked-1.given.0.1.0 = learn u32_says c.u32_at.ensures c.peer_acked-1.given.1 in peer-acked-read)) in peer-acked-took)))).so ((let peer-read-took : Took u32 (c.args.row.now) ((field-yes (start).so ((let peer-acked-took : Took u32 (c.args.row.now) (c.args.at) c.peer_acked-1.given.0.0 c.peer_acked-1.given.0.1.0 = took _ _ u32 (number-lawful 4) ((let by : Bytes (c.args.row.now) = typed (c.args.row.now) c.shared_slice_known-1.given in by)) ((let peer-acked-read : read_at u32 (c.args.row.now) (c.args.at) ≡ takes c.peer_acked-1.given.0.0 c.peer_acked-1.given.0.1.0 = learn u32_says c.u32_at.ensures c.peer_acked-1.given.1 in peer-acked-read)) in peer-acked-took)))).here c.peer_read-1.given.0.0 c.peer_read-1.given.0.1.0 = took _ _ u32 (number-lawful 4) ((let by : Bytes (c.args.row.now) = typed (c.args.row.now) c.shared_slice_known-1.given in by)) ((let peer-read-read : read_at u32 (c.args.row.now) ((field-yes (start).so ((let peer-acked-took : Took u32 (c.args.row.now) (c.args.at) c.peer_acked-1.given.0.0 c.peer_acked-1.given.0.1.0 = took _ _ u32 (number-lawful 4) ((let by : Bytes (c.args.row.now) = typed (c.args.row.now) c.shared_slice_known-1.given in by)) ((let peer-acked-read : read_at u32 (c.args.row.now) (c.args.at) ≡ takes c.peer_acked-1.given.0.0 c.peer_acked-1.given.0.1.0 = learn u32_says c.u32_at.ensures c.peer_acked-1.given.1 in peer-acked-read)) in peer-acked-took)))).here ≡ takes c.peer_read-1.given.0.0 c.peer_read-1.given.0.1.0 = learn u32_says c.u32_at-2.ensures c.peer_read-1.given.1 in peer-read-read)) in peer-read-took)))).here ≡ takes c.read_marked-1.given.0.0 c.read_marked-1.given.0.1.0 = learn u32_says c.u32_at-3.ensures c.read_marked-1.given.1 in read-marked-read)) in read-marked-took)))).so ((let contiguous-took : Took u32 (c.args.row.now) ((field-yes ((field-yes ((field-yes (start).so ((let peer-acked-took : Took u32 (c.args.row.now) (c.args.at) c.peer_acked-1.given.0.0 c.peer_acked-1.given.0.1.0 = took _ _ u32 (number-lawful 4) ((let by : Bytes (c.args.row.now) = typed (c.args.row.now) c.shared_slice_known-1.given in by)) ((let peer-acked-read : read_at u32 (c.args.row.now) (c.args.at) ≡ takes c.peer_acked-1.given.0.0 c.peer_acked-1.given.0.1.0 = learn u32_says c.u32_at.ensures c.peer_acked-1.given.1 in peer-acked-read)) in peer-acked-took)))).so ((let peer-read-took : Took u32 (c.args.row.now) ((field-yes (start).so ((let peer-acked-took : Took u32 (c.args.row.now) (c.args.at) c.peer_acked-1.given.0.0 c.peer_acked-1.given.0.1.0 = took _ _ u32 (number-lawful 4) ((let by : Bytes (c.args.row.now) = typed (c.args.row.now) c.shared_slice_known-1.given in by)) ((let peer-acked-read : read_at u32 (c.args.row.now) (c.args.at) ≡ takes c.peer_acked-1.given.0.0 c.peer_acked-1.given.0.1.0 = learn u32_says c.u32_at.ensures c.peer_acked-1.given.1 in peer-acked-read)) in peer-acked-took)))).here c.peer_read-1.given.0.0 c.peer_read-1.given.0.1.0 = took _ _ u32 (number-lawful 4) ((let by : Bytes (c.args.row.now) = typed (c.args.row.now) c.shared_slice_known-1.given in by)) ((let peer-read-read : read_at u32 (c.args.row.now) ((field-yes (start).so ((let peer-acked-took : Took u32 (c.args.row.now) (c.args.at) c.peer_acked-1.given.0.0 c.peer_acked-1.given.0.1.0 = took _ _ u32 (number-lawful 4) ((let by : Bytes (c.args.row.now) = typed (c.args.row.now) c.shared_slice_known-1.given in by)) ((let peer-acked-read : read_at u32 (c.args.row.now) (c.args.at) ≡ takes c.peer_acked-1.given.0.0 c.peer_acked-1.given.0.1.0 = learn u32_says c.u32_at.ensures c.peer_acked-1.given.1 in peer-acked-read)) in peer-acked-took)))).here ≡ takes c.peer_read-1.given.0.0 c.peer_read-1.given.0.1.0 = learn u32_says c.u32_at-2.ensures c.peer_read-1.given.1 in peer-read-read)) in peer-read-took)))).so ((let read-marked-took : Took u32 (c.args.row.now) ((field-yes ((field-yes (start).so ((let peer-acked-took : Took u32 (c.args.row.now) (c.args.at) c.peer_acked-1.given.0.0 c.peer_acked-1.given.0.1.0 = took _ _ u32 (number-lawful 4) ((let by : Bytes (c.args.row.now) = typed (c.args.row.now) c.shared_slice_known-1.given in by)) ((let peer-acked-read : read_at u32 (c.args.row.now) (c.args.at) ≡ takes c.peer_acked-1.given.0.0 c.peer_acked-1.given.0.1.0 = learn u32_says c.u32_at.ensures c.peer_acked-1.given.1 in peer-acked-read)) in peer-acked-took)))).so ((let peer-read-took : Took u32 (c.args.row.now) ((field-yes (start).so ((let peer-acked-took : Took u32 (c.args.row.now) (c.args.at) c.peer_acked-1.given.0.0 c.peer_acked-1.given.0.1.0 = took _ _ u32 (number-lawful 4) ((let by : Bytes (c.args.row.now) = typed (c.args.row.now) c.shared_slice_known-1.given in by)) ((let peer-acked-read : read_at u32 (c.args.row.now) (c.args.at) ≡ takes c.peer_acked-1.given.0.0 c.peer_acked-1.given.0.1.0 = learn u32_says c.u32_at.ensures c.peer_acked-1.given.1 in peer-acked-read)) in peer-acked-took)))).here c.peer_read-1.given.0.0 c.peer_read-1.given.0.1.0 = took _ _ u32 (number-lawful 4) ((let by : Bytes (c.args.row.now) = typed (c.args.row.now) c.shared_slice_known-1.given in by)) ((let peer-read-read : read_at u32 (c.args.row.now) ((field-yes (start).so ((let peer-acked-took : Took u32 (c.args.row.now) (c.args.at) c.peer_acked-1.given.0.0 c.peer_acked-1.given.0.1.0 = took _ _ u32 (number-lawful 4) ((let by : Bytes (c.args.row.now) = typed (c.args.row.now) c.shared_slice_known-1.given in by)) ((let peer-acked-read : read_at u32 (c.args.row.now) (c.args.at) ≡ takes c.peer_acked-1.given.0.0 c.peer_acked-1.given.0.1.0 = learn u32_says c.u32_at.ensures c.peer_acked-1.given.1 in peer-acked-read)) in peer-acked-took)))).here ≡ takes c.peer_read-1.given.0.0 c.peer_read-1.given.0.1.0 = learn u32_says c.u32_at-2.ensures c.peer_read-1.given.1 in peer-read-read)) in peer-read-took)))).here c.read_marked-1.given.0.0 c.read_marked-1.given.0.1.0 = took _ _ u32 (number-lawful 4) ((let by : Bytes (c.args.row.now) = typed (c.args.row.now) c.shared_slice_known-1.given in by)) ((let read-marked-read : read_at u32 (c.args.row.now) ((field-yes ((field-yes (start).so ((let peer-acked-took : Took u32 (c.args.row.now) (c.args.at) c.peer_acked-1.given.0.0 c.peer_acked-1.given.0.1.0 = took _ _ u32 (number-lawful 4) ((let by : Bytes (c.args.row.now) = typed (c.args.row.now) c.shared_slice_known-1.given in by)) ((let peer-acked-read : read_at u32 (c.args.row.now) (c.args.at) ≡ takes c.peer_acked-1.given.0.0 c.peer_acked-1.given.0.1.0 = learn u32_says c.u32_at.ensures c.peer_acked-1.given.1 in peer-acked-read)) in peer-acked-took)))).so ((let peer-read-took : Took u32 (c.args.row.now) ((field-yes (start).so ((let peer-acked-took : Took u32 (c.args.row.now) (c.args.at) c.peer_acked-1.given.0.0 c.peer_acked-1.given.0.1.0 = took _ _ u32 (number-lawful 4) ((let by : Bytes (c.args.row.now) = typed (c.args.row.now) c.shared_slice_known-1.given in by)) ((let peer-acked-read : read_at u32 (c.args.row.now) (c.args.at) ≡ takes c.peer_acked-1.given.0.0 c.peer_acked-1.given.0.1.0 = learn u32_says c.u32_at.ensures c.peer_acked-1.given.1 in peer-acked-read)) in peer-acked-took)))).here c.peer_read-1.given.0.0 c.peer_read-1.given.0.1.0 = took _ _ u32 (number-lawful 4) ((let by : Bytes (c.args.row.now) = typed (c.args.row.now) c.shared_slice_known-1.given in by)) ((let peer-read-read : read_at u32 (c.args.row.now) ((field-yes (start).so ((let peer-acked-took : Took u32 (c.args.row.now) (c.args.at) c.peer_acked-1.given.0.0 c.peer_acked-1.given.0.1.0 = took _ _ u32 (number-lawful 4) ((let by : Bytes (c.args.row.now) = typed (c.args.row.now) c.shared_slice_known-1.given in by)) ((let peer-acked-read : read_at u32 (c.args.row.now) (c.args.at) ≡ takes c.peer_acked-1.given.0.0 c.peer_acked-1.given.0.1.0 = learn u32_says c.u32_at.ensures c.peer_acked-1.given.1 in peer-acked-read)) in peer-acked-took)))).here ≡ takes c.peer_read-1.given.0.0 c.peer_read-1.given.0.1.0 = learn u32_says c.u32_at-2.ensures c.peer_read-1.given.1 in peer-read-read)) in peer-read-took)))).here ≡ takes c.read_marked-1.given.0.0 c.read_marked-1.given.0.1.0 = learn u32_says c.u32_at-3.ensures c.read_marked-1.given.1 in read-marked-read)) in read-marked-took)))).here c.contiguous-1.given.0.0 c.contiguous-1.given.0.1.0 = took _ _ u32 (number-lawful 4) ((let by : Bytes (c.args.row.now) = typed (c.args.row.now) c.shared_slice_known-1.given in by)) ((let contiguous-read : read_at u32 (c.args.row.now) ((field-yes ((field-yes ((field-yes (start).so ((let peer-acked-took : Took u32 (c.args.row.now) (c.args.at) c.peer_acked-1.given.0.0 c.peer_acked-1.given.0.1.0 = took _ _ u32 (number-lawful 4) ((let by : Bytes (c.args.row.now) = typed (c.args.row.now) c.shared_slice_known-1.given in by)) ((let peer-acked-read : read_at u32 (c.args.row.now) (c.args.at) ≡ takes c.peer_acked-1.given.0.0 c.peer_acked-1.given.0.1.0 = learn u32_says c.u32_at.ensures c.peer_acked-1.given.1 in peer-acked-read)) in peer-acked-took)))).so ((let peer-read-took : Took u32 (c.args.row.now) ((field-yes (start).so ((let peer-acked-took : Took u32 (c.args.row.now) (c.args.at) c.peer_acked-1.given.0.0 c.peer_acked-1.given.0.1.0 = took _ _ u32 (number-lawful 4) ((let by : Bytes (c.args.row.now) = typed (c.args.row.now) c.shared_slice_known-1.given in by)) ((let peer-acked-read : read_at u32 (c.args.row.now) (c.args.at) ≡ takes c.peer_acked-1.given.0.0 c.peer_acked-1.given.0.1.0 = learn u32_says c.u32_at.ensures c.peer_acked-1.given.1 in peer-acked-read)) in peer-acked-took)))).here c.peer_read-1.given.0.0 c.peer_read-1.given.0.1.0 = took _ _ u32 (number-lawful 4) ((let by : Bytes (c.args.row.now) = typed (c.args.row.now) c.shared_slice_known-1.given in by)) ((let peer-read-read : read_at u32 (c.args.row.now) ((field-yes (start).so ((let peer-acked-took : Took u32 (c.args.row.now) (c.args.at) c.peer_acked-1.given.0.0 c.peer_acked-1.given.0.1.0 = took _ _ u32 (number-lawful 4) ((let by : Bytes (c.args.row.now) = typed (c.args.row.now) c.shared_slice_known-1.given in by)) ((let peer-acked-read : read_at u32 (c.args.row.now) (c.args.at) ≡ takes c.peer_acked-1.given.0.0 c.peer_acked-1.given.0.1.0 = learn u32_says c.u32_at.ensures c.peer_acked-1.given.1 in peer-acked-read)) in peer-acked-took)))).here ≡ takes c.peer_read-1.given.0.0 c.peer_read-1.given.0.1.0 = learn u32_says c.u32_at-2.ensures c.peer_read-1.given.1 in peer-read-read)) in peer-read-took)))).so ((let read-marked-took : Took u32 (c.args.row.now) ((field-yes ((field-yes (start).so ((let peer-acked-took : Took u32 (c.args.row.now) (c.args.at) c.peer_acked-1.given.0.0 c.peer_acked-1.given.0.1.0 = took _ _ u32 (number-lawful 4) ((let by : Bytes (c.args.row.now) = typed (c.args.row.now) c.shared_slice_known-1.given in by)) ((let peer-acked-read : read_at u32 (c.args.row.now) (c.args.at) ≡ takes c.peer_acked-1.given.0.0 c.peer_acked-1.given.0.1.0 = learn u32_says c.u32_at.ensures c.peer_acked-1.given.1 in peer-acked-read)) in peer-acked-took)))).so ((let peer-read-took : Took u32 (c.args.row.now) ((field-yes (start).so ((let peer-acked-took : Took u32 (c.args.row.now) (c.args.at) c.peer_acked-1.given.0.0 c.peer_acked-1.given.0.1.0 = took _ _ u32 (number-lawful 4) ((let by : Bytes (c.args.row.now) = typed (c.args.row.now) c.shared_slice_known-1.given in by)) ((let peer-acked-read : read_at u32 (c.args.row.now) (c.args.at) ≡ takes c.peer_acked-1.given.0.0 c.peer_acked-1.given.0.1.0 = learn u32_says c.u32_at.ensures c.peer_acked-1.given.1 in peer-acked-read)) in peer-acked-took)))).here c.peer_read-1.given.0.0 c.peer_read-1.given.0.1.0 = took _ _ u32 (number-lawful 4) ((let by : Bytes (c.args.row.now) = typed (c.args.row.now) c.shared_slice_known-1.given in by)) ((let peer-read-read : read_at u32 (c.args.row.now) ((field-yes (start).so ((let peer-acked-took : Took u32 (c.args.row.now) (c.args.at) c.peer_acked-1.given.0.0 c.peer_acked-1.given.0.1.0 = took _ _ u32 (number-lawful 4) ((let by : Bytes (c.args.row.now) = typed (c.args.row.now) c.shared_slice_known-1.given in by)) ((let peer-acked-read : read_at u32 (c.args.row.now) (c.args.at) ≡ takes c.peer_acked-1.given.0.0 c.peer_acked-1.given.0.1.0 = learn u32_says c.u32_at.ensures c.peer_acked-1.given.1 in peer-acked-read)) in peer-acked-took)))).here ≡ takes c.peer_read-1.given.0.0 c.peer_read-1.given.0.1.0 = learn u32_says c.u32_at-2.ensures c.peer_read-1.given.1 in peer-read-read)) in peer-read-took)))).here c.read_marked-1.given.0.0 c.read_marked-1.given.0.1.0 = took _ _ u32 (number-lawful 4) ((let by : Bytes (c.args.row.now) = typed (c.args.row.now) c.shared_slice_known-1.given in by)) ((let read-marked-read : read_at u32 (c.args.row.now) ((field-yes ((field-yes (start).so ((let peer-acked-took : Took u32 (c.args.row.now) (c.args.at) c.peer_acked-1.given.0.0 c.peer_acked-1.given.0.1.0 = took _ _ u32 (number-lawful 4) ((let by : Bytes (c.args.row.now) = typed (c.args.row.now) c.shared_slice_known-1.given in by)) ((let peer-acked-read : read_at u32 (c.args.row.now) (c.args.at) ≡ takes c.peer_acked-1.given.0.0 c.peer_acked-1.given.0.1.0 = learn u32_says c.u32_at.ensures c.peer_acked-1.given.1 in peer-acked-read)) in peer-acked-took)))).so ((let peer-read-took : Took u32 (c.args.row.now) ((field-yes (start).so ((let peer-acked-took : Took u32 (c.args.row.now) (c.args.at) c.peer_acked-1.given.0.0 c.peer_acked-1.given.0.1.0 = took _ _ u32 (number-lawful 4) ((let by : Bytes (c.args.row.now) = typed (c.args.row.now) c.shared_slice_known-1.given in by)) ((let peer-acked-read : read_at u32 (c.args.row.now) (c.args.at) ≡ takes c.peer_acked-1.given.0.0 c.peer_acked-1.given.0.1.0 = learn u32_says c.u32_at.ensures c.peer_acked-1.given.1 in peer-acked-read)) in peer-acked-took)))).here c.peer_read-1.given.0.0 c.peer_read-1.given.0.1.0 = took _ _ u32 (number-lawful 4) ((let by : Bytes (c.args.row.now) = typed (c.args.row.now) c.shared_slice_known-1.given in by)) ((let peer-read-read : read_at u32 (c.args.row.now) ((field-yes (start).so ((let peer-acked-took : Took u32 (c.args.row.now) (c.args.at) c.peer_acked-1.given.0.0 c.peer_acked-1.given.0.1.0 = took _ _ u32 (number-lawful 4) ((let by : Bytes (c.args.row.now) = typed (c.args.row.now) c.shared_slice_known-1.given in by)) ((let peer-acked-read : read_at u32 (c.args.row.now) (c.args.at) ≡ takes c.peer_acked-1.given.0.0 c.peer_acked-1.given.0.1.0 = learn u32_says c.u32_at.ensures c.peer_acked-1.given.1 in peer-acked-read)) in peer-acked-took)))).here ≡ takes c.peer_read-1.given.0.0 c.peer_read-1.given.0.1.0 = learn u32_says c.u32_at-2.ensures c.peer_read-1.given.1 in peer-read-read)) in peer-read-took)))).here ≡ takes c.read_marked-1.given.0.0 c.read_marked-1.given.0.1.0 = learn u32_says c.u32_at-3.ensures c.read_marked-1.given.1 in read-marked-read)) in read-marked-took)))).here ≡ takes c.contiguous-1.given.0.0 c.contiguous-1.given.0.1.0 = learn u32_says c.u32_at-4.ensures c.contiguous-1.given.1 in contiguous-read)) in contiguous-took)))).so ((let above-took : Took (list (group range)) (c.args.row.now) ((field-yes ((field-yes ((field-yes ((field-yes (start).so ((let peer-acked-took : Took u32 (c.args.row.now) (c.args.at) c.peer_acked-1.given.0.0 c.peer_acked-1.given.0.1.0 = took _ _ u32 (number-lawful 4) ((let by : Bytes (c.args.row.now) = typed (c.args.row.now) c.shared_slice_known-1.given in by)) ((let peer-acked-read : read_at u32 (c.args.row.now) (c.args.at) ≡ takes c.peer_acked-1.given.0.0 c.peer_acked-1.given.0.1.0 = learn u32_says c.u32_at.ensures c.peer_acked-1.given.1 in peer-acked-read)) in peer-acked-took)))).so ((let peer-read-took : Took u32 (c.args.row.now) ((field-yes (start).so ((let peer-acked-took : Took u32 (c.args.row.now) (c.args.at) c.peer_acked-1.given.0.0 c.peer_acked-1.given.0.1.0 = took _ _ u32 (number-lawful 4) ((let by : Bytes (c.args.row.now) = typed (c.args.row.now) c.shared_slice_known-1.given in by)) ((let peer-acked-read : read_at u32 (c.args.row.now) (c.args.at) ≡ takes c.peer_acked-1.given.0.0 c.peer_acked-1.given.0.1.0 = learn u32_says c.u32_at.ensures c.peer_acked-1.given.1 in peer-acked-read)) in peer-acked-took)))).here c.peer_read-1.given.0.0 c.peer_read-1.given.0.1.0 = took _ _ u32 (number-lawful 4) ((let by : Bytes (c.args.row.now) = typed (c.args.row.now) c.shared_slice_known-1.given in by)) ((let peer-read-read : read_at u32 (c.args.row.now) ((field-yes (start).so ((let peer-acked-took : Took u32 (c.args.row.now) (c.args.at) c.peer_acked-1.given.0.0 c.peer_acked-1.given.0.1.0 = took _ _ u32 (number-lawful 4) ((let by : Bytes (c.args.row.now) = typed (c.args.row.now) c.shared_slice_known-1.given in by)) ((let peer-acked-read : read_at u32 (c.args.row.now) (c.args.at) ≡ takes c.peer_acked-1.given.0.0 c.peer_acked-1.given.0.1.0 = learn u32_says c.u32_at.ensures c.peer_acked-1.given.1 in peer-acked-read)) in peer-acked-took)))).here ≡ takes c.peer_read-1.given.0.0 c.peer_read-1.given.0.1.0 = learn u32_says c.u32_at-2.ensures c.peer_read-1.given.1 in peer-read-read)) in peer-read-took)))).so ((let read-marked-took : Took u32 (c.args.row.now) ((field-yes ((field-yes (start).so ((let peer-acked-took : Took u32 (c.args.row.now) (c.args.at) c.peer_acked-1.given.0.0 c.peer_acked-1.given.0.1.0 = took _ _ u32 (number-lawful 4) ((let by : Bytes (c.args.row.now) = typed (c.args.row.now) c.shared_slice_known-1.given in by)) ((let peer-acked-read : read_at u32 (c.args.row.now) (c.args.at) ≡ takes c.peer_acked-1.given.0.0 c.peer_acked-1.given.0.1.0 = learn u32_says c.u32_at.ensures c.peer_acked-1.given.1 in peer-acked-read)) in peer-acked-took)))).so ((let peer-read-took : Took u32 (c.args.row.now) ((field-yes (start).so ((let peer-acked-took : Took u32 (c.args.row.now) (c.args.at) c.peer_acked-1.given.0.0 c.peer_acked-1.given.0.1.0 = took _ _ u32 (number-lawful 4) ((let by : Bytes (c.args.row.now) = typed (c.args.row.now) c.shared_slice_known-1.given in by)) ((let peer-acked-read : read_at u32 (c.args.row.now) (c.args.at) ≡ takes c.peer_acked-1.given.0.0 c.peer_acked-1.given.0.1.0 = learn u32_says c.u32_at.ensures c.peer_acked-1.given.1 in peer-acked-read)) in peer-acked-took)))).here c.peer_read-1.given.0.0 c.peer_read-1.given.0.1.0 = took _ _ u32 (number-lawful 4) ((let by : Bytes (c.args.row.now) = typed (c.args.row.now) c.shared_slice_known-1.given in by)) ((let peer-read-read : read_at u32 (c.args.row.now) ((field-yes (start).so ((let peer-acked-took : Took u32 (c.args.row.now) (c.args.at) c.peer_acked-1.given.0.0 c.peer_acked-1.given.0.1.0 = took _ _ u32 (number-lawful 4) ((let by : Bytes (c.args.row.now) = typed (c.args.row.now) c.shared_slice_known-1.given in by)) ((let peer-acked-read : read_at u32 (c.args.row.now) (c.args.at) ≡ takes c.peer_acked-1.given.0.0 c.peer_acked-1.given.0.1.0 = learn u32_says c.u32_at.ensures c.peer_acked-1.given.1 in peer-acked-read)) in peer-acked-took)))).here ≡ takes c.peer_read-1.given.0.0 c.peer_read-1.given.0.1.0 = learn u32_says c.u32_at-2.ensures c.peer_read-1.given.1 in peer-read-read)) in peer-read-took)))).here c.read_marked-1.given.0.0 c.read_marked-1.given.0.1.0 = took _ _ u32 (number-lawful 4) ((let by : Bytes (c.args.row.now) = typed (c.args.row.now) c.shared_slice_known-1.given in by)) ((let read-marked-read : read_at u32 (c.args.row.now) ((field-yes ((field-yes (start).so ((let peer-acked-took : Took u32 (c.args.row.now) (c.args.at) c.peer_acked-1.given.0.0 c.peer_acked-1.given.0.1.0 = took _ _ u32 (number-lawful 4) ((let by : Bytes (c.args.row.now) = typed (c.args.row.now) c.shared_slice_known-1.given in by)) ((let peer-acked-read : read_at u32 (c.args.row.now) (c.args.at) ≡ takes c.peer_acked-1.given.0.0 c.peer_acked-1.given.0.1.0 = learn u32_says c.u32_at.ensures c.peer_acked-1.given.1 in peer-acked-read)) in peer-acked-took)))).so ((let peer-read-took : Took u32 (c.args.row.now) ((field-yes (start).so ((let peer-acked-took : Took u32 (c.args.row.now) (c.args.at) c.peer_acked-1.given.0.0 c.peer_acked-1.given.0.1.0 = took _ _ u32 (number-lawful 4) ((let by : Bytes (c.args.row.now) = typed (c.args.row.now) c.shared_slice_known-1.given in by)) ((let peer-acked-read : read_at u32 (c.args.row.now) (c.args.at) ≡ takes c.peer_acked-1.given.0.0 c.peer_acked-1.given.0.1.0 = learn u32_says c.u32_at.ensures c.peer_acked-1.given.1 in peer-acked-read)) in peer-acked-took)))).here c.peer_read-1.given.0.0 c.peer_read-1.given.0.1.0 = took _ _ u32 (number-lawful 4) ((let by : Bytes (c.args.row.now) = typed (c.args.row.now) c.shared_slice_known-1.given in by)) ((let peer-read-read : read_at u32 (c.args.row.now) ((field-yes (start).so ((let peer-acked-took : Took u32 (c.args.row.now) (c.args.at) c.peer_acked-1.given.0.0 c.peer_acked-1.given.0.1.0 = took _ _ u32 (number-lawful 4) ((let by : Bytes (c.args.row.now) = typed (c.args.row.now) c.shared_slice_known-1.given in by)) ((let peer-acked-read : read_at u32 (c.args.row.now) (c.args.at) ≡ takes c.peer_acked-1.given.0.0 c.peer_acked-1.given.0.1.0 = learn u32_says c.u32_at.ensures c.peer_acked-1.given.1 in peer-acked-read)) in peer-acked-took)))).here ≡ takes c.peer_read-1.given.0.0 c.peer_read-1.given.0.1.0 = learn u32_says c.u32_at-2.ensures c.peer_read-1.given.1 in peer-read-read)) in peer-read-took)))).here ≡ takes c.read_marked-1.given.0.0 c.read_marked-1.given.0.1.0 = learn u32_says c.u32_at-3.ensures c.read_marked-1.given.1 in read-marked-read)) in read-marked-took)))).so ((let contiguous-took : Took u32 (c.args.row.now) ((field-yes ((field-yes ((field-yes (start).so ((let peer-acked-took : Took u32 (c.args.row.now) (c.args.at) c.peer_acked-1.given.0.0 c.peer_acked-1.given.0.1.0 = took _ _ u32 (number-lawful 4) ((let by : Bytes (c.args.row.now) = typed (c.args.row.now) c.shared_slice_known-1.given in by)) ((let peer-acked-read : read_at u32 (c.args.row.now) (c.args.at) ≡ takes c.peer_acked-1.given.0.0 c.peer_acked-1.given.0.1.0 = learn u32_says c.u32_at.ensures c.peer_acked-1.given.1 in peer-acked-read)) in peer-acked-took)))).so ((let peer-read-took : Took u32 (c.args.row.now) ((field-yes (start).so ((let peer-acked-took : Took u32 (c.args.row.now) (c.args.at) c.peer_acked-1.given.0.0 c.peer_acked-1.given.0.1.0 = took _ _ u32 (number-lawful 4) ((let by : Bytes (c.args.row.now) = typed (c.args.row.now) c.shared_slice_known-1.given in by)) ((let peer-acked-read : read_at u32 (c.args.row.now) (c.args.at) ≡ takes c.peer_acked-1.given.0.0 c.peer_acked-1.given.0.1.0 = learn u32_says c.u32_at.ensures c.peer_acked-1.given.1 in peer-acked-read)) in peer-acked-took)))).here c.peer_read-1.given.0.0 c.peer_read-1.given.0.1.0 = took _ _ u32 (number-lawful 4) ((let by : Bytes (c.args.row.now) = typed (c.args.row.now) c.shared_slice_known-1.given in by)) ((let peer-read-read : read_at u32 (c.args.row.now) ((field-yes (start).so ((let peer-acked-took : Took u32 (c.args.row.now) (c.args.at) c.peer_acked-1.given.0.0 c.peer_acked-1.given.0.1.0 = took _ _ u32 (number-lawful 4) ((let by : Bytes (c.args.row.now) = typed (c.args.row.now) c.shared_slice_known-1.given in by)) ((let peer-acked-read : read_at u32 (c.args.row.now) (c.args.at) ≡ takes c.peer_acked-1.given.0.0 c.peer_acked-1.given.0.1.0 = learn u32_says c.u32_at.ensures c.peer_acked-1.given.1 in peer-acked-read)) in peer-acked-took)))).here ≡ takes c.peer_read-1.given.0.0 c.peer_read-1.given.0.1.0 = learn u32_says c.u32_at-2.ensures c.peer_read-1.given.1 in peer-read-read)) in peer-read-took)))).so ((let read-marked-took : Took u32 (c.args.row.now) ((field-yes ((field-yes (start).so ((let peer-acked-took : Took u32 (c.args.row.now) (c.args.at) c.peer_acked-1.given.0.0 c.peer_acked-1.given.0.1.0 = took _ _ u32 (number-lawful 4) ((let by : Bytes (c.args.row.now) = typed (c.args.row.now) c.shared_slice_known-1.given in by)) ((let peer-acked-read : read_at u32 (c.args.row.now) (c.args.at) ≡ takes c.peer_acked-1.given.0.0 c.peer_acked-1.given.0.1.0 = learn u32_says c.u32_at.ensures c.peer_acked-1.given.1 in peer-acked-read)) in peer-acked-took)))).so ((let peer-read-took : Took u32 (c.args.row.now) ((field-yes (start).so ((let peer-acked-took : Took u32 (c.args.row.now) (c.args.at) c.peer_acked-1.given.0.0 c.peer_acked-1.given.0.1.0 = took _ _ u32 (number-lawful 4) ((let by : Bytes (c.args.row.now) = typed (c.args.row.now) c.shared_slice_known-1.given in by)) ((let peer-acked-read : read_at u32 (c.args.row.now) (c.args.at) ≡ takes c.peer_acked-1.given.0.0 c.peer_acked-1.given.0.1.0 = learn u32_says c.u32_at.ensures c.peer_acked-1.given.1 in peer-acked-read)) in peer-acked-took)))).here c.peer_read-1.given.0.0 c.peer_read-1.given.0.1.0 = took _ _ u32 (number-lawful 4) ((let by : Bytes (c.args.row.now) = typed (c.args.row.now) c.shared_slice_known-1.given in by)) ((let peer-read-read : read_at u32 (c.args.row.now) ((field-yes (start).so ((let peer-acked-took : Took u32 (c.args.row.now) (c.args.at) c.peer_acked-1.given.0.0 c.peer_acked-1.given.0.1.0 = took _ _ u32 (number-lawful 4) ((let by : Bytes (c.args.row.now) = typed (c.args.row.now) c.shared_slice_known-1.given in by)) ((let peer-acked-read : read_at u32 (c.args.row.now) (c.args.at) ≡ takes c.peer_acked-1.given.0.0 c.peer_acked-1.given.0.1.0 = learn u32_says c.u32_at.ensures c.peer_acked-1.given.1 in peer-acked-read)) in peer-acked-took)))).here ≡ takes c.peer_read-1.given.0.0 c.peer_read-1.given.0.1.0 = learn u32_says c.u32_at-2.ensures c.peer_read-1.given.1 in peer-read-read)) in peer-read-took)))).here c.read_marked-1.given.0.0 c.read_marked-1.given.0.1.0 = took _ _ u32 (number-lawful 4) ((let by : Bytes (c.args.row.now) = typed (c.args.row.now) c.shared_slice_known-1.given in by)) ((let read-marked-read : read_at u32 (c.args.row.now) ((field-yes ((field-yes (start).so ((let peer-acked-took : Took u32 (c.args.row.now) (c.args.at) c.peer_acked-1.given.0.0 c.peer_acked-1.given.0.1.0 = took _ _ u32 (number-lawful 4) ((let by : Bytes (c.args.row.now) = typed (c.args.row.now) c.shared_slice_known-1.given in by)) ((let peer-acked-read : read_at u32 (c.args.row.now) (c.args.at) ≡ takes c.peer_acked-1.given.0.0 c.peer_acked-1.given.0.1.0 = learn u32_says c.u32_at.ensures c.peer_acked-1.given.1 in peer-acked-read)) in peer-acked-took)))).so ((let peer-read-took : Took u32 (c.args.row.now) ((field-yes (start).so ((let peer-acked-took : Took u32 (c.args.row.now) (c.args.at) c.peer_acked-1.given.0.0 c.peer_acked-1.given.0.1.0 = took _ _ u32 (number-lawful 4) ((let by : Bytes (c.args.row.now) = typed (c.args.row.now) c.shared_slice_known-1.given in by)) ((let peer-acked-read : read_at u32 (c.args.row.now) (c.args.at) ≡ takes c.peer_acked-1.given.0.0 c.peer_acked-1.given.0.1.0 = learn u32_says c.u32_at.ensures c.peer_acked-1.given.1 in peer-acked-read)) in peer-acked-took)))).here c.peer_read-1.given.0.0 c.peer_read-1.given.0.1.0 = took _ _ u32 (number-lawful 4) ((let by : Bytes (c.args.row.now) = typed (c.args.row.now) c.shared_slice_known-1.given in by)) ((let peer-read-read : read_at u32 (c.args.row.now) ((field-yes (start).so ((let peer-acked-took : Took u32 (c.args.row.now) (c.args.at) c.peer_acked-1.given.0.0 c.peer_acked-1.given.0.1.0 = took _ _ u32 (number-lawful 4) ((let by : Bytes (c.args.row.now) = typed (c.args.row.now) c.shared_slice_known-1.given in by)) ((let peer-acked-read : read_at u32 (c.args.row.now) (c.args.at) ≡ takes c.peer_acked-1.given.0.0 c.peer_acked-1.given.0.1.0 = learn u32_says c.u32_at.ensures c.peer_acked-1.given.1 in peer-acked-read)) in peer-acked-took)))).here ≡ takes c.peer_read-1.given.0.0 c.peer_read-1.given.0.1.0 = learn u32_says c.u32_at-2.ensures c.peer_read-1.given.1 in peer-read-read)) in peer-read-took)))).here ≡ takes c.read_marked-1.given.0.0 c.read_marked-1.given.0.1.0 = learn u32_says c.u32_at-3.ensures c.read_marked-1.given.1 in read-marked-read)) in read-marked-took)))).here c.contiguous-1.given.0.0 c.contiguous-1.given.0.1.0 = took _ _ u32 (number-lawful 4) ((let by : Bytes (c.args.row.now) = typed (c.args.row.now) c.shared_slice_known-1.given in by)) ((let contiguous-read : read_at u32 (c.args.row.now) ((field-yes ((field-yes ((field-yes (start).so ((let peer-acked-took : Took u32 (c.args.row.now) (c.args.at) c.peer_acked-1.given.0.0 c.peer_acked-1.given.0.1.0 = took _ _ u32 (number-lawful 4) ((let by : Bytes (c.args.row.now) = typed (c.args.row.now) c.shared_slice_known-1.given in by)) ((let peer-acked-read : read_at u32 (c.args.row.now) (c.args.at) ≡ takes c.peer_acked-1.given.0.0 c.peer_acked-1.given.0.1.0 = learn u32_says c.u32_at.ensures c.peer_acked-1.given.1 in peer-acked-read)) in peer-acked-took)))).so ((let peer-read-took : Took u32 (c.args.row.now) ((field-yes (start).so ((let peer-acked-took : Took u32 (c.args.row.now) (c.args.at) c.peer_acked-1.given.0.0 c.peer_acked-1.given.0.1.0 = took _ _ u32 (number-lawful 4) ((let by : Bytes (c.args.row.now) = typed (c.args.row.now) c.shared_slice_known-1.given in by)) ((let peer-acked-read : read_at u32 (c.args.row.now) (c.args.at) ≡ takes c.peer_acked-1.given.0.0 c.peer_acked-1.given.0.1.0 = learn u32_says c.u32_at.ensures c.peer_acked-1.given.1 in peer-acked-read)) in peer-acked-took)))).here c.peer_read-1.given.0.0 c.peer_read-1.given.0.1.0 = took _ _ u32 (number-lawful 4) ((let by : Bytes (c.args.row.now) = typed (c.args.row.now) c.shared_slice_known-1.given in by)) ((let peer-read-read : read_at u32 (c.args.row.now) ((field-yes (start).so ((let peer-acked-took : Took u32 (c.args.row.now) (c.args.at) c.peer_acked-1.given.0.0 c.peer_acked-1.given.0.1.0 = took _ _ u32 (number-lawful 4) ((let by : Bytes (c.args.row.now) = typed (c.args.row.now) c.shared_slice_known-1.given in by)) ((let peer-acked-read : read_at u32 (c.args.row.now) (c.args.at) ≡ takes c.peer_acked-1.given.0.0 c.peer_acked-1.given.0.1.0 = learn u32_says c.u32_at.ensures c.peer_acked-1.given.1 in peer-acked-read)) in peer-acked-took)))).here ≡ takes c.peer_read-1.given.0.0 c.peer_read-1.given.0.1.0 = learn u32_says c.u32_at-2.ensures c.peer_read-1.given.1 in peer-read-read)) in peer-read-took)))).so ((let read-marked-took : Took u32 (c.args.row.now) ((field-yes ((field-yes (start).so ((let peer-acked-took : Took u32 (c.args.row.now) (c.args.at) c.peer_acked-1.given.0.0 c.peer_acked-1.given.0.1.0 = took _ _ u32 (number-lawful 4) ((let by : Bytes (c.args.row.now) = typed (c.args.row.now) c.shared_slice_known-1.given in by)) ((let peer-acked-read : read_at u32 (c.args.row.now) (c.args.at) ≡ takes c.peer_acked-1.given.0.0 c.peer_acked-1.given.0.1.0 = learn u32_says c.u32_at.ensures c.peer_acked-1.given.1 in peer-acked-read)) in peer-acked-took)))).so ((let peer-read-took : Took u32 (c.args.row.now) ((field-yes (start).so ((let peer-acked-took : Took u32 (c.args.row.now) (c.args.at) c.peer_acked-1.given.0.0 c.peer_acked-1.given.0.1.0 = took _ _ u32 (number-lawful 4) ((let by : Bytes (c.args.row.now) = typed (c.args.row.now) c.shared_slice_known-1.given in by)) ((let peer-acked-read : read_at u32 (c.args.row.now) (c.args.at) ≡ takes c.peer_acked-1.given.0.0 c.peer_acked-1.given.0.1.0 = learn u32_says c.u32_at.ensures c.peer_acked-1.given.1 in peer-acked-read)) in peer-acked-took)))).here c.peer_read-1.given.0.0 c.peer_read-1.given.0.1.0 = took _ _ u32 (number-lawful 4) ((let by : Bytes (c.args.row.now) = typed (c.args.row.now) c.shared_slice_known-1.given in by)) ((let peer-read-read : read_at u32 (c.args.row.now) ((field-yes (start).so ((let peer-acked-took : Took u32 (c.args.row.now) (c.args.at) c.peer_acked-1.given.0.0 c.peer_acked-1.given.0.1.0 = took _ _ u32 (number-lawful 4) ((let by : Bytes (c.args.row.now) = typed (c.args.row.now) c.shared_slice_known-1.given in by)) ((let peer-acked-read : read_at u32 (c.args.row.now) (c.args.at) ≡ takes c.peer_acked-1.given.0.0 c.peer_acked-1.given.0.1.0 = learn u32_says c.u32_at.ensures c.peer_acked-1.given.1 in peer-acked-read)) in peer-acked-took)))).here ≡ takes c.peer_read-1.given.0.0 c.peer_read-1.given.0.1.0 = learn u32_says c.u32_at-2.ensures c.peer_read-1.given.1 in peer-read-read)) in peer-read-took)))).here c.read_marked-1.given.0.0 c.read_marked-1.given.0.1.0 = took _ _ u32 (number-lawful 4) ((let by : Bytes (c.args.row.now) = typed (c.args.row.now) c.shared_slice_known-1.given in by)) ((let read-marked-read : read_at u32 (c.args.row.now) ((field-yes ((field-yes (start).so ((let peer-acked-took : Took u32 (c.args.row.now) (c.args.at) c.peer_acked-1.given.0.0 c.peer_acked-1.given.0.1.0 = took _ _ u32 (number-lawful 4) ((let by : Bytes (c.args.row.now) = typed (c.args.row.now) c.shared_slice_known-1.given in by)) ((let peer-acked-read : read_at u32 (c.args.row.now) (c.args.at) ≡ takes c.peer_acked-1.given.0.0 c.peer_acked-1.given.0.1.0 = learn u32_says c.u32_at.ensures c.peer_acked-1.given.1 in peer-acked-read)) in peer-acked-took)))).so ((let peer-read-took : Took u32 (c.args.row.now) ((field-yes (start).so ((let peer-acked-took : Took u32 (c.args.row.now) (c.args.at) c.peer_acked-1.given.0.0 c.peer_acked-1.given.0.1.0 = took _ _ u32 (number-lawful 4) ((let by : Bytes (c.args.row.now) = typed (c.args.row.now) c.shared_slice_known-1.given in by)) ((let peer-acked-read : read_at u32 (c.args.row.now) (c.args.at) ≡ takes c.peer_acked-1.given.0.0 c.peer_acked-1.given.0.1.0 = learn u32_says c.u32_at.ensures c.peer_acked-1.given.1 in peer-acked-read)) in peer-acked-took)))).here c.peer_read-1.given.0.0 c.peer_read-1.given.0.1.0 = took _ _ u32 (number-lawful 4) ((let by : Bytes (c.args.row.now) = typed (c.args.row.now) c.shared_slice_known-1.given in by)) ((let peer-read-read : read_at u32 (c.args.row.now) ((field-yes (start).so ((let peer-acked-took : Took u32 (c.args.row.now) (c.args.at) c.peer_acked-1.given.0.0 c.peer_acked-1.given.0.1.0 = took _ _ u32 (number-lawful 4) ((let by : Bytes (c.args.row.now) = typed (c.args.row.now) c.shared_slice_known-1.given in by)) ((let peer-acked-read : read_at u32 (c.args.row.now) (c.args.at) ≡ takes c.peer_acked-1.given.0.0 c.peer_acked-1.given.0.1.0 = learn u32_says c.u32_at.ensures c.peer_acked-1.given.1 in peer-acked-read)) in peer-acked-took)))).here ≡ takes c.peer_read-1.given.0.0 c.peer_read-1.given.0.1.0 = learn u32_says c.u32_at-2.ensures c.peer_read-1.given.1 in peer-read-read)) in peer-read-took)))).here ≡ takes c.read_marked-1.given.0.0 c.read_marked-1.given.0.1.0 = learn u32_says c.u32_at-3.ensures c.read_marked-1.given.1 in read-marked-read)) in read-marked-took)))).here ≡ takes c.contiguous-1.given.0.0 c.contiguous-1.given.0.1.0 = learn u32_says c.u32_at-4.ensures c.contiguous-1.given.1 in contiguous-read)) in contiguous-took)))).here (list_in (group range) (c.args.row.now) c.above_field-1.given.0.0) c.above_field-1.given.0.0.next = list-took (group range) range-lawful (c.args.row.now) ((let by : Bytes (c.args.row.now) = typed (c.args.row.now) c.shared_slice_known-1.given in by)) _ c.ranges_at-above_field.ensures c.above_field-1.given.1 in above-took)))).here (list_in u32 (c.args.row.now) c.unacked_field-1.given.0.0) c.unacked_field-1.given.0.0.next = list-took u32 (number-lawful 4) (c.args.row.now) ((let by : Bytes (c.args.row.now) = typed (c.args.row.now) c.shared_slice_known-1.given in by)) _ c.numbers_at-unacked_field.ensures c.unacked_field-1.given.1 in unacked-took)))).so ((let expired-took : Took (list (group range)) (c.args.row.now) ((field-yes ((field-yes ((field-yes ((field-yes ((field-yes ((field-yes (start).so ((let peer-acked-took : Took u32 (c.args.row.now) (c.args.at) c.peer_acked-1.given.0.0 c.peer_acked-1.given.0.1.0 = took _ _ u32 (number-lawful 4) ((let by : Bytes (c.args.row.now) = typed (c.args.row.now) c.shared_slice_known-1.given in by)) ((let peer-acked-read : read_at u32 (c.args.row.now) (c.args.at) ≡ takes c.peer_acked-1.given.0.0 c.peer_acked-1.given.0.1.0 = learn u32_says c.u32_at.ensures c.peer_acked-1.given.1 in peer-acked-read)) in peer-acked-took)))).so ((let peer-read-took : Took u32 (c.args.row.now) ((field-yes (start).so ((let peer-acked-took : Took u32 (c.args.row.now) (c.args.at) c.peer_acked-1.given.0.0 c.peer_acked-1.given.0.1.0 = took _ _ u32 (number-lawful 4) ((let by : Bytes (c.args.row.now) = typed (c.args.row.now) c.shared_slice_known-1.given in by)) ((let peer-acked-read : read_at u32 (c.args.row.now) (c.args.at) ≡ takes c.peer_acked-1.given.0.0 c.peer_acked-1.given.0.1.0 = learn u32_says c.u32_at.ensures c.peer_acked-1.given.1 in peer-acked-read)) in peer-acked-took)))).here c.peer_read-1.given.0.0 c.peer_read-1.given.0.1.0 = took _ _ u32 (number-lawful 4) ((let by : Bytes (c.args.row.now) = typed (c.args.row.now) c.shared_slice_known-1.given in by)) ((let peer-read-read : read_at u32 (c.args.row.now) ((field-yes (start).so ((let peer-acked-took : Took u32 (c.args.row.now) (c.args.at) c.peer_acked-1.given.0.0 c.peer_acked-1.given.0.1.0 = took _ _ u32 (number-lawful 4) ((let by : Bytes (c.args.row.now) = typed (c.args.row.now) c.shared_slice_known-1.given in by)) ((let peer-acked-read : read_at u32 (c.args.row.now) (c.args.at) ≡ takes c.peer_acked-1.given.0.0 c.peer_acked-1.given.0.1.0 = learn u32_says c.u32_at.ensures c.peer_acked-1.given.1 in peer-acked-read)) in peer-acked-took)))).here ≡ takes c.peer_read-1.given.0.0 c.peer_read-1.given.0.1.0 = learn u32_says c.u32_at-2.ensures c.peer_read-1.given.1 in peer-read-read)) in peer-read-took)))).so ((let read-marked-took : Took u32 (c.args.row.now) ((field-yes ((field-yes (start).so ((let peer-acked-took : Took u32 (c.args.row.now) (c.args.at) c.peer_acked-1.given.0.0 c.peer_acked-1.given.0.1.0 = took _ _ u32 (number-lawful 4) ((let by : Bytes (c.args.row.now) = typed (c.args.row.now) c.shared_slice_known-1.given in by)) ((let peer-acked-read : read_at u32 (c.args.row.now) (c.args.at) ≡ takes c.peer_acked-1.given.0.0 c.peer_acked-1.given.0.1.0 = learn u32_says c.u32_at.ensures c.peer_acked-1.given.1 in peer-acked-read)) in peer-acked-took)))).so ((let peer-read-took : Took u32 (c.args.row.now) ((field-yes (start).so ((let peer-acked-took : Took u32 (c.args.row.now) (c.args.at) c.peer_acked-1.given.0.0 c.peer_acked-1.given.0.1.0 = took _ _ u32 (number-lawful 4) ((let by : Bytes (c.args.row.now) = typed (c.args.row.now) c.shared_slice_known-1.given in by)) ((let peer-acked-read : read_at u32 (c.args.row.now) (c.args.at) ≡ takes c.peer_acked-1.given.0.0 c.peer_acked-1.given.0.1.0 = learn u32_says c.u32_at.ensures c.peer_acked-1.given.1 in peer-acked-read)) in peer-acked-took)))).here c.peer_read-1.given.0.0 c.peer_read-1.given.0.1.0 = took _ _ u32 (number-lawful 4) ((let by : Bytes (c.args.row.now) = typed (c.args.row.now) c.shared_slice_known-1.given in by)) ((let peer-read-read : read_at u32 (c.args.row.now) ((field-yes (start).so ((let peer-acked-took : Took u32 (c.args.row.now) (c.args.at) c.peer_acked-1.given.0.0 c.peer_acked-1.given.0.1.0 = took _ _ u32 (number-lawful 4) ((let by : Bytes (c.args.row.now) = typed (c.args.row.now) c.shared_slice_known-1.given in by)) ((let peer-acked-read : read_at u32 (c.args.row.now) (c.args.at) ≡ takes c.peer_acked-1.given.0.0 c.peer_acked-1.given.0.1.0 = learn u32_says c.u32_at.ensures c.peer_acked-1.given.1 in peer-acked-read)) in peer-acked-took)))).here ≡ takes c.peer_read-1.given.0.0 c.peer_read-1.given.0.1.0 = learn u32_says c.u32_at-2.ensures c.peer_read-1.given.1 in peer-read-read)) in peer-read-took)))).here c.read_marked-1.given.0.0 c.read_marked-1.given.0.1.0 = took _ _ u32 (number-lawful 4) ((let by : Bytes (c.args.row.now) = typed (c.args.row.now) c.shared_slice_known-1.given in by)) ((let read-marked-read : read_at u32 (c.args.row.now) ((field-yes ((field-yes (start).so ((let peer-acked-took : Took u32 (c.args.row.now) (c.args.at) c.peer_acked-1.given.0.0 c.peer_acked-1.given.0.1.0 = took _ _ u32 (number-lawful 4) ((let by : Bytes (c.args.row.now) = typed (c.args.row.now) c.shared_slice_known-1.given in by)) ((let peer-acked-read : read_at u32 (c.args.row.now) (c.args.at) ≡ takes c.peer_acked-1.given.0.0 c.peer_acked-1.given.0.1.0 = learn u32_says c.u32_at.ensures c.peer_acked-1.given.1 in peer-acked-read)) in peer-acked-took)))).so ((let peer-read-took : Took u32 (c.args.row.now) ((field-yes (start).so ((let peer-acked-took : Took u32 (c.args.row.now) (c.args.at) c.peer_acked-1.given.0.0 c.peer_acked-1.given.0.1.0 = took _ _ u32 (number-lawful 4) ((let by : Bytes (c.args.row.now) = typed (c.args.row.now) c.shared_slice_known-1.given in by)) ((let peer-acked-read : read_at u32 (c.args.row.now) (c.args.at) ≡ takes c.peer_acked-1.given.0.0 c.peer_acked-1.given.0.1.0 = learn u32_says c.u32_at.ensures c.peer_acked-1.given.1 in peer-acked-read)) in peer-acked-took)))).here c.peer_read-1.given.0.0 c.peer_read-1.given.0.1.0 = took _ _ u32 (number-lawful 4) ((let by : Bytes (c.args.row.now) = typed (c.args.row.now) c.shared_slice_known-1.given in by)) ((let peer-read-read : read_at u32 (c.args.row.now) ((field-yes (start).so ((let peer-acked-took : Took u32 (c.args.row.now) (c.args.at) c.peer_acked-1.given.0.0 c.peer_acked-1.given.0.1.0 = took _ _ u32 (number-lawful 4) ((let by : Bytes (c.args.row.now) = typed (c.args.row.now) c.shared_slice_known-1.given in by)) ((let peer-acked-read : read_at u32 (c.args.row.now) (c.args.at) ≡ takes c.peer_acked-1.given.0.0 c.peer_acked-1.given.0.1.0 = learn u32_says c.u32_at.ensures c.peer_acked-1.given.1 in peer-acked-read)) in peer-acked-took)))).here ≡ takes c.peer_read-1.given.0.0 c.peer_read-1.given.0.1.0 = learn u32_says c.u32_at-2.ensures c.peer_read-1.given.1 in peer-read-read)) in peer-read-took)))).here ≡ takes c.read_marked-1.given.0.0 c.read_marked-1.given.0.1.0 = learn u32_says c.u32_at-3.ensures c.read_marked-1.given.1 in read-marked-read)) in read-marked-took)))).so ((let contiguous-took : Took u32 (c.args.row.now) ((field-yes ((field-yes ((field-yes (start).so ((let peer-acked-took : Took u32 (c.args.row.now) (c.args.at) c.peer_acked-1.given.0.0 c.peer_acked-1.given.0.1.0 = took _ _ u32 (number-lawful 4) ((let by : Bytes (c.args.row.now) = typed (c.args.row.now) c.shared_slice_known-1.given in by)) ((let peer-acked-read : read_at u32 (c.args.row.now) (c.args.at) ≡ takes c.peer_acked-1.given.0.0 c.peer_acked-1.given.0.1.0 = learn u32_says c.u32_at.ensures c.peer_acked-1.given.1 in peer-acked-read)) in peer-acked-took)))).so ((let peer-read-took : Took u32 (c.args.row.now) ((field-yes (start).so ((let peer-acked-took : Took u32 (c.args.row.now) (c.args.at) c.peer_acked-1.given.0.0 c.peer_acked-1.given.0.1.0 = took _ _ u32 (number-lawful 4) ((let by : Bytes (c.args.row.now) = typed (c.args.row.now) c.shared_slice_known-1.given in by)) ((let peer-acked-read : read_at u32 (c.args.row.now) (c.args.at) ≡ takes c.peer_acked-1.given.0.0 c.peer_acked-1.given.0.1.0 = learn u32_says c.u32_at.ensures c.peer_acked-1.given.1 in peer-acked-read)) in peer-acked-took)))).here c.peer_read-1.given.0.0 c.peer_read-1.given.0.1.0 = took _ _ u32 (number-lawful 4) ((let by : Bytes (c.args.row.now) = typed (c.args.row.now) c.shared_slice_known-1.given in by)) ((let peer-read-read : read_at u32 (c.args.row.now) ((field-yes (start).so ((let peer-acked-took : Took u32 (c.args.row.now) (c.args.at) c.peer_acked-1.given.0.0 c.peer_acked-1.given.0.1.0 = took _ _ u32 (number-lawful 4) ((let by : Bytes (c.args.row.now) = typed (c.args.row.now) c.shared_slice_known-1.given in by)) ((let peer-acked-read : read_at u32 (c.args.row.now) (c.args.at) ≡ takes c.peer_acked-1.given.0.0 c.peer_acked-1.given.0.1.0 = learn u32_says c.u32_at.ensures c.peer_acked-1.given.1 in peer-acked-read)) in peer-acked-took)))).here ≡ takes c.peer_read-1.given.0.0 c.peer_read-1.given.0.1.0 = learn u32_says c.u32_at-2.ensures c.peer_read-1.given.1 in peer-read-read)) in peer-read-took)))).so ((let read-marked-took : Took u32 (c.args.row.now) ((field-yes ((field-yes (start).so ((let peer-acked-took : Took u32 (c.args.row.now) (c.args.at) c.peer_acked-1.given.0.0 c.peer_acked-1.given.0.1.0 = took _ _ u32 (number-lawful 4) ((let by : Bytes (c.args.row.now) = typed (c.args.row.now) c.shared_slice_known-1.given in by)) ((let peer-acked-read : read_at u32 (c.args.row.now) (c.args.at) ≡ takes c.peer_acked-1.given.0.0 c.peer_acked-1.given.0.1.0 = learn u32_says c.u32_at.ensures c.peer_acked-1.given.1 in peer-acked-read)) in peer-acked-took)))).so ((let peer-read-took : Took u32 (c.args.row.now) ((field-yes (start).so ((let peer-acked-took : Took u32 (c.args.row.now) (c.args.at) c.peer_acked-1.given.0.0 c.peer_acked-1.given.0.1.0 = took _ _ u32 (number-lawful 4) ((let by : Bytes (c.args.row.now) = typed (c.args.row.now) c.shared_slice_known-1.given in by)) ((let peer-acked-read : read_at u32 (c.args.row.now) (c.args.at) ≡ takes c.peer_acked-1.given.0.0 c.peer_acked-1.given.0.1.0 = learn u32_says c.u32_at.ensures c.peer_acked-1.given.1 in peer-acked-read)) in peer-acked-took)))).here c.peer_read-1.given.0.0 c.peer_read-1.given.0.1.0 = took _ _ u32 (number-lawful 4) ((let by : Bytes (c.args.row.now) = typed (c.args.row.now) c.shared_slice_known-1.given in by)) ((let peer-read-read : read_at u32 (c.args.row.now) ((field-yes (start).so ((let peer-acked-took : Took u32 (c.args.row.now) (c.args.at) c.peer_acked-1.given.0.0 c.peer_acked-1.given.0.1.0 = took _ _ u32 (number-lawful 4) ((let by : Bytes (c.args.row.now) = typed (c.args.row.now) c.shared_slice_known-1.given in by)) ((let peer-acked-read : read_at u32 (c.args.row.now) (c.args.at) ≡ takes c.peer_acked-1.given.0.0 c.peer_acked-1.given.0.1.0 = learn u32_says c.u32_at.ensures c.peer_acked-1.given.1 in peer-acked-read)) in peer-acked-took)))).here ≡ takes c.peer_read-1.given.0.0 c.peer_read-1.given.0.1.0 = learn u32_says c.u32_at-2.ensures c.peer_read-1.given.1 in peer-read-read)) in peer-read-took)))).here c.read_marked-1.given.0.0 c.read_marked-1.given.0.1.0 = took _ _ u32 (number-lawful 4) ((let by : Bytes (c.args.row.now) = typed (c.args.row.now) c.shared_slice_known-1.given in by)) ((let read-marked-read : read_at u32 (c.args.row.now) ((field-yes ((field-yes (start).so ((let peer-acked-took : Took u32 (c.args.row.now) (c.args.at) c.peer_acked-1.given.0.0 c.peer_acked-1.given.0.1.0 = took _ _ u32 (number-lawful 4) ((let by : Bytes (c.args.row.now) = typed (c.args.row.now) c.shared_slice_known-1.given in by)) ((let peer-acked-read : read_at u32 (c.args.row.now) (c.args.at) ≡ takes c.peer_acked-1.given.0.0 c.peer_acked-1.given.0.1.0 = learn u32_says c.u32_at.ensures c.peer_acked-1.given.1 in peer-acked-read)) in peer-acked-took)))).so ((let peer-read-took : Took u32 (c.args.row.now) ((field-yes (start).so ((let peer-acked-took : Took u32 (c.args.row.now) (c.args.at) c.peer_acked-1.given.0.0 c.peer_acked-1.given.0.1.0 = took _ _ u32 (number-lawful 4) ((let by : Bytes (c.args.row.now) = typed (c.args.row.now) c.shared_slice_known-1.given in by)) ((let peer-acked-read : read_at u32 (c.args.row.now) (c.args.at) ≡ takes c.peer_acked-1.given.0.0 c.peer_acked-1.given.0.1.0 = learn u32_says c.u32_at.ensures c.peer_acked-1.given.1 in peer-acked-read)) in peer-acked-took)))).here c.peer_read-1.given.0.0 c.peer_read-1.given.0.1.0 = took _ _ u32 (number-lawful 4) ((let by : Bytes (c.args.row.now) = typed (c.args.row.now) c.shared_slice_known-1.given in by)) ((let peer-read-read : read_at u32 (c.args.row.now) ((field-yes (start).so ((let peer-acked-took : Took u32 (c.args.row.now) (c.args.at) c.peer_acked-1.given.0.0 c.peer_acked-1.given.0.1.0 = took _ _ u32 (number-lawful 4) ((let by : Bytes (c.args.row.now) = typed (c.args.row.now) c.shared_slice_known-1.given in by)) ((let peer-acked-read : read_at u32 (c.args.row.now) (c.args.at) ≡ takes c.peer_acked-1.given.0.0 c.peer_acked-1.given.0.1.0 = learn u32_says c.u32_at.ensures c.peer_acked-1.given.1 in peer-acked-read)) in peer-acked-took)))).here ≡ takes c.peer_read-1.given.0.0 c.peer_read-1.given.0.1.0 = learn u32_says c.u32_at-2.ensures c.peer_read-1.given.1 in peer-read-read)) in peer-read-took)))).here ≡ takes c.read_marked-1.given.0.0 c.read_marked-1.given.0.1.0 = learn u32_says c.u32_at-3.ensures c.read_marked-1.given.1 in read-marked-read)) in read-marked-took)))).here c.contiguous-1.given.0.0 c.contiguous-1.given.0.1.0 = took _ _ u32 (number-lawful 4) ((let by : Bytes (c.args.row.now) = typed (c.args.row.now) c.shared_slice_known-1.given in by)) ((let contiguous-read : read_at u32 (c.args.row.now) ((field-yes ((field-yes ((field-yes (start).so ((let peer-acked-took : Took u32 (c.args.row.now) (c.args.at) c.peer_acked-1.given.0.0 c.peer_acked-1.given.0.1.0 = took _ _ u32 (number-lawful 4) ((let by : Bytes (c.args.row.now) = typed (c.args.row.now) c.shared_slice_known-1.given in by)) ((let peer-acked-read : read_at u32 (c.args.row.now) (c.args.at) ≡ takes c.peer_acked-1.given.0.0 c.peer_acked-1.given.0.1.0 = learn u32_says c.u32_at.ensures c.peer_acked-1.given.1 in peer-acked-read)) in peer-acked-took)))).so ((let peer-read-took : Took u32 (c.args.row.now) ((field-yes (start).so ((let peer-acked-took : Took u32 (c.args.row.now) (c.args.at) c.peer_acked-1.given.0.0 c.peer_acked-1.given.0.1.0 = took _ _ u32 (number-lawful 4) ((let by : Bytes (c.args.row.now) = typed (c.args.row.now) c.shared_slice_known-1.given in by)) ((let peer-acked-read : read_at u32 (c.args.row.now) (c.args.at) ≡ takes c.peer_acked-1.given.0.0 c.peer_acked-1.given.0.1.0 = learn u32_says c.u32_at.ensures c.peer_acked-1.given.1 in peer-acked-read)) in peer-acked-took)))).here c.peer_read-1.given.0.0 c.peer_read-1.given.0.1.0 = took _ _ u32 (number-lawful 4) ((let by : Bytes (c.args.row.now) = typed (c.args.row.now) c.shared_slice_known-1.given in by)) ((let peer-read-read : read_at u32 (c.args.row.now) ((field-yes (start).so ((let peer-acked-took : Took u32 (c.args.row.now) (c.args.at) c.peer_acked-1.given.0.0 c.peer_acked-1.given.0.1.0 = took _ _ u32 (number-lawful 4) ((let by : Bytes (c.args.row.now) = typed (c.args.row.now) c.shared_slice_known-1.given in by)) ((let peer-acked-read : read_at u32 (c.args.row.now) (c.args.at) ≡ takes c.peer_acked-1.given.0.0 c.peer_acked-1.given.0.1.0 = learn u32_says c.u32_at.ensures c.peer_acked-1.given.1 in peer-acked-read)) in peer-acked-took)))).here ≡ takes c.peer_read-1.given.0.0 c.peer_read-1.given.0.1.0 = learn u32_says c.u32_at-2.ensures c.peer_read-1.given.1 in peer-read-read)) in peer-read-took)))).so ((let read-marked-took : Took u32 (c.args.row.now) ((field-yes ((field-yes (start).so ((let peer-acked-took : Took u32 (c.args.row.now) (c.args.at) c.peer_acked-1.given.0.0 c.peer_acked-1.given.0.1.0 = took _ _ u32 (number-lawful 4) ((let by : Bytes (c.args.row.now) = typed (c.args.row.now) c.shared_slice_known-1.given in by)) ((let peer-acked-read : read_at u32 (c.args.row.now) (c.args.at) ≡ takes c.peer_acked-1.given.0.0 c.peer_acked-1.given.0.1.0 = learn u32_says c.u32_at.ensures c.peer_acked-1.given.1 in peer-acked-read)) in peer-acked-took)))).so ((let peer-read-took : Took u32 (c.args.row.now) ((field-yes (start).so ((let peer-acked-took : Took u32 (c.args.row.now) (c.args.at) c.peer_acked-1.given.0.0 c.peer_acked-1.given.0.1.0 = took _ _ u32 (number-lawful 4) ((let by : Bytes (c.args.row.now) = typed (c.args.row.now) c.shared_slice_known-1.given in by)) ((let peer-acked-read : read_at u32 (c.args.row.now) (c.args.at) ≡ takes c.peer_acked-1.given.0.0 c.peer_acked-1.given.0.1.0 = learn u32_says c.u32_at.ensures c.peer_acked-1.given.1 in peer-acked-read)) in peer-acked-took)))).here c.peer_read-1.given.0.0 c.peer_read-1.given.0.1.0 = took _ _ u32 (number-lawful 4) ((let by : Bytes (c.args.row.now) = typed (c.args.row.now) c.shared_slice_known-1.given in by)) ((let peer-read-read : read_at u32 (c.args.row.now) ((field-yes (start).so ((let peer-acked-took : Took u32 (c.args.row.now) (c.args.at) c.peer_acked-1.given.0.0 c.peer_acked-1.given.0.1.0 = took _ _ u32 (number-lawful 4) ((let by : Bytes (c.args.row.now) = typed (c.args.row.now) c.shared_slice_known-1.given in by)) ((let peer-acked-read : read_at u32 (c.args.row.now) (c.args.at) ≡ takes c.peer_acked-1.given.0.0 c.peer_acked-1.given.0.1.0 = learn u32_says c.u32_at.ensures c.peer_acked-1.given.1 in peer-acked-read)) in peer-acked-took)))).here ≡ takes c.peer_read-1.given.0.0 c.peer_read-1.given.0.1.0 = learn u32_says c.u32_at-2.ensures c.peer_read-1.given.1 in peer-read-read)) in peer-read-took)))).here c.read_marked-1.given.0.0 c.read_marked-1.given.0.1.0 = took _ _ u32 (number-lawful 4) ((let by : Bytes (c.args.row.now) = typed (c.args.row.now) c.shared_slice_known-1.given in by)) ((let read-marked-read : read_at u32 (c.args.row.now) ((field-yes ((field-yes (start).so ((let peer-acked-took : Took u32 (c.args.row.now) (c.args.at) c.peer_acked-1.given.0.0 c.peer_acked-1.given.0.1.0 = took _ _ u32 (number-lawful 4) ((let by : Bytes (c.args.row.now) = typed (c.args.row.now) c.shared_slice_known-1.given in by)) ((let peer-acked-read : read_at u32 (c.args.row.now) (c.args.at) ≡ takes c.peer_acked-1.given.0.0 c.peer_acked-1.given.0.1.0 = learn u32_says c.u32_at.ensures c.peer_acked-1.given.1 in peer-acked-read)) in peer-acked-took)))).so ((let peer-read-took : Took u32 (c.args.row.now) ((field-yes (start).so ((let peer-acked-took : Took u32 (c.args.row.now) (c.args.at) c.peer_acked-1.given.0.0 c.peer_acked-1.given.0.1.0 = took _ _ u32 (number-lawful 4) ((let by : Bytes (c.args.row.now) = typed (c.args.row.now) c.shared_slice_known-1.given in by)) ((let peer-acked-read : read_at u32 (c.args.row.now) (c.args.at) ≡ takes c.peer_acked-1.given.0.0 c.peer_acked-1.given.0.1.0 = learn u32_says c.u32_at.ensures c.peer_acked-1.given.1 in peer-acked-read)) in peer-acked-took)))).here c.peer_read-1.given.0.0 c.peer_read-1.given.0.1.0 = took _ _ u32 (number-lawful 4) ((let by : Bytes (c.args.row.now) = typed (c.args.row.now) c.shared_slice_known-1.given in by)) ((let peer-read-read : read_at u32 (c.args.row.now) ((field-yes (start).so ((let peer-acked-took : Took u32 (c.args.row.now) (c.args.at) c.peer_acked-1.given.0.0 c.peer_acked-1.given.0.1.0 = took _ _ u32 (number-lawful 4) ((let by : Bytes (c.args.row.now) = typed (c.args.row.now) c.shared_slice_known-1.given in by)) ((let peer-acked-read : read_at u32 (c.args.row.now) (c.args.at) ≡ takes c.peer_acked-1.given.0.0 c.peer_acked-1.given.0.1.0 = learn u32_says c.u32_at.ensures c.peer_acked-1.given.1 in peer-acked-read)) in peer-acked-took)))).here ≡ takes c.peer_read-1.given.0.0 c.peer_read-1.given.0.1.0 = learn u32_says c.u32_at-2.ensures c.peer_read-1.given.1 in peer-read-read)) in peer-read-took)))).here ≡ takes c.read_marked-1.given.0.0 c.read_marked-1.given.0.1.0 = learn u32_says c.u32_at-3.ensures c.read_marked-1.given.1 in read-marked-read)) in read-marked-took)))).here ≡ takes c.contiguous-1.given.0.0 c.contiguous-1.given.0.1.0 = learn u32_says c.u32_at-4.ensures c.contiguous-1.given.1 in contiguous-read)) in contiguous-took)))).so ((let above-took : Took (list (group range)) (c.args.row.now) ((field-yes ((field-yes ((field-yes ((field-yes (start).so ((let peer-acked-took : Took u32 (c.args.row.now) (c.args.at) c.peer_acked-1.given.0.0 c.peer_acked-1.given.0.1.0 = took _ _ u32 (number-lawful 4) ((let by : Bytes (c.args.row.now) = typed (c.args.row.now) c.shared_slice_known-1.given in by)) ((let peer-acked-read : read_at u32 (c.args.row.now) (c.args.at) ≡ takes c.peer_acked-1.given.0.0 c.peer_acked-1.given.0.1.0 = learn u32_says c.u32_at.ensures c.peer_acked-1.given.1 in peer-acked-read)) in peer-acked-took)))).so ((let peer-read-took : Took u32 (c.args.row.now) ((field-yes (start).so ((let peer-acked-took : Took u32 (c.args.row.now) (c.args.at) c.peer_acked-1.given.0.0 c.peer_acked-1.given.0.1.0 = took _ _ u32 (number-lawful 4) ((let by : Bytes (c.args.row.now) = typed (c.args.row.now) c.shared_slice_known-1.given in by)) ((let peer-acked-read : read_at u32 (c.args.row.now) (c.args.at) ≡ takes c.peer_acked-1.given.0.0 c.peer_acked-1.given.0.1.0 = learn u32_says c.u32_at.ensures c.peer_acked-1.given.1 in peer-acked-read)) in peer-acked-took)))).here c.peer_read-1.given.0.0 c.peer_read-1.given.0.1.0 = took _ _ u32 (number-lawful 4) ((let by : Bytes (c.args.row.now) = typed (c.args.row.now) c.shared_slice_known-1.given in by)) ((let peer-read-read : read_at u32 (c.args.row.now) ((field-yes (start).so ((let peer-acked-took : Took u32 (c.args.row.now) (c.args.at) c.peer_acked-1.given.0.0 c.peer_acked-1.given.0.1.0 = took _ _ u32 (number-lawful 4) ((let by : Bytes (c.args.row.now) = typed (c.args.row.now) c.shared_slice_known-1.given in by)) ((let peer-acked-read : read_at u32 (c.args.row.now) (c.args.at) ≡ takes c.peer_acked-1.given.0.0 c.peer_acked-1.given.0.1.0 = learn u32_says c.u32_at.ensures c.peer_acked-1.given.1 in peer-acked-read)) in peer-acked-took)))).here ≡ takes c.peer_read-1.given.0.0 c.peer_read-1.given.0.1.0 = learn u32_says c.u32_at-2.ensures c.peer_read-1.given.1 in peer-read-read)) in peer-read-took)))).so ((let read-marked-took : Took u32 (c.args.row.now) ((field-yes ((field-yes (start).so ((let peer-acked-took : Took u32 (c.args.row.now) (c.args.at) c.peer_acked-1.given.0.0 c.peer_acked-1.given.0.1.0 = took _ _ u32 (number-lawful 4) ((let by : Bytes (c.args.row.now) = typed (c.args.row.now) c.shared_slice_known-1.given in by)) ((let peer-acked-read : read_at u32 (c.args.row.now) (c.args.at) ≡ takes c.peer_acked-1.given.0.0 c.peer_acked-1.given.0.1.0 = learn u32_says c.u32_at.ensures c.peer_acked-1.given.1 in peer-acked-read)) in peer-acked-took)))).so ((let peer-read-took : Took u32 (c.args.row.now) ((field-yes (start).so ((let peer-acked-took : Took u32 (c.args.row.now) (c.args.at) c.peer_acked-1.given.0.0 c.peer_acked-1.given.0.1.0 = took _ _ u32 (number-lawful 4) ((let by : Bytes (c.args.row.now) = typed (c.args.row.now) c.shared_slice_known-1.given in by)) ((let peer-acked-read : read_at u32 (c.args.row.now) (c.args.at) ≡ takes c.peer_acked-1.given.0.0 c.peer_acked-1.given.0.1.0 = learn u32_says c.u32_at.ensures c.peer_acked-1.given.1 in peer-acked-read)) in peer-acked-took)))).here c.peer_read-1.given.0.0 c.peer_read-1.given.0.1.0 = took _ _ u32 (number-lawful 4) ((let by : Bytes (c.args.row.now) = typed (c.args.row.now) c.shared_slice_known-1.given in by)) ((let peer-read-read : read_at u32 (c.args.row.now) ((field-yes (start).so ((let peer-acked-took : Took u32 (c.args.row.now) (c.args.at) c.peer_acked-1.given.0.0 c.peer_acked-1.given.0.1.0 = took _ _ u32 (number-lawful 4) ((let by : Bytes (c.args.row.now) = typed (c.args.row.now) c.shared_slice_known-1.given in by)) ((let peer-acked-read : read_at u32 (c.args.row.now) (c.args.at) ≡ takes c.peer_acked-1.given.0.0 c.peer_acked-1.given.0.1.0 = learn u32_says c.u32_at.ensures c.peer_acked-1.given.1 in peer-acked-read)) in peer-acked-took)))).here ≡ takes c.peer_read-1.given.0.0 c.peer_read-1.given.0.1.0 = learn u32_says c.u32_at-2.ensures c.peer_read-1.given.1 in peer-read-read)) in peer-read-took)))).here c.read_marked-1.given.0.0 c.read_marked-1.given.0.1.0 = took _ _ u32 (number-lawful 4) ((let by : Bytes (c.args.row.now) = typed (c.args.row.now) c.shared_slice_known-1.given in by)) ((let read-marked-read : read_at u32 (c.args.row.now) ((field-yes ((field-yes (start).so ((let peer-acked-took : Took u32 (c.args.row.now) (c.args.at) c.peer_acked-1.given.0.0 c.peer_acked-1.given.0.1.0 = took _ _ u32 (number-lawful 4) ((let by : Bytes (c.args.row.now) = typed (c.args.row.now) c.shared_slice_known-1.given in by)) ((let peer-acked-read : read_at u32 (c.args.row.now) (c.args.at) ≡ takes c.peer_acked-1.given.0.0 c.peer_acked-1.given.0.1.0 = learn u32_says c.u32_at.ensures c.peer_acked-1.given.1 in peer-acked-read)) in peer-acked-took)))).so ((let peer-read-took : Took u32 (c.args.row.now) ((field-yes (start).so ((let peer-acked-took : Took u32 (c.args.row.now) (c.args.at) c.peer_acked-1.given.0.0 c.peer_acked-1.given.0.1.0 = took _ _ u32 (number-lawful 4) ((let by : Bytes (c.args.row.now) = typed (c.args.row.now) c.shared_slice_known-1.given in by)) ((let peer-acked-read : read_at u32 (c.args.row.now) (c.args.at) ≡ takes c.peer_acked-1.given.0.0 c.peer_acked-1.given.0.1.0 = learn u32_says c.u32_at.ensures c.peer_acked-1.given.1 in peer-acked-read)) in peer-acked-took)))).here c.peer_read-1.given.0.0 c.peer_read-1.given.0.1.0 = took _ _ u32 (number-lawful 4) ((let by : Bytes (c.args.row.now) = typed (c.args.row.now) c.shared_slice_known-1.given in by)) ((let peer-read-read : read_at u32 (c.args.row.now) ((field-yes (start).so ((let peer-acked-took : Took u32 (c.args.row.now) (c.args.at) c.peer_acked-1.given.0.0 c.peer_acked-1.given.0.1.0 = took _ _ u32 (number-lawful 4) ((let by : Bytes (c.args.row.now) = typed (c.args.row.now) c.shared_slice_known-1.given in by)) ((let peer-acked-read : read_at u32 (c.args.row.now) (c.args.at) ≡ takes c.peer_acked-1.given.0.0 c.peer_acked-1.given.0.1.0 = learn u32_says c.u32_at.ensures c.peer_acked-1.given.1 in peer-acked-read)) in peer-acked-took)))).here ≡ takes c.peer_read-1.given.0.0 c.peer_read-1.given.0.1.0 = learn u32_says c.u32_at-2.ensures c.peer_read-1.given.1 in peer-read-read)) in peer-read-took)))).here ≡ takes c.read_marked-1.given.0.0 c.read_marked-1.given.0.1.0 = learn u32_says c.u32_at-3.ensures c.read_marked-1.given.1 in read-marked-read)) in read-marked-took)))).so ((let contiguous-took : Took u32 (c.args.row.now) ((field-yes ((field-yes ((field-yes (start).so ((let peer-acked-took : Took u32 (c.args.row.now) (c.args.at) c.peer_acked-1.given.0.0 c.peer_acked-1.given.0.1.0 = took _ _ u32 (number-lawful 4) ((let by : Bytes (c.args.row.now) = typed (c.args.row.now) c.shared_slice_known-1.given in by)) ((let peer-acked-read : read_at u32 (c.args.row.now) (c.args.at) ≡ takes c.peer_acked-1.given.0.0 c.peer_acked-1.given.0.1.0 = learn u32_says c.u32_at.ensures c.peer_acked-1.given.1 in peer-acked-read)) in peer-acked-took)))).so ((let peer-read-took : Took u32 (c.args.row.now) ((field-yes (start).so ((let peer-acked-took : Took u32 (c.args.row.now) (c.args.at) c.peer_acked-1.given.0.0 c.peer_acked-1.given.0.1.0 = took _ _ u32 (number-lawful 4) ((let by : Bytes (c.args.row.now) = typed (c.args.row.now) c.shared_slice_known-1.given in by)) ((let peer-acked-read : read_at u32 (c.args.row.now) (c.args.at) ≡ takes c.peer_acked-1.given.0.0 c.peer_acked-1.given.0.1.0 = learn u32_says c.u32_at.ensures c.peer_acked-1.given.1 in peer-acked-read)) in peer-acked-took)))).here c.peer_read-1.given.0.0 c.peer_read-1.given.0.1.0 = took _ _ u32 (number-lawful 4) ((let by : Bytes (c.args.row.now) = typed (c.args.row.now) c.shared_slice_known-1.given in by)) ((let peer-read-read : read_at u32 (c.args.row.now) ((field-yes (start).so ((let peer-acked-took : Took u32 (c.args.row.now) (c.args.at) c.peer_acked-1.given.0.0 c.peer_acked-1.given.0.1.0 = took _ _ u32 (number-lawful 4) ((let by : Bytes (c.args.row.now) = typed (c.args.row.now) c.shared_slice_known-1.given in by)) ((let peer-acked-read : read_at u32 (c.args.row.now) (c.args.at) ≡ takes c.peer_acked-1.given.0.0 c.peer_acked-1.given.0.1.0 = learn u32_says c.u32_at.ensures c.peer_acked-1.given.1 in peer-acked-read)) in peer-acked-took)))).here ≡ takes c.peer_read-1.given.0.0 c.peer_read-1.given.0.1.0 = learn u32_says c.u32_at-2.ensures c.peer_read-1.given.1 in peer-read-read)) in peer-read-took)))).so ((let read-marked-took : Took u32 (c.args.row.now) ((field-yes ((field-yes (start).so ((let peer-acked-took : Took u32 (c.args.row.now) (c.args.at) c.peer_acked-1.given.0.0 c.peer_acked-1.given.0.1.0 = took _ _ u32 (number-lawful 4) ((let by : Bytes (c.args.row.now) = typed (c.args.row.now) c.shared_slice_known-1.given in by)) ((let peer-acked-read : read_at u32 (c.args.row.now) (c.args.at) ≡ takes c.peer_acked-1.given.0.0 c.peer_acked-1.given.0.1.0 = learn u32_says c.u32_at.ensures c.peer_acked-1.given.1 in peer-acked-read)) in peer-acked-took)))).so ((let peer-read-took : Took u32 (c.args.row.now) ((field-yes (start).so ((let peer-acked-took : Took u32 (c.args.row.now) (c.args.at) c.peer_acked-1.given.0.0 c.peer_acked-1.given.0.1.0 = took _ _ u32 (number-lawful 4) ((let by : Bytes (c.args.row.now) = typed (c.args.row.now) c.shared_slice_known-1.given in by)) ((let peer-acked-read : read_at u32 (c.args.row.now) (c.args.at) ≡ takes c.peer_acked-1.given.0.0 c.peer_acked-1.given.0.1.0 = learn u32_says c.u32_at.ensures c.peer_acked-1.given.1 in peer-acked-read)) in peer-acked-took)))).here c.peer_read-1.given.0.0 c.peer_read-1.given.0.1.0 = took _ _ u32 (number-lawful 4) ((let by : Bytes (c.args.row.now) = typed (c.args.row.now) c.shared_slice_known-1.given in by)) ((let peer-read-read : read_at u32 (c.args.row.now) ((field-yes (start).so ((let peer-acked-took : Took u32 (c.args.row.now) (c.args.at) c.peer_acked-1.given.0.0 c.peer_acked-1.given.0.1.0 = took _ _ u32 (number-lawful 4) ((let by : Bytes (c.args.row.now) = typed (c.args.row.now) c.shared_slice_known-1.given in by)) ((let peer-acked-read : read_at u32 (c.args.row.now) (c.args.at) ≡ takes c.peer_acked-1.given.0.0 c.peer_acked-1.given.0.1.0 = learn u32_says c.u32_at.ensures c.peer_acked-1.given.1 in peer-acked-read)) in peer-acked-took)))).here ≡ takes c.peer_read-1.given.0.0 c.peer_read-1.given.0.1.0 = learn u32_says c.u32_at-2.ensures c.peer_read-1.given.1 in peer-read-read)) in peer-read-took)))).here c.read_marked-1.given.0.0 c.read_marked-1.given.0.1.0 = took _ _ u32 (number-lawful 4) ((let by : Bytes (c.args.row.now) = typed (c.args.row.now) c.shared_slice_known-1.given in by)) ((let read-marked-read : read_at u32 (c.args.row.now) ((field-yes ((field-yes (start).so ((let peer-acked-took : Took u32 (c.args.row.now) (c.args.at) c.peer_acked-1.given.0.0 c.peer_acked-1.given.0.1.0 = took _ _ u32 (number-lawful 4) ((let by : Bytes (c.args.row.now) = typed (c.args.row.now) c.shared_slice_known-1.given in by)) ((let peer-acked-read : read_at u32 (c.args.row.now) (c.args.at) ≡ takes c.peer_acked-1.given.0.0 c.peer_acked-1.given.0.1.0 = learn u32_says c.u32_at.ensures c.peer_acked-1.given.1 in peer-acked-read)) in peer-acked-took)))).so ((let peer-read-took : Took u32 (c.args.row.now) ((field-yes (start).so ((let peer-acked-took : Took u32 (c.args.row.now) (c.args.at) c.peer_acked-1.given.0.0 c.peer_acked-1.given.0.1.0 = took _ _ u32 (number-lawful 4) ((let by : Bytes (c.args.row.now) = typed (c.args.row.now) c.shared_slice_known-1.given in by)) ((let peer-acked-read : read_at u32 (c.args.row.now) (c.args.at) ≡ takes c.peer_acked-1.given.0.0 c.peer_acked-1.given.0.1.0 = learn u32_says c.u32_at.ensures c.peer_acked-1.given.1 in peer-acked-read)) in peer-acked-took)))).here c.peer_read-1.given.0.0 c.peer_read-1.given.0.1.0 = took _ _ u32 (number-lawful 4) ((let by : Bytes (c.args.row.now) = typed (c.args.row.now) c.shared_slice_known-1.given in by)) ((let peer-read-read : read_at u32 (c.args.row.now) ((field-yes (start).so ((let peer-acked-took : Took u32 (c.args.row.now) (c.args.at) c.peer_acked-1.given.0.0 c.peer_acked-1.given.0.1.0 = took _ _ u32 (number-lawful 4) ((let by : Bytes (c.args.row.now) = typed (c.args.row.now) c.shared_slice_known-1.given in by)) ((let peer-acked-read : read_at u32 (c.args.row.now) (c.args.at) ≡ takes c.peer_acked-1.given.0.0 c.peer_acked-1.given.0.1.0 = learn u32_says c.u32_at.ensures c.peer_acked-1.given.1 in peer-acked-read)) in peer-acked-took)))).here ≡ takes c.peer_read-1.given.0.0 c.peer_read-1.given.0.1.0 = learn u32_says c.u32_at-2.ensures c.peer_read-1.given.1 in peer-read-read)) in peer-read-took)))).here ≡ takes c.read_marked-1.given.0.0 c.read_marked-1.given.0.1.0 = learn u32_says c.u32_at-3.ensures c.read_marked-1.given.1 in read-marked-read)) in read-marked-took)))).here c.contiguous-1.given.0.0 c.contiguous-1.given.0.1.0 = took _ _ u32 (number-lawful 4) ((let by : Bytes (c.args.row.now) = typed (c.args.row.now) c.shared_slice_known-1.given in by)) ((let contiguous-read : read_at u32 (c.args.row.now) ((field-yes ((field-yes ((field-yes (start).so ((let peer-acked-took : Took u32 (c.args.row.now) (c.args.at) c.peer_acked-1.given.0.0 c.peer_acked-1.given.0.1.0 = took _ _ u32 (number-lawful 4) ((let by : Bytes (c.args.row.now) = typed (c.args.row.now) c.shared_slice_known-1.given in by)) ((let peer-acked-read : read_at u32 (c.args.row.now) (c.args.at) ≡ takes c.peer_acked-1.given.0.0 c.peer_acked-1.given.0.1.0 = learn u32_says c.u32_at.ensures c.peer_acked-1.given.1 in peer-acked-read)) in peer-acked-took)))).so ((let peer-read-took : Took u32 (c.args.row.now) ((field-yes (start).so ((let peer-acked-took : Took u32 (c.args.row.now) (c.args.at) c.peer_acked-1.given.0.0 c.peer_acked-1.given.0.1.0 = took _ _ u32 (number-lawful 4) ((let by : Bytes (c.args.row.now) = typed (c.args.row.now) c.shared_slice_known-1.given in by)) ((let peer-acked-read : read_at u32 (c.args.row.now) (c.args.at) ≡ takes c.peer_acked-1.given.0.0 c.peer_acked-1.given.0.1.0 = learn u32_says c.u32_at.ensures c.peer_acked-1.given.1 in peer-acked-read)) in peer-acked-took)))).here c.peer_read-1.given.0.0 c.peer_read-1.given.0.1.0 = took _ _ u32 (number-lawful 4) ((let by : Bytes (c.args.row.now) = typed (c.args.row.now) c.shared_slice_known-1.given in by)) ((let peer-read-read : read_at u32 (c.args.row.now) ((field-yes (start).so ((let peer-acked-took : Took u32 (c.args.row.now) (c.args.at) c.peer_acked-1.given.0.0 c.peer_acked-1.given.0.1.0 = took _ _ u32 (number-lawful 4) ((let by : Bytes (c.args.row.now) = typed (c.args.row.now) c.shared_slice_known-1.given in by)) ((let peer-acked-read : read_at u32 (c.args.row.now) (c.args.at) ≡ takes c.peer_acked-1.given.0.0 c.peer_acked-1.given.0.1.0 = learn u32_says c.u32_at.ensures c.peer_acked-1.given.1 in peer-acked-read)) in peer-acked-took)))).here ≡ takes c.peer_read-1.given.0.0 c.peer_read-1.given.0.1.0 = learn u32_says c.u32_at-2.ensures c.peer_read-1.given.1 in peer-read-read)) in peer-read-took)))).so ((let read-marked-took : Took u32 (c.args.row.now) ((field-yes ((field-yes (start).so ((let peer-acked-took : Took u32 (c.args.row.now) (c.args.at) c.peer_acked-1.given.0.0 c.peer_acked-1.given.0.1.0 = took _ _ u32 (number-lawful 4) ((let by : Bytes (c.args.row.now) = typed (c.args.row.now) c.shared_slice_known-1.given in by)) ((let peer-acked-read : read_at u32 (c.args.row.now) (c.args.at) ≡ takes c.peer_acked-1.given.0.0 c.peer_acked-1.given.0.1.0 = learn u32_says c.u32_at.ensures c.peer_acked-1.given.1 in peer-acked-read)) in peer-acked-took)))).so ((let peer-read-took : Took u32 (c.args.row.now) ((field-yes (start).so ((let peer-acked-took : Took u32 (c.args.row.now) (c.args.at) c.peer_acked-1.given.0.0 c.peer_acked-1.given.0.1.0 = took _ _ u32 (number-lawful 4) ((let by : Bytes (c.args.row.now) = typed (c.args.row.now) c.shared_slice_known-1.given in by)) ((let peer-acked-read : read_at u32 (c.args.row.now) (c.args.at) ≡ takes c.peer_acked-1.given.0.0 c.peer_acked-1.given.0.1.0 = learn u32_says c.u32_at.ensures c.peer_acked-1.given.1 in peer-acked-read)) in peer-acked-took)))).here c.peer_read-1.given.0.0 c.peer_read-1.given.0.1.0 = took _ _ u32 (number-lawful 4) ((let by : Bytes (c.args.row.now) = typed (c.args.row.now) c.shared_slice_known-1.given in by)) ((let peer-read-read : read_at u32 (c.args.row.now) ((field-yes (start).so ((let peer-acked-took : Took u32 (c.args.row.now) (c.args.at) c.peer_acked-1.given.0.0 c.peer_acked-1.given.0.1.0 = took _ _ u32 (number-lawful 4) ((let by : Bytes (c.args.row.now) = typed (c.args.row.now) c.shared_slice_known-1.given in by)) ((let peer-acked-read : read_at u32 (c.args.row.now) (c.args.at) ≡ takes c.peer_acked-1.given.0.0 c.peer_acked-1.given.0.1.0 = learn u32_says c.u32_at.ensures c.peer_acked-1.given.1 in peer-acked-read)) in peer-acked-took)))).here ≡ takes c.peer_read-1.given.0.0 c.peer_read-1.given.0.1.0 = learn u32_says c.u32_at-2.ensures c.peer_read-1.given.1 in peer-read-read)) in peer-read-took)))).here c.read_marked-1.given.0.0 c.read_marked-1.given.0.1.0 = took _ _ u32 (number-lawful 4) ((let by : Bytes (c.args.row.now) = typed (c.args.row.now) c.shared_slice_known-1.given in by)) ((let read-marked-read : read_at u32 (c.args.row.now) ((field-yes ((field-yes (start).so ((let peer-acked-took : Took u32 (c.args.row.now) (c.args.at) c.peer_acked-1.given.0.0 c.peer_acked-1.given.0.1.0 = took _ _ u32 (number-lawful 4) ((let by : Bytes (c.args.row.now) = typed (c.args.row.now) c.shared_slice_known-1.given in by)) ((let peer-acked-read : read_at u32 (c.args.row.now) (c.args.at) ≡ takes c.peer_acked-1.given.0.0 c.peer_acked-1.given.0.1.0 = learn u32_says c.u32_at.ensures c.peer_acked-1.given.1 in peer-acked-read)) in peer-acked-took)))).so ((let peer-read-took : Took u32 (c.args.row.now) ((field-yes (start).so ((let peer-acked-took : Took u32 (c.args.row.now) (c.args.at) c.peer_acked-1.given.0.0 c.peer_acked-1.given.0.1.0 = took _ _ u32 (number-lawful 4) ((let by : Bytes (c.args.row.now) = typed (c.args.row.now) c.shared_slice_known-1.given in by)) ((let peer-acked-read : read_at u32 (c.args.row.now) (c.args.at) ≡ takes c.peer_acked-1.given.0.0 c.peer_acked-1.given.0.1.0 = learn u32_says c.u32_at.ensures c.peer_acked-1.given.1 in peer-acked-read)) in peer-acked-took)))).here c.peer_read-1.given.0.0 c.peer_read-1.given.0.1.0 = took _ _ u32 (number-lawful 4) ((let by : Bytes (c.args.row.now) = typed (c.args.row.now) c.shared_slice_known-1.given in by)) ((let peer-read-read : read_at u32 (c.args.row.now) ((field-yes (start).so ((let peer-acked-took : Took u32 (c.args.row.now) (c.args.at) c.peer_acked-1.given.0.0 c.peer_acked-1.given.0.1.0 = took _ _ u32 (number-lawful 4) ((let by : Bytes (c.args.row.now) = typed (c.args.row.now) c.shared_slice_known-1.given in by)) ((let peer-acked-read : read_at u32 (c.args.row.now) (c.args.at) ≡ takes c.peer_acked-1.given.0.0 c.peer_acked-1.given.0.1.0 = learn u32_says c.u32_at.ensures c.peer_acked-1.given.1 in peer-acked-read)) in peer-acked-took)))).here ≡ takes c.peer_read-1.given.0.0 c.peer_read-1.given.0.1.0 = learn u32_says c.u32_at-2.ensures c.peer_read-1.given.1 in peer-read-read)) in peer-read-took)))).here ≡ takes c.read_marked-1.given.0.0 c.read_marked-1.given.0.1.0 = learn u32_says c.u32_at-3.ensures c.read_marked-1.given.1 in read-marked-read)) in read-marked-took)))).here ≡ takes c.contiguous-1.given.0.0 c.contiguous-1.given.0.1.0 = learn u32_says c.u32_at-4.ensures c.contiguous-1.given.1 in contiguous-read)) in contiguous-took)))).here (list_in (group range) (c.args.row.now) c.above_field-1.given.0.0) c.above_field-1.given.0.0.next = list-took (group range) range-lawful (c.args.row.now) ((let by : Bytes (c.args.row.now) = typed (c.args.row.now) c.shared_slice_known-1.given in by)) _ c.ranges_at-above_field.ensures c.above_field-1.given.1 in above-took)))).so ((let unacked-took : Took (list u32) (c.args.row.now) ((field-yes ((field-yes ((field-yes ((field-yes ((field-yes (start).so ((let peer-acked-took : Took u32 (c.args.row.now) (c.args.at) c.peer_acked-1.given.0.0 c.peer_acked-1.given.0.1.0 = took _ _ u32 (number-lawful 4) ((let by : Bytes (c.args.row.now) = typed (c.args.row.now) c.shared_slice_known-1.given in by)) ((let peer-acked-read : read_at u32 (c.args.row.now) (c.args.at) ≡ takes c.peer_acked-1.given.0.0 c.peer_acked-1.given.0.1.0 = learn u32_says c.u32_at.ensures c.peer_acked-1.given.1 in peer-acked-read)) in peer-acked-took)))).so ((let peer-read-took : Took u32 (c.args.row.now) ((field-yes (start).so ((let peer-acked-took : Took u32 (c.args.row.now) (c.args.at) c.peer_acked-1.given.0.0 c.peer_acked-1.given.0.1.0 = took _ _ u32 (number-lawful 4) ((let by : Bytes (c.args.row.now) = typed (c.args.row.now) c.shared_slice_known-1.given in by)) ((let peer-acked-read : read_at u32 (c.args.row.now) (c.args.at) ≡ takes c.peer_acked-1.given.0.0 c.peer_acked-1.given.0.1.0 = learn u32_says c.u32_at.ensures c.peer_acked-1.given.1 in peer-acked-read)) in peer-acked-took)))).here c.peer_read-1.given.0.0 c.peer_read-1.given.0.1.0 = took _ _ u32 (number-lawful 4) ((let by : Bytes (c.args.row.now) = typed (c.args.row.now) c.shared_slice_known-1.given in by)) ((let peer-read-read : read_at u32 (c.args.row.now) ((field-yes (start).so ((let peer-acked-took : Took u32 (c.args.row.now) (c.args.at) c.peer_acked-1.given.0.0 c.peer_acked-1.given.0.1.0 = took _ _ u32 (number-lawful 4) ((let by : Bytes (c.args.row.now) = typed (c.args.row.now) c.shared_slice_known-1.given in by)) ((let peer-acked-read : read_at u32 (c.args.row.now) (c.args.at) ≡ takes c.peer_acked-1.given.0.0 c.peer_acked-1.given.0.1.0 = learn u32_says c.u32_at.ensures c.peer_acked-1.given.1 in peer-acked-read)) in peer-acked-took)))).here ≡ takes c.peer_read-1.given.0.0 c.peer_read-1.given.0.1.0 = learn u32_says c.u32_at-2.ensures c.peer_read-1.given.1 in peer-read-read)) in peer-read-took)))).so ((let read-marked-took : Took u32 (c.args.row.now) ((field-yes ((field-yes (start).so ((let peer-acked-took : Took u32 (c.args.row.now) (c.args.at) c.peer_acked-1.given.0.0 c.peer_acked-1.given.0.1.0 = took _ _ u32 (number-lawful 4) ((let by : Bytes (c.args.row.now) = typed (c.args.row.now) c.shared_slice_known-1.given in by)) ((let peer-acked-read : read_at u32 (c.args.row.now) (c.args.at) ≡ takes c.peer_acked-1.given.0.0 c.peer_acked-1.given.0.1.0 = learn u32_says c.u32_at.ensures c.peer_acked-1.given.1 in peer-acked-read)) in peer-acked-took)))).so ((let peer-read-took : Took u32 (c.args.row.now) ((field-yes (start).so ((let peer-acked-took : Took u32 (c.args.row.now) (c.args.at) c.peer_acked-1.given.0.0 c.peer_acked-1.given.0.1.0 = took _ _ u32 (number-lawful 4) ((let by : Bytes (c.args.row.now) = typed (c.args.row.now) c.shared_slice_known-1.given in by)) ((let peer-acked-read : read_at u32 (c.args.row.now) (c.args.at) ≡ takes c.peer_acked-1.given.0.0 c.peer_acked-1.given.0.1.0 = learn u32_says c.u32_at.ensures c.peer_acked-1.given.1 in peer-acked-read)) in peer-acked-took)))).here c.peer_read-1.given.0.0 c.peer_read-1.given.0.1.0 = took _ _ u32 (number-lawful 4) ((let by : Bytes (c.args.row.now) = typed (c.args.row.now) c.shared_slice_known-1.given in by)) ((let peer-read-read : read_at u32 (c.args.row.now) ((field-yes (start).so ((let peer-acked-took : Took u32 (c.args.row.now) (c.args.at) c.peer_acked-1.given.0.0 c.peer_acked-1.given.0.1.0 = took _ _ u32 (number-lawful 4) ((let by : Bytes (c.args.row.now) = typed (c.args.row.now) c.shared_slice_known-1.given in by)) ((let peer-acked-read : read_at u32 (c.args.row.now) (c.args.at) ≡ takes c.peer_acked-1.given.0.0 c.peer_acked-1.given.0.1.0 = learn u32_says c.u32_at.ensures c.peer_acked-1.given.1 in peer-acked-read)) in peer-acked-took)))).here ≡ takes c.peer_read-1.given.0.0 c.peer_read-1.given.0.1.0 = learn u32_says c.u32_at-2.ensures c.peer_read-1.given.1 in peer-read-read)) in peer-read-took)))).here c.read_marked-1.given.0.0 c.read_marked-1.given.0.1.0 = took _ _ u32 (number-lawful 4) ((let by : Bytes (c.args.row.now) = typed (c.args.row.now) c.shared_slice_known-1.given in by)) ((let read-marked-read : read_at u32 (c.args.row.now) ((field-yes ((field-yes (start).so ((let peer-acked-took : Took u32 (c.args.row.now) (c.args.at) c.peer_acked-1.given.0.0 c.peer_acked-1.given.0.1.0 = took _ _ u32 (number-lawful 4) ((let by : Bytes (c.args.row.now) = typed (c.args.row.now) c.shared_slice_known-1.given in by)) ((let peer-acked-read : read_at u32 (c.args.row.now) (c.args.at) ≡ takes c.peer_acked-1.given.0.0 c.peer_acked-1.given.0.1.0 = learn u32_says c.u32_at.ensures c.peer_acked-1.given.1 in peer-acked-read)) in peer-acked-took)))).so ((let peer-read-took : Took u32 (c.args.row.now) ((field-yes (start).so ((let peer-acked-took : Took u32 (c.args.row.now) (c.args.at) c.peer_acked-1.given.0.0 c.peer_acked-1.given.0.1.0 = took _ _ u32 (number-lawful 4) ((let by : Bytes (c.args.row.now) = typed (c.args.row.now) c.shared_slice_known-1.given in by)) ((let peer-acked-read : read_at u32 (c.args.row.now) (c.args.at) ≡ takes c.peer_acked-1.given.0.0 c.peer_acked-1.given.0.1.0 = learn u32_says c.u32_at.ensures c.peer_acked-1.given.1 in peer-acked-read)) in peer-acked-took)))).here c.peer_read-1.given.0.0 c.peer_read-1.given.0.1.0 = took _ _ u32 (number-lawful 4) ((let by : Bytes (c.args.row.now) = typed (c.args.row.now) c.shared_slice_known-1.given in by)) ((let peer-read-read : read_at u32 (c.args.row.now) ((field-yes (start).so ((let peer-acked-took : Took u32 (c.args.row.now) (c.args.at) c.peer_acked-1.given.0.0 c.peer_acked-1.given.0.1.0 = took _ _ u32 (number-lawful 4) ((let by : Bytes (c.args.row.now) = typed (c.args.row.now) c.shared_slice_known-1.given in by)) ((let peer-acked-read : read_at u32 (c.args.row.now) (c.args.at) ≡ takes c.peer_acked-1.given.0.0 c.peer_acked-1.given.0.1.0 = learn u32_says c.u32_at.ensures c.peer_acked-1.given.1 in peer-acked-read)) in peer-acked-took)))).here ≡ takes c.peer_read-1.given.0.0 c.peer_read-1.given.0.1.0 = learn u32_says c.u32_at-2.ensures c.peer_read-1.given.1 in peer-read-read)) in peer-read-took)))).here ≡ takes c.read_marked-1.given.0.0 c.read_marked-1.given.0.1.0 = learn u32_says c.u32_at-3.ensures c.read_marked-1.given.1 in read-marked-read)) in read-marked-took)))).so ((let contiguous-took : Took u32 (c.args.row.now) ((field-yes ((field-yes ((field-yes (start).so ((let peer-acked-took : Took u32 (c.args.row.now) (c.args.at) c.peer_acked-1.given.0.0 c.peer_acked-1.given.0.1.0 = took _ _ u32 (number-lawful 4) ((let by : Bytes (c.args.row.now) = typed (c.args.row.now) c.shared_slice_known-1.given in by)) ((let peer-acked-read : read_at u32 (c.args.row.now) (c.args.at) ≡ takes c.peer_acked-1.given.0.0 c.peer_acked-1.given.0.1.0 = learn u32_says c.u32_at.ensures c.peer_acked-1.given.1 in peer-acked-read)) in peer-acked-took)))).so ((let peer-read-took : Took u32 (c.args.row.now) ((field-yes (start).so ((let peer-acked-took : Took u32 (c.args.row.now) (c.args.at) c.peer_acked-1.given.0.0 c.peer_acked-1.given.0.1.0 = took _ _ u32 (number-lawful 4) ((let by : Bytes (c.args.row.now) = typed (c.args.row.now) c.shared_slice_known-1.given in by)) ((let peer-acked-read : read_at u32 (c.args.row.now) (c.args.at) ≡ takes c.peer_acked-1.given.0.0 c.peer_acked-1.given.0.1.0 = learn u32_says c.u32_at.ensures c.peer_acked-1.given.1 in peer-acked-read)) in peer-acked-took)))).here c.peer_read-1.given.0.0 c.peer_read-1.given.0.1.0 = took _ _ u32 (number-lawful 4) ((let by : Bytes (c.args.row.now) = typed (c.args.row.now) c.shared_slice_known-1.given in by)) ((let peer-read-read : read_at u32 (c.args.row.now) ((field-yes (start).so ((let peer-acked-took : Took u32 (c.args.row.now) (c.args.at) c.peer_acked-1.given.0.0 c.peer_acked-1.given.0.1.0 = took _ _ u32 (number-lawful 4) ((let by : Bytes (c.args.row.now) = typed (c.args.row.now) c.shared_slice_known-1.given in by)) ((let peer-acked-read : read_at u32 (c.args.row.now) (c.args.at) ≡ takes c.peer_acked-1.given.0.0 c.peer_acked-1.given.0.1.0 = learn u32_says c.u32_at.ensures c.peer_acked-1.given.1 in peer-acked-read)) in peer-acked-took)))).here ≡ takes c.peer_read-1.given.0.0 c.peer_read-1.given.0.1.0 = learn u32_says c.u32_at-2.ensures c.peer_read-1.given.1 in peer-read-read)) in peer-read-took)))).so ((let read-marked-took : Took u32 (c.args.row.now) ((field-yes ((field-yes (start).so ((let peer-acked-took : Took u32 (c.args.row.now) (c.args.at) c.peer_acked-1.given.0.0 c.peer_acked-1.given.0.1.0 = took _ _ u32 (number-lawful 4) ((let by : Bytes (c.args.row.now) = typed (c.args.row.now) c.shared_slice_known-1.given in by)) ((let peer-acked-read : read_at u32 (c.args.row.now) (c.args.at) ≡ takes c.peer_acked-1.given.0.0 c.peer_acked-1.given.0.1.0 = learn u32_says c.u32_at.ensures c.peer_acked-1.given.1 in peer-acked-read)) in peer-acked-took)))).so ((let peer-read-took : Took u32 (c.args.row.now) ((field-yes (start).so ((let peer-acked-took : Took u32 (c.args.row.now) (c.args.at) c.peer_acked-1.given.0.0 c.peer_acked-1.given.0.1.0 = took _ _ u32 (number-lawful 4) ((let by : Bytes (c.args.row.now) = typed (c.args.row.now) c.shared_slice_known-1.given in by)) ((let peer-acked-read : read_at u32 (c.args.row.now) (c.args.at) ≡ takes c.peer_acked-1.given.0.0 c.peer_acked-1.given.0.1.0 = learn u32_says c.u32_at.ensures c.peer_acked-1.given.1 in peer-acked-read)) in peer-acked-took)))).here c.peer_read-1.given.0.0 c.peer_read-1.given.0.1.0 = took _ _ u32 (number-lawful 4) ((let by : Bytes (c.args.row.now) = typed (c.args.row.now) c.shared_slice_known-1.given in by)) ((let peer-read-read : read_at u32 (c.args.row.now) ((field-yes (start).so ((let peer-acked-took : Took u32 (c.args.row.now) (c.args.at) c.peer_acked-1.given.0.0 c.peer_acked-1.given.0.1.0 = took _ _ u32 (number-lawful 4) ((let by : Bytes (c.args.row.now) = typed (c.args.row.now) c.shared_slice_known-1.given in by)) ((let peer-acked-read : read_at u32 (c.args.row.now) (c.args.at) ≡ takes c.peer_acked-1.given.0.0 c.peer_acked-1.given.0.1.0 = learn u32_says c.u32_at.ensures c.peer_acked-1.given.1 in peer-acked-read)) in peer-acked-took)))).here ≡ takes c.peer_read-1.given.0.0 c.peer_read-1.given.0.1.0 = learn u32_says c.u32_at-2.ensures c.peer_read-1.given.1 in peer-read-read)) in peer-read-took)))).here c.read_marked-1.given.0.0 c.read_marked-1.given.0.1.0 = took _ _ u32 (number-lawful 4) ((let by : Bytes (c.args.row.now) = typed (c.args.row.now) c.shared_slice_known-1.given in by)) ((let read-marked-read : read_at u32 (c.args.row.now) ((field-yes ((field-yes (start).so ((let peer-acked-took : Took u32 (c.args.row.now) (c.args.at) c.peer_acked-1.given.0.0 c.peer_acked-1.given.0.1.0 = took _ _ u32 (number-lawful 4) ((let by : Bytes (c.args.row.now) = typed (c.args.row.now) c.shared_slice_known-1.given in by)) ((let peer-acked-read : read_at u32 (c.args.row.now) (c.args.at) ≡ takes c.peer_acked-1.given.0.0 c.peer_acked-1.given.0.1.0 = learn u32_says c.u32_at.ensures c.peer_acked-1.given.1 in peer-acked-read)) in peer-acked-took)))).so ((let peer-read-took : Took u32 (c.args.row.now) ((field-yes (start).so ((let peer-acked-took : Took u32 (c.args.row.now) (c.args.at) c.peer_acked-1.given.0.0 c.peer_acked-1.given.0.1.0 = took _ _ u32 (number-lawful 4) ((let by : Bytes (c.args.row.now) = typed (c.args.row.now) c.shared_slice_known-1.given in by)) ((let peer-acked-read : read_at u32 (c.args.row.now) (c.args.at) ≡ takes c.peer_acked-1.given.0.0 c.peer_acked-1.given.0.1.0 = learn u32_says c.u32_at.ensures c.peer_acked-1.given.1 in peer-acked-read)) in peer-acked-took)))).here c.peer_read-1.given.0.0 c.peer_read-1.given.0.1.0 = took _ _ u32 (number-lawful 4) ((let by : Bytes (c.args.row.now) = typed (c.args.row.now) c.shared_slice_known-1.given in by)) ((let peer-read-read : read_at u32 (c.args.row.now) ((field-yes (start).so ((let peer-acked-took : Took u32 (c.args.row.now) (c.args.at) c.peer_acked-1.given.0.0 c.peer_acked-1.given.0.1.0 = took _ _ u32 (number-lawful 4) ((let by : Bytes (c.args.row.now) = typed (c.args.row.now) c.shared_slice_known-1.given in by)) ((let peer-acked-read : read_at u32 (c.args.row.now) (c.args.at) ≡ takes c.peer_acked-1.given.0.0 c.peer_acked-1.given.0.1.0 = learn u32_says c.u32_at.ensures c.peer_acked-1.given.1 in peer-acked-read)) in peer-acked-took)))).here ≡ takes c.peer_read-1.given.0.0 c.peer_read-1.given.0.1.0 = learn u32_says c.u32_at-2.ensures c.peer_read-1.given.1 in peer-read-read)) in peer-read-took)))).here ≡ takes c.read_marked-1.given.0.0 c.read_marked-1.given.0.1.0 = learn u32_says c.u32_at-3.ensures c.read_marked-1.given.1 in read-marked-read)) in read-marked-took)))).here c.contiguous-1.given.0.0 c.contiguous-1.given.0.1.0 = took _ _ u32 (number-lawful 4) ((let by : Bytes (c.args.row.now) = typed (c.args.row.now) c.shared_slice_known-1.given in by)) ((let contiguous-read : read_at u32 (c.args.row.now) ((field-yes ((field-yes ((field-yes (start).so ((let peer-acked-took : Took u32 (c.args.row.now) (c.args.at) c.peer_acked-1.given.0.0 c.peer_acked-1.given.0.1.0 = took _ _ u32 (number-lawful 4) ((let by : Bytes (c.args.row.now) = typed (c.args.row.now) c.shared_slice_known-1.given in by)) ((let peer-acked-read : read_at u32 (c.args.row.now) (c.args.at) ≡ takes c.peer_acked-1.given.0.0 c.peer_acked-1.given.0.1.0 = learn u32_says c.u32_at.ensures c.peer_acked-1.given.1 in peer-acked-read)) in peer-acked-took)))).so ((let peer-read-took : Took u32 (c.args.row.now) ((field-yes (start).so ((let peer-acked-took : Took u32 (c.args.row.now) (c.args.at) c.peer_acked-1.given.0.0 c.peer_acked-1.given.0.1.0 = took _ _ u32 (number-lawful 4) ((let by : Bytes (c.args.row.now) = typed (c.args.row.now) c.shared_slice_known-1.given in by)) ((let peer-acked-read : read_at u32 (c.args.row.now) (c.args.at) ≡ takes c.peer_acked-1.given.0.0 c.peer_acked-1.given.0.1.0 = learn u32_says c.u32_at.ensures c.peer_acked-1.given.1 in peer-acked-read)) in peer-acked-took)))).here c.peer_read-1.given.0.0 c.peer_read-1.given.0.1.0 = took _ _ u32 (number-lawful 4) ((let by : Bytes (c.args.row.now) = typed (c.args.row.now) c.shared_slice_known-1.given in by)) ((let peer-read-read : read_at u32 (c.args.row.now) ((field-yes (start).so ((let peer-acked-took : Took u32 (c.args.row.now) (c.args.at) c.peer_acked-1.given.0.0 c.peer_acked-1.given.0.1.0 = took _ _ u32 (number-lawful 4) ((let by : Bytes (c.args.row.now) = typed (c.args.row.now) c.shared_slice_known-1.given in by)) ((let peer-acked-read : read_at u32 (c.args.row.now) (c.args.at) ≡ takes c.peer_acked-1.given.0.0 c.peer_acked-1.given.0.1.0 = learn u32_says c.u32_at.ensures c.peer_acked-1.given.1 in peer-acked-read)) in peer-acked-took)))).here ≡ takes c.peer_read-1.given.0.0 c.peer_read-1.given.0.1.0 = learn u32_says c.u32_at-2.ensures c.peer_read-1.given.1 in peer-read-read)) in peer-read-took)))).so ((let read-marked-took : Took u32 (c.args.row.now) ((field-yes ((field-yes (start).so ((let peer-acked-took : Took u32 (c.args.row.now) (c.args.at) c.peer_acked-1.given.0.0 c.peer_acked-1.given.0.1.0 = took _ _ u32 (number-lawful 4) ((let by : Bytes (c.args.row.now) = typed (c.args.row.now) c.shared_slice_known-1.given in by)) ((let peer-acked-read : read_at u32 (c.args.row.now) (c.args.at) ≡ takes c.peer_acked-1.given.0.0 c.peer_acked-1.given.0.1.0 = learn u32_says c.u32_at.ensures c.peer_acked-1.given.1 in peer-acked-read)) in peer-acked-took)))).so ((let peer-read-took : Took u32 (c.args.row.now) ((field-yes (start).so ((let peer-acked-took : Took u32 (c.args.row.now) (c.args.at) c.peer_acked-1.given.0.0 c.peer_acked-1.given.0.1.0 = took _ _ u32 (number-lawful 4) ((let by : Bytes (c.args.row.now) = typed (c.args.row.now) c.shared_slice_known-1.given in by)) ((let peer-acked-read : read_at u32 (c.args.row.now) (c.args.at) ≡ takes c.peer_acked-1.given.0.0 c.peer_acked-1.given.0.1.0 = learn u32_says c.u32_at.ensures c.peer_acked-1.given.1 in peer-acked-read)) in peer-acked-took)))).here c.peer_read-1.given.0.0 c.peer_read-1.given.0.1.0 = took _ _ u32 (number-lawful 4) ((let by : Bytes (c.args.row.now) = typed (c.args.row.now) c.shared_slice_known-1.given in by)) ((let peer-read-read : read_at u32 (c.args.row.now) ((field-yes (start).so ((let peer-acked-took : Took u32 (c.args.row.now) (c.args.at) c.peer_acked-1.given.0.0 c.peer_acked-1.given.0.1.0 = took _ _ u32 (number-lawful 4) ((let by : Bytes (c.args.row.now) = typed (c.args.row.now) c.shared_slice_known-1.given in by)) ((let peer-acked-read : read_at u32 (c.args.row.now) (c.args.at) ≡ takes c.peer_acked-1.given.0.0 c.peer_acked-1.given.0.1.0 = learn u32_says c.u32_at.ensures c.peer_acked-1.given.1 in peer-acked-read)) in peer-acked-took)))).here ≡ takes c.peer_read-1.given.0.0 c.peer_read-1.given.0.1.0 = learn u32_says c.u32_at-2.ensures c.peer_read-1.given.1 in peer-read-read)) in peer-read-took)))).here c.read_marked-1.given.0.0 c.read_marked-1.given.0.1.0 = took _ _ u32 (number-lawful 4) ((let by : Bytes (c.args.row.now) = typed (c.args.row.now) c.shared_slice_known-1.given in by)) ((let read-marked-read : read_at u32 (c.args.row.now) ((field-yes ((field-yes (start).so ((let peer-acked-took : Took u32 (c.args.row.now) (c.args.at) c.peer_acked-1.given.0.0 c.peer_acked-1.given.0.1.0 = took _ _ u32 (number-lawful 4) ((let by : Bytes (c.args.row.now) = typed (c.args.row.now) c.shared_slice_known-1.given in by)) ((let peer-acked-read : read_at u32 (c.args.row.now) (c.args.at) ≡ takes c.peer_acked-1.given.0.0 c.peer_acked-1.given.0.1.0 = learn u32_says c.u32_at.ensures c.peer_acked-1.given.1 in peer-acked-read)) in peer-acked-took)))).so ((let peer-read-took : Took u32 (c.args.row.now) ((field-yes (start).so ((let peer-acked-took : Took u32 (c.args.row.now) (c.args.at) c.peer_acked-1.given.0.0 c.peer_acked-1.given.0.1.0 = took _ _ u32 (number-lawful 4) ((let by : Bytes (c.args.row.now) = typed (c.args.row.now) c.shared_slice_known-1.given in by)) ((let peer-acked-read : read_at u32 (c.args.row.now) (c.args.at) ≡ takes c.peer_acked-1.given.0.0 c.peer_acked-1.given.0.1.0 = learn u32_says c.u32_at.ensures c.peer_acked-1.given.1 in peer-acked-read)) in peer-acked-took)))).here c.peer_read-1.given.0.0 c.peer_read-1.given.0.1.0 = took _ _ u32 (number-lawful 4) ((let by : Bytes (c.args.row.now) = typed (c.args.row.now) c.shared_slice_known-1.given in by)) ((let peer-read-read : read_at u32 (c.args.row.now) ((field-yes (start).so ((let peer-acked-took : Took u32 (c.args.row.now) (c.args.at) c.peer_acked-1.given.0.0 c.peer_acked-1.given.0.1.0 = took _ _ u32 (number-lawful 4) ((let by : Bytes (c.args.row.now) = typed (c.args.row.now) c.shared_slice_known-1.given in by)) ((let peer-acked-read : read_at u32 (c.args.row.now) (c.args.at) ≡ takes c.peer_acked-1.given.0.0 c.peer_acked-1.given.0.1.0 = learn u32_says c.u32_at.ensures c.peer_acked-1.given.1 in peer-acked-read)) in peer-acked-took)))).here ≡ takes c.peer_read-1.given.0.0 c.peer_read-1.given.0.1.0 = learn u32_says c.u32_at-2.ensures c.peer_read-1.given.1 in peer-read-read)) in peer-read-took)))).here ≡ takes c.read_marked-1.given.0.0 c.read_marked-1.given.0.1.0 = learn u32_says c.u32_at-3.ensures c.read_marked-1.given.1 in read-marked-read)) in read-marked-took)))).here ≡ takes c.contiguous-1.given.0.0 c.contiguous-1.given.0.1.0 = learn u32_says c.u32_at-4.ensures c.contiguous-1.given.1 in contiguous-read)) in contiguous-took)))).so ((let above-took : Took (list (group range)) (c.args.row.now) ((field-yes ((field-yes ((field-yes ((field-yes (start).so ((let peer-acked-took : Took u32 (c.args.row.now) (c.args.at) c.peer_acked-1.given.0.0 c.peer_acked-1.given.0.1.0 = took _ _ u32 (number-lawful 4) ((let by : Bytes (c.args.row.now) = typed (c.args.row.now) c.shared_slice_known-1.given in by)) ((let peer-acked-read : read_at u32 (c.args.row.now) (c.args.at) ≡ takes c.peer_acked-1.given.0.0 c.peer_acked-1.given.0.1.0 = learn u32_says c.u32_at.ensures c.peer_acked-1.given.1 in peer-acked-read)) in peer-acked-took)))).so ((let peer-read-took : Took u32 (c.args.row.now) ((field-yes (start).so ((let peer-acked-took : Took u32 (c.args.row.now) (c.args.at) c.peer_acked-1.given.0.0 c.peer_acked-1.given.0.1.0 = took _ _ u32 (number-lawful 4) ((let by : Bytes (c.args.row.now) = typed (c.args.row.now) c.shared_slice_known-1.given in by)) ((let peer-acked-read : read_at u32 (c.args.row.now) (c.args.at) ≡ takes c.peer_acked-1.given.0.0 c.peer_acked-1.given.0.1.0 = learn u32_says c.u32_at.ensures c.peer_acked-1.given.1 in peer-acked-read)) in peer-acked-took)))).here c.peer_read-1.given.0.0 c.peer_read-1.given.0.1.0 = took _ _ u32 (number-lawful 4) ((let by : Bytes (c.args.row.now) = typed (c.args.row.now) c.shared_slice_known-1.given in by)) ((let peer-read-read : read_at u32 (c.args.row.now) ((field-yes (start).so ((let peer-acked-took : Took u32 (c.args.row.now) (c.args.at) c.peer_acked-1.given.0.0 c.peer_acked-1.given.0.1.0 = took _ _ u32 (number-lawful 4) ((let by : Bytes (c.args.row.now) = typed (c.args.row.now) c.shared_slice_known-1.given in by)) ((let peer-acked-read : read_at u32 (c.args.row.now) (c.args.at) ≡ takes c.peer_acked-1.given.0.0 c.peer_acked-1.given.0.1.0 = learn u32_says c.u32_at.ensures c.peer_acked-1.given.1 in peer-acked-read)) in peer-acked-took)))).here ≡ takes c.peer_read-1.given.0.0 c.peer_read-1.given.0.1.0 = learn u32_says c.u32_at-2.ensures c.peer_read-1.given.1 in peer-read-read)) in peer-read-took)))).so ((let read-marked-took : Took u32 (c.args.row.now) ((field-yes ((field-yes (start).so ((let peer-acked-took : Took u32 (c.args.row.now) (c.args.at) c.peer_acked-1.given.0.0 c.peer_acked-1.given.0.1.0 = took _ _ u32 (number-lawful 4) ((let by : Bytes (c.args.row.now) = typed (c.args.row.now) c.shared_slice_known-1.given in by)) ((let peer-acked-read : read_at u32 (c.args.row.now) (c.args.at) ≡ takes c.peer_acked-1.given.0.0 c.peer_acked-1.given.0.1.0 = learn u32_says c.u32_at.ensures c.peer_acked-1.given.1 in peer-acked-read)) in peer-acked-took)))).so ((let peer-read-took : Took u32 (c.args.row.now) ((field-yes (start).so ((let peer-acked-took : Took u32 (c.args.row.now) (c.args.at) c.peer_acked-1.given.0.0 c.peer_acked-1.given.0.1.0 = took _ _ u32 (number-lawful 4) ((let by : Bytes (c.args.row.now) = typed (c.args.row.now) c.shared_slice_known-1.given in by)) ((let peer-acked-read : read_at u32 (c.args.row.now) (c.args.at) ≡ takes c.peer_acked-1.given.0.0 c.peer_acked-1.given.0.1.0 = learn u32_says c.u32_at.ensures c.peer_acked-1.given.1 in peer-acked-read)) in peer-acked-took)))).here c.peer_read-1.given.0.0 c.peer_read-1.given.0.1.0 = took _ _ u32 (number-lawful 4) ((let by : Bytes (c.args.row.now) = typed (c.args.row.now) c.shared_slice_known-1.given in by)) ((let peer-read-read : read_at u32 (c.args.row.now) ((field-yes (start).so ((let peer-acked-took : Took u32 (c.args.row.now) (c.args.at) c.peer_acked-1.given.0.0 c.peer_acked-1.given.0.1.0 = took _ _ u32 (number-lawful 4) ((let by : Bytes (c.args.row.now) = typed (c.args.row.now) c.shared_slice_known-1.given in by)) ((let peer-acked-read : read_at u32 (c.args.row.now) (c.args.at) ≡ takes c.peer_acked-1.given.0.0 c.peer_acked-1.given.0.1.0 = learn u32_says c.u32_at.ensures c.peer_acked-1.given.1 in peer-acked-read)) in peer-acked-took)))).here ≡ takes c.peer_read-1.given.0.0 c.peer_read-1.given.0.1.0 = learn u32_says c.u32_at-2.ensures c.peer_read-1.given.1 in peer-read-read)) in peer-read-took)))).here c.read_marked-1.given.0.0 c.read_marked-1.given.0.1.0 = took _ _ u32 (number-lawful 4) ((let by : Bytes (c.args.row.now) = typed (c.args.row.now) c.shared_slice_known-1.given in by)) ((let read-marked-read : read_at u32 (c.args.row.now) ((field-yes ((field-yes (start).so ((let peer-acked-took : Took u32 (c.args.row.now) (c.args.at) c.peer_acked-1.given.0.0 c.peer_acked-1.given.0.1.0 = took _ _ u32 (number-lawful 4) ((let by : Bytes (c.args.row.now) = typed (c.args.row.now) c.shared_slice_known-1.given in by)) ((let peer-acked-read : read_at u32 (c.args.row.now) (c.args.at) ≡ takes c.peer_acked-1.given.0.0 c.peer_acked-1.given.0.1.0 = learn u32_says c.u32_at.ensures c.peer_acked-1.given.1 in peer-acked-read)) in peer-acked-took)))).so ((let peer-read-took : Took u32 (c.args.row.now) ((field-yes (start).so ((let peer-acked-took : Took u32 (c.args.row.now) (c.args.at) c.peer_acked-1.given.0.0 c.peer_acked-1.given.0.1.0 = took _ _ u32 (number-lawful 4) ((let by : Bytes (c.args.row.now) = typed (c.args.row.now) c.shared_slice_known-1.given in by)) ((let peer-acked-read : read_at u32 (c.args.row.now) (c.args.at) ≡ takes c.peer_acked-1.given.0.0 c.peer_acked-1.given.0.1.0 = learn u32_says c.u32_at.ensures c.peer_acked-1.given.1 in peer-acked-read)) in peer-acked-took)))).here c.peer_read-1.given.0.0 c.peer_read-1.given.0.1.0 = took _ _ u32 (number-lawful 4) ((let by : Bytes (c.args.row.now) = typed (c.args.row.now) c.shared_slice_known-1.given in by)) ((let peer-read-read : read_at u32 (c.args.row.now) ((field-yes (start).so ((let peer-acked-took : Took u32 (c.args.row.now) (c.args.at) c.peer_acked-1.given.0.0 c.peer_acked-1.given.0.1.0 = took _ _ u32 (number-lawful 4) ((let by : Bytes (c.args.row.now) = typed (c.args.row.now) c.shared_slice_known-1.given in by)) ((let peer-acked-read : read_at u32 (c.args.row.now) (c.args.at) ≡ takes c.peer_acked-1.given.0.0 c.peer_acked-1.given.0.1.0 = learn u32_says c.u32_at.ensures c.peer_acked-1.given.1 in peer-acked-read)) in peer-acked-took)))).here ≡ takes c.peer_read-1.given.0.0 c.peer_read-1.given.0.1.0 = learn u32_says c.u32_at-2.ensures c.peer_read-1.given.1 in peer-read-read)) in peer-read-took)))).here ≡ takes c.read_marked-1.given.0.0 c.read_marked-1.given.0.1.0 = learn u32_says c.u32_at-3.ensures c.read_marked-1.given.1 in read-marked-read)) in read-marked-took)))).so ((let contiguous-took : Took u32 (c.args.row.now) ((field-yes ((field-yes ((field-yes (start).so ((let peer-acked-took : Took u32 (c.args.row.now) (c.args.at) c.peer_acked-1.given.0.0 c.peer_acked-1.given.0.1.0 = took _ _ u32 (number-lawful 4) ((let by : Bytes (c.args.row.now) = typed (c.args.row.now) c.shared_slice_known-1.given in by)) ((let peer-acked-read : read_at u32 (c.args.row.now) (c.args.at) ≡ takes c.peer_acked-1.given.0.0 c.peer_acked-1.given.0.1.0 = learn u32_says c.u32_at.ensures c.peer_acked-1.given.1 in peer-acked-read)) in peer-acked-took)))).so ((let peer-read-took : Took u32 (c.args.row.now) ((field-yes (start).so ((let peer-acked-took : Took u32 (c.args.row.now) (c.args.at) c.peer_acked-1.given.0.0 c.peer_acked-1.given.0.1.0 = took _ _ u32 (number-lawful 4) ((let by : Bytes (c.args.row.now) = typed (c.args.row.now) c.shared_slice_known-1.given in by)) ((let peer-acked-read : read_at u32 (c.args.row.now) (c.args.at) ≡ takes c.peer_acked-1.given.0.0 c.peer_acked-1.given.0.1.0 = learn u32_says c.u32_at.ensures c.peer_acked-1.given.1 in peer-acked-read)) in peer-acked-took)))).here c.peer_read-1.given.0.0 c.peer_read-1.given.0.1.0 = took _ _ u32 (number-lawful 4) ((let by : Bytes (c.args.row.now) = typed (c.args.row.now) c.shared_slice_known-1.given in by)) ((let peer-read-read : read_at u32 (c.args.row.now) ((field-yes (start).so ((let peer-acked-took : Took u32 (c.args.row.now) (c.args.at) c.peer_acked-1.given.0.0 c.peer_acked-1.given.0.1.0 = took _ _ u32 (number-lawful 4) ((let by : Bytes (c.args.row.now) = typed (c.args.row.now) c.shared_slice_known-1.given in by)) ((let peer-acked-read : read_at u32 (c.args.row.now) (c.args.at) ≡ takes c.peer_acked-1.given.0.0 c.peer_acked-1.given.0.1.0 = learn u32_says c.u32_at.ensures c.peer_acked-1.given.1 in peer-acked-read)) in peer-acked-took)))).here ≡ takes c.peer_read-1.given.0.0 c.peer_read-1.given.0.1.0 = learn u32_says c.u32_at-2.ensures c.peer_read-1.given.1 in peer-read-read)) in peer-read-took)))).so ((let read-marked-took : Took u32 (c.args.row.now) ((field-yes ((field-yes (start).so ((let peer-acked-took : Took u32 (c.args.row.now) (c.args.at) c.peer_acked-1.given.0.0 c.peer_acked-1.given.0.1.0 = took _ _ u32 (number-lawful 4) ((let by : Bytes (c.args.row.now) = typed (c.args.row.now) c.shared_slice_known-1.given in by)) ((let peer-acked-read : read_at u32 (c.args.row.now) (c.args.at) ≡ takes c.peer_acked-1.given.0.0 c.peer_acked-1.given.0.1.0 = learn u32_says c.u32_at.ensures c.peer_acked-1.given.1 in peer-acked-read)) in peer-acked-took)))).so ((let peer-read-took : Took u32 (c.args.row.now) ((field-yes (start).so ((let peer-acked-took : Took u32 (c.args.row.now) (c.args.at) c.peer_acked-1.given.0.0 c.peer_acked-1.given.0.1.0 = took _ _ u32 (number-lawful 4) ((let by : Bytes (c.args.row.now) = typed (c.args.row.now) c.shared_slice_known-1.given in by)) ((let peer-acked-read : read_at u32 (c.args.row.now) (c.args.at) ≡ takes c.peer_acked-1.given.0.0 c.peer_acked-1.given.0.1.0 = learn u32_says c.u32_at.ensures c.peer_acked-1.given.1 in peer-acked-read)) in peer-acked-took)))).here c.peer_read-1.given.0.0 c.peer_read-1.given.0.1.0 = took _ _ u32 (number-lawful 4) ((let by : Bytes (c.args.row.now) = typed (c.args.row.now) c.shared_slice_known-1.given in by)) ((let peer-read-read : read_at u32 (c.args.row.now) ((field-yes (start).so ((let peer-acked-took : Took u32 (c.args.row.now) (c.args.at) c.peer_acked-1.given.0.0 c.peer_acked-1.given.0.1.0 = took _ _ u32 (number-lawful 4) ((let by : Bytes (c.args.row.now) = typed (c.args.row.now) c.shared_slice_known-1.given in by)) ((let peer-acked-read : read_at u32 (c.args.row.now) (c.args.at) ≡ takes c.peer_acked-1.given.0.0 c.peer_acked-1.given.0.1.0 = learn u32_says c.u32_at.ensures c.peer_acked-1.given.1 in peer-acked-read)) in peer-acked-took)))).here ≡ takes c.peer_read-1.given.0.0 c.peer_read-1.given.0.1.0 = learn u32_says c.u32_at-2.ensures c.peer_read-1.given.1 in peer-read-read)) in peer-read-took)))).here c.read_marked-1.given.0.0 c.read_marked-1.given.0.1.0 = took _ _ u32 (number-lawful 4) ((let by : Bytes (c.args.row.now) = typed (c.args.row.now) c.shared_slice_known-1.given in by)) ((let read-marked-read : read_at u32 (c.args.row.now) ((field-yes ((field-yes (start).so ((let peer-acked-took : Took u32 (c.args.row.now) (c.args.at) c.peer_acked-1.given.0.0 c.peer_acked-1.given.0.1.0 = took _ _ u32 (number-lawful 4) ((let by : Bytes (c.args.row.now) = typed (c.args.row.now) c.shared_slice_known-1.given in by)) ((let peer-acked-read : read_at u32 (c.args.row.now) (c.args.at) ≡ takes c.peer_acked-1.given.0.0 c.peer_acked-1.given.0.1.0 = learn u32_says c.u32_at.ensures c.peer_acked-1.given.1 in peer-acked-read)) in peer-acked-took)))).so ((let peer-read-took : Took u32 (c.args.row.now) ((field-yes (start).so ((let peer-acked-took : Took u32 (c.args.row.now) (c.args.at) c.peer_acked-1.given.0.0 c.peer_acked-1.given.0.1.0 = took _ _ u32 (number-lawful 4) ((let by : Bytes (c.args.row.now) = typed (c.args.row.now) c.shared_slice_known-1.given in by)) ((let peer-acked-read : read_at u32 (c.args.row.now) (c.args.at) ≡ takes c.peer_acked-1.given.0.0 c.peer_acked-1.given.0.1.0 = learn u32_says c.u32_at.ensures c.peer_acked-1.given.1 in peer-acked-read)) in peer-acked-took)))).here c.peer_read-1.given.0.0 c.peer_read-1.given.0.1.0 = took _ _ u32 (number-lawful 4) ((let by : Bytes (c.args.row.now) = typed (c.args.row.now) c.shared_slice_known-1.given in by)) ((let peer-read-read : read_at u32 (c.args.row.now) ((field-yes (start).so ((let peer-acked-took : Took u32 (c.args.row.now) (c.args.at) c.peer_acked-1.given.0.0 c.peer_acked-1.given.0.1.0 = took _ _ u32 (number-lawful 4) ((let by : Bytes (c.args.row.now) = typed (c.args.row.now) c.shared_slice_known-1.given in by)) ((let peer-acked-read : read_at u32 (c.args.row.now) (c.args.at) ≡ takes c.peer_acked-1.given.0.0 c.peer_acked-1.given.0.1.0 = learn u32_says c.u32_at.ensures c.peer_acked-1.given.1 in peer-acked-read)) in peer-acked-took)))).here ≡ takes c.peer_read-1.given.0.0 c.peer_read-1.given.0.1.0 = learn u32_says c.u32_at-2.ensures c.peer_read-1.given.1 in peer-read-read)) in peer-read-took)))).here ≡ takes c.read_marked-1.given.0.0 c.read_marked-1.given.0.1.0 = learn u32_says c.u32_at-3.ensures c.read_marked-1.given.1 in read-marked-read)) in read-marked-took)))).here c.contiguous-1.given.0.0 c.contiguous-1.given.0.1.0 = took _ _ u32 (number-lawful 4) ((let by : Bytes (c.args.row.now) = typed (c.args.row.now) c.shared_slice_known-1.given in by)) ((let contiguous-read : read_at u32 (c.args.row.now) ((field-yes ((field-yes ((field-yes (start).so ((let peer-acked-took : Took u32 (c.args.row.now) (c.args.at) c.peer_acked-1.given.0.0 c.peer_acked-1.given.0.1.0 = took _ _ u32 (number-lawful 4) ((let by : Bytes (c.args.row.now) = typed (c.args.row.now) c.shared_slice_known-1.given in by)) ((let peer-acked-read : read_at u32 (c.args.row.now) (c.args.at) ≡ takes c.peer_acked-1.given.0.0 c.peer_acked-1.given.0.1.0 = learn u32_says c.u32_at.ensures c.peer_acked-1.given.1 in peer-acked-read)) in peer-acked-took)))).so ((let peer-read-took : Took u32 (c.args.row.now) ((field-yes (start).so ((let peer-acked-took : Took u32 (c.args.row.now) (c.args.at) c.peer_acked-1.given.0.0 c.peer_acked-1.given.0.1.0 = took _ _ u32 (number-lawful 4) ((let by : Bytes (c.args.row.now) = typed (c.args.row.now) c.shared_slice_known-1.given in by)) ((let peer-acked-read : read_at u32 (c.args.row.now) (c.args.at) ≡ takes c.peer_acked-1.given.0.0 c.peer_acked-1.given.0.1.0 = learn u32_says c.u32_at.ensures c.peer_acked-1.given.1 in peer-acked-read)) in peer-acked-took)))).here c.peer_read-1.given.0.0 c.peer_read-1.given.0.1.0 = took _ _ u32 (number-lawful 4) ((let by : Bytes (c.args.row.now) = typed (c.args.row.now) c.shared_slice_known-1.given in by)) ((let peer-read-read : read_at u32 (c.args.row.now) ((field-yes (start).so ((let peer-acked-took : Took u32 (c.args.row.now) (c.args.at) c.peer_acked-1.given.0.0 c.peer_acked-1.given.0.1.0 = took _ _ u32 (number-lawful 4) ((let by : Bytes (c.args.row.now) = typed (c.args.row.now) c.shared_slice_known-1.given in by)) ((let peer-acked-read : read_at u32 (c.args.row.now) (c.args.at) ≡ takes c.peer_acked-1.given.0.0 c.peer_acked-1.given.0.1.0 = learn u32_says c.u32_at.ensures c.peer_acked-1.given.1 in peer-acked-read)) in peer-acked-took)))).here ≡ takes c.peer_read-1.given.0.0 c.peer_read-1.given.0.1.0 = learn u32_says c.u32_at-2.ensures c.peer_read-1.given.1 in peer-read-read)) in peer-read-took)))).so ((let read-marked-took : Took u32 (c.args.row.now) ((field-yes ((field-yes (start).so ((let peer-acked-took : Took u32 (c.args.row.now) (c.args.at) c.peer_acked-1.given.0.0 c.peer_acked-1.given.0.1.0 = took _ _ u32 (number-lawful 4) ((let by : Bytes (c.args.row.now) = typed (c.args.row.now) c.shared_slice_known-1.given in by)) ((let peer-acked-read : read_at u32 (c.args.row.now) (c.args.at) ≡ takes c.peer_acked-1.given.0.0 c.peer_acked-1.given.0.1.0 = learn u32_says c.u32_at.ensures c.peer_acked-1.given.1 in peer-acked-read)) in peer-acked-took)))).so ((let peer-read-took : Took u32 (c.args.row.now) ((field-yes (start).so ((let peer-acked-took : Took u32 (c.args.row.now) (c.args.at) c.peer_acked-1.given.0.0 c.peer_acked-1.given.0.1.0 = took _ _ u32 (number-lawful 4) ((let by : Bytes (c.args.row.now) = typed (c.args.row.now) c.shared_slice_known-1.given in by)) ((let peer-acked-read : read_at u32 (c.args.row.now) (c.args.at) ≡ takes c.peer_acked-1.given.0.0 c.peer_acked-1.given.0.1.0 = learn u32_says c.u32_at.ensures c.peer_acked-1.given.1 in peer-acked-read)) in peer-acked-took)))).here c.peer_read-1.given.0.0 c.peer_read-1.given.0.1.0 = took _ _ u32 (number-lawful 4) ((let by : Bytes (c.args.row.now) = typed (c.args.row.now) c.shared_slice_known-1.given in by)) ((let peer-read-read : read_at u32 (c.args.row.now) ((field-yes (start).so ((let peer-acked-took : Took u32 (c.args.row.now) (c.args.at) c.peer_acked-1.given.0.0 c.peer_acked-1.given.0.1.0 = took _ _ u32 (number-lawful 4) ((let by : Bytes (c.args.row.now) = typed (c.args.row.now) c.shared_slice_known-1.given in by)) ((let peer-acked-read : read_at u32 (c.args.row.now) (c.args.at) ≡ takes c.peer_acked-1.given.0.0 c.peer_acked-1.given.0.1.0 = learn u32_says c.u32_at.ensures c.peer_acked-1.given.1 in peer-acked-read)) in peer-acked-took)))).here ≡ takes c.peer_read-1.given.0.0 c.peer_read-1.given.0.1.0 = learn u32_says c.u32_at-2.ensures c.peer_read-1.given.1 in peer-read-read)) in peer-read-took)))).here c.read_marked-1.given.0.0 c.read_marked-1.given.0.1.0 = took _ _ u32 (number-lawful 4) ((let by : Bytes (c.args.row.now) = typed (c.args.row.now) c.shared_slice_known-1.given in by)) ((let read-marked-read : read_at u32 (c.args.row.now) ((field-yes ((field-yes (start).so ((let peer-acked-took : Took u32 (c.args.row.now) (c.args.at) c.peer_acked-1.given.0.0 c.peer_acked-1.given.0.1.0 = took _ _ u32 (number-lawful 4) ((let by : Bytes (c.args.row.now) = typed (c.args.row.now) c.shared_slice_known-1.given in by)) ((let peer-acked-read : read_at u32 (c.args.row.now) (c.args.at) ≡ takes c.peer_acked-1.given.0.0 c.peer_acked-1.given.0.1.0 = learn u32_says c.u32_at.ensures c.peer_acked-1.given.1 in peer-acked-read)) in peer-acked-took)))).so ((let peer-read-took : Took u32 (c.args.row.now) ((field-yes (start).so ((let peer-acked-took : Took u32 (c.args.row.now) (c.args.at) c.peer_acked-1.given.0.0 c.peer_acked-1.given.0.1.0 = took _ _ u32 (number-lawful 4) ((let by : Bytes (c.args.row.now) = typed (c.args.row.now) c.shared_slice_known-1.given in by)) ((let peer-acked-read : read_at u32 (c.args.row.now) (c.args.at) ≡ takes c.peer_acked-1.given.0.0 c.peer_acked-1.given.0.1.0 = learn u32_says c.u32_at.ensures c.peer_acked-1.given.1 in peer-acked-read)) in peer-acked-took)))).here c.peer_read-1.given.0.0 c.peer_read-1.given.0.1.0 = took _ _ u32 (number-lawful 4) ((let by : Bytes (c.args.row.now) = typed (c.args.row.now) c.shared_slice_known-1.given in by)) ((let peer-read-read : read_at u32 (c.args.row.now) ((field-yes (start).so ((let peer-acked-took : Took u32 (c.args.row.now) (c.args.at) c.peer_acked-1.given.0.0 c.peer_acked-1.given.0.1.0 = took _ _ u32 (number-lawful 4) ((let by : Bytes (c.args.row.now) = typed (c.args.row.now) c.shared_slice_known-1.given in by)) ((let peer-acked-read : read_at u32 (c.args.row.now) (c.args.at) ≡ takes c.peer_acked-1.given.0.0 c.peer_acked-1.given.0.1.0 = learn u32_says c.u32_at.ensures c.peer_acked-1.given.1 in peer-acked-read)) in peer-acked-took)))).here ≡ takes c.peer_read-1.given.0.0 c.peer_read-1.given.0.1.0 = learn u32_says c.u32_at-2.ensures c.peer_read-1.given.1 in peer-read-read)) in peer-read-took)))).here ≡ takes c.read_marked-1.given.0.0 c.read_marked-1.given.0.1.0 = learn u32_says c.u32_at-3.ensures c.read_marked-1.given.1 in read-marked-read)) in read-marked-took)))).here ≡ takes c.contiguous-1.given.0.0 c.contiguous-1.given.0.1.0 = learn u32_says c.u32_at-4.ensures c.contiguous-1.given.1 in contiguous-read)) in contiguous-took)))).here (list_in (group range) (c.args.row.now) c.above_field-1.given.0.0) c.above_field-1.given.0.0.next = list-took (group range) range-lawful (c.args.row.now) ((let by : Bytes (c.args.row.now) = typed (c.args.row.now) c.shared_slice_known-1.given in by)) _ c.ranges_at-above_field.ensures c.above_field-1.given.1 in above-took)))).here (list_in u32 (c.args.row.now) c.unacked_field-1.given.0.0) c.unacked_field-1.given.0.0.next = list-took u32 (number-lawful 4) (c.args.row.now) ((let by : Bytes (c.args.row.now) = typed (c.args.row.now) c.shared_slice_known-1.given in by)) _ c.numbers_at-unacked_field.ensures c.unacked_field-1.given.1 in unacked-took)))).here (list_in (group range) (c.args.row.now) c.expired_field-1.given.0.0) c.expired_field-1.given.0.0.next = list-took (group range) range-lawful (c.args.row.now) ((let by : Bytes (c.args.row.now) = typed (c.args.row.now) c.shared_slice_known-1.given in by)) _ c.ranges_at-expired_field.ensures c.expired_field-1.given.1 in expired-took)))).so) ((let expired-took : Took (list (group range)) (c.args.row.now) ((field-yes ((field-yes ((field-yes ((field-yes ((field-yes ((field-yes (start).so ((let peer-acked-took : Took u32 (c.args.row.now) (c.args.at) c.peer_acked-1.given.0.0 c.peer_acked-1.given.0.1.0 = took _ _ u32 (number-lawful 4) ((let by : Bytes (c.args.row.now) = typed (c.args.row.now) c.shared_slice_known-1.given in by)) ((let peer-acked-read : read_at u32 (c.args.row.now) (c.args.at) ≡ takes c.peer_acked-1.given.0.0 c.peer_acked-1.given.0.1.0 = learn u32_says c.u32_at.ensures c.peer_acked-1.given.1 in peer-acked-read)) in peer-acked-took)))).so ((let peer-read-took : Took u32 (c.args.row.now) ((field-yes (start).so ((let peer-acked-took : Took u32 (c.args.row.now) (c.args.at) c.peer_acked-1.given.0.0 c.peer_acked-1.given.0.1.0 = took _ _ u32 (number-lawful 4) ((let by : Bytes (c.args.row.now) = typed (c.args.row.now) c.shared_slice_known-1.given in by)) ((let peer-acked-read : read_at u32 (c.args.row.now) (c.args.at) ≡ takes c.peer_acked-1.given.0.0 c.peer_acked-1.given.0.1.0 = learn u32_says c.u32_at.ensures c.peer_acked-1.given.1 in peer-acked-read)) in peer-acked-took)))).here c.peer_read-1.given.0.0 c.peer_read-1.given.0.1.0 = took _ _ u32 (number-lawful 4) ((let by : Bytes (c.args.row.now) = typed (c.args.row.now) c.shared_slice_known-1.given in by)) ((let peer-read-read : read_at u32 (c.args.row.now) ((field-yes (start).so ((let peer-acked-took : Took u32 (c.args.row.now) (c.args.at) c.peer_acked-1.given.0.0 c.peer_acked-1.given.0.1.0 = took _ _ u32 (number-lawful 4) ((let by : Bytes (c.args.row.now) = typed (c.args.row.now) c.shared_slice_known-1.given in by)) ((let peer-acked-read : read_at u32 (c.args.row.now) (c.args.at) ≡ takes c.peer_acked-1.given.0.0 c.peer_acked-1.given.0.1.0 = learn u32_says c.u32_at.ensures c.peer_acked-1.given.1 in peer-acked-read)) in peer-acked-took)))).here ≡ takes c.peer_read-1.given.0.0 c.peer_read-1.given.0.1.0 = learn u32_says c.u32_at-2.ensures c.peer_read-1.given.1 in peer-read-read)) in peer-read-took)))).so ((let read-marked-took : Took u32 (c.args.row.now) ((field-yes ((field-yes (start).so ((let peer-acked-took : Took u32 (c.args.row.now) (c.args.at) c.peer_acked-1.given.0.0 c.peer_acked-1.given.0.1.0 = took _ _ u32 (number-lawful 4) ((let by : Bytes (c.args.row.now) = typed (c.args.row.now) c.shared_slice_known-1.given in by)) ((let peer-acked-read : read_at u32 (c.args.row.now) (c.args.at) ≡ takes c.peer_acked-1.given.0.0 c.peer_acked-1.given.0.1.0 = learn u32_says c.u32_at.ensures c.peer_acked-1.given.1 in peer-acked-read)) in peer-acked-took)))).so ((let peer-read-took : Took u32 (c.args.row.now) ((field-yes (start).so ((let peer-acked-took : Took u32 (c.args.row.now) (c.args.at) c.peer_acked-1.given.0.0 c.peer_acked-1.given.0.1.0 = took _ _ u32 (number-lawful 4) ((let by : Bytes (c.args.row.now) = typed (c.args.row.now) c.shared_slice_known-1.given in by)) ((let peer-acked-read : read_at u32 (c.args.row.now) (c.args.at) ≡ takes c.peer_acked-1.given.0.0 c.peer_acked-1.given.0.1.0 = learn u32_says c.u32_at.ensures c.peer_acked-1.given.1 in peer-acked-read)) in peer-acked-took)))).here c.peer_read-1.given.0.0 c.peer_read-1.given.0.1.0 = took _ _ u32 (number-lawful 4) ((let by : Bytes (c.args.row.now) = typed (c.args.row.now) c.shared_slice_known-1.given in by)) ((let peer-read-read : read_at u32 (c.args.row.now) ((field-yes (start).so ((let peer-acked-took : Took u32 (c.args.row.now) (c.args.at) c.peer_acked-1.given.0.0 c.peer_acked-1.given.0.1.0 = took _ _ u32 (number-lawful 4) ((let by : Bytes (c.args.row.now) = typed (c.args.row.now) c.shared_slice_known-1.given in by)) ((let peer-acked-read : read_at u32 (c.args.row.now) (c.args.at) ≡ takes c.peer_acked-1.given.0.0 c.peer_acked-1.given.0.1.0 = learn u32_says c.u32_at.ensures c.peer_acked-1.given.1 in peer-acked-read)) in peer-acked-took)))).here ≡ takes c.peer_read-1.given.0.0 c.peer_read-1.given.0.1.0 = learn u32_says c.u32_at-2.ensures c.peer_read-1.given.1 in peer-read-read)) in peer-read-took)))).here c.read_marked-1.given.0.0 c.read_marked-1.given.0.1.0 = took _ _ u32 (number-lawful 4) ((let by : Bytes (c.args.row.now) = typed (c.args.row.now) c.shared_slice_known-1.given in by)) ((let read-marked-read : read_at u32 (c.args.row.now) ((field-yes ((field-yes (start).so ((let peer-acked-took : Took u32 (c.args.row.now) (c.args.at) c.peer_acked-1.given.0.0 c.peer_acked-1.given.0.1.0 = took _ _ u32 (number-lawful 4) ((let by : Bytes (c.args.row.now) = typed (c.args.row.now) c.shared_slice_known-1.given in by)) ((let peer-acked-read : read_at u32 (c.args.row.now) (c.args.at) ≡ takes c.peer_acked-1.given.0.0 c.peer_acked-1.given.0.1.0 = learn u32_says c.u32_at.ensures c.peer_acked-1.given.1 in peer-acked-read)) in peer-acked-took)))).so ((let peer-read-took : Took u32 (c.args.row.now) ((field-yes (start).so ((let peer-acked-took : Took u32 (c.args.row.now) (c.args.at) c.peer_acked-1.given.0.0 c.peer_acked-1.given.0.1.0 = took _ _ u32 (number-lawful 4) ((let by : Bytes (c.args.row.now) = typed (c.args.row.now) c.shared_slice_known-1.given in by)) ((let peer-acked-read : read_at u32 (c.args.row.now) (c.args.at) ≡ takes c.peer_acked-1.given.0.0 c.peer_acked-1.given.0.1.0 = learn u32_says c.u32_at.ensures c.peer_acked-1.given.1 in peer-acked-read)) in peer-acked-took)))).here c.peer_read-1.given.0.0 c.peer_read-1.given.0.1.0 = took _ _ u32 (number-lawful 4) ((let by : Bytes (c.args.row.now) = typed (c.args.row.now) c.shared_slice_known-1.given in by)) ((let peer-read-read : read_at u32 (c.args.row.now) ((field-yes (start).so ((let peer-acked-took : Took u32 (c.args.row.now) (c.args.at) c.peer_acked-1.given.0.0 c.peer_acked-1.given.0.1.0 = took _ _ u32 (number-lawful 4) ((let by : Bytes (c.args.row.now) = typed (c.args.row.now) c.shared_slice_known-1.given in by)) ((let peer-acked-read : read_at u32 (c.args.row.now) (c.args.at) ≡ takes c.peer_acked-1.given.0.0 c.peer_acked-1.given.0.1.0 = learn u32_says c.u32_at.ensures c.peer_acked-1.given.1 in peer-acked-read)) in peer-acked-took)))).here ≡ takes c.peer_read-1.given.0.0 c.peer_read-1.given.0.1.0 = learn u32_says c.u32_at-2.ensures c.peer_read-1.given.1 in peer-read-read)) in peer-read-took)))).here ≡ takes c.read_marked-1.given.0.0 c.read_marked-1.given.0.1.0 = learn u32_says c.u32_at-3.ensures c.read_marked-1.given.1 in read-marked-read)) in read-marked-took)))).so ((let contiguous-took : Took u32 (c.args.row.now) ((field-yes ((field-yes ((field-yes (start).so ((let peer-acked-took : Took u32 (c.args.row.now) (c.args.at) c.peer_acked-1.given.0.0 c.peer_acked-1.given.0.1.0 = took _ _ u32 (number-lawful 4) ((let by : Bytes (c.args.row.now) = typed (c.args.row.now) c.shared_slice_known-1.given in by)) ((let peer-acked-read : read_at u32 (c.args.row.now) (c.args.at) ≡ takes c.peer_acked-1.given.0.0 c.peer_acked-1.given.0.1.0 = learn u32_says c.u32_at.ensures c.peer_acked-1.given.1 in peer-acked-read)) in peer-acked-took)))).so ((let peer-read-took : Took u32 (c.args.row.now) ((field-yes (start).so ((let peer-acked-took : Took u32 (c.args.row.now) (c.args.at) c.peer_acked-1.given.0.0 c.peer_acked-1.given.0.1.0 = took _ _ u32 (number-lawful 4) ((let by : Bytes (c.args.row.now) = typed (c.args.row.now) c.shared_slice_known-1.given in by)) ((let peer-acked-read : read_at u32 (c.args.row.now) (c.args.at) ≡ takes c.peer_acked-1.given.0.0 c.peer_acked-1.given.0.1.0 = learn u32_says c.u32_at.ensures c.peer_acked-1.given.1 in peer-acked-read)) in peer-acked-took)))).here c.peer_read-1.given.0.0 c.peer_read-1.given.0.1.0 = took _ _ u32 (number-lawful 4) ((let by : Bytes (c.args.row.now) = typed (c.args.row.now) c.shared_slice_known-1.given in by)) ((let peer-read-read : read_at u32 (c.args.row.now) ((field-yes (start).so ((let peer-acked-took : Took u32 (c.args.row.now) (c.args.at) c.peer_acked-1.given.0.0 c.peer_acked-1.given.0.1.0 = took _ _ u32 (number-lawful 4) ((let by : Bytes (c.args.row.now) = typed (c.args.row.now) c.shared_slice_known-1.given in by)) ((let peer-acked-read : read_at u32 (c.args.row.now) (c.args.at) ≡ takes c.peer_acked-1.given.0.0 c.peer_acked-1.given.0.1.0 = learn u32_says c.u32_at.ensures c.peer_acked-1.given.1 in peer-acked-read)) in peer-acked-took)))).here ≡ takes c.peer_read-1.given.0.0 c.peer_read-1.given.0.1.0 = learn u32_says c.u32_at-2.ensures c.peer_read-1.given.1 in peer-read-read)) in peer-read-took)))).so ((let read-marked-took : Took u32 (c.args.row.now) ((field-yes ((field-yes (start).so ((let peer-acked-took : Took u32 (c.args.row.now) (c.args.at) c.peer_acked-1.given.0.0 c.peer_acked-1.given.0.1.0 = took _ _ u32 (number-lawful 4) ((let by : Bytes (c.args.row.now) = typed (c.args.row.now) c.shared_slice_known-1.given in by)) ((let peer-acked-read : read_at u32 (c.args.row.now) (c.args.at) ≡ takes c.peer_acked-1.given.0.0 c.peer_acked-1.given.0.1.0 = learn u32_says c.u32_at.ensures c.peer_acked-1.given.1 in peer-acked-read)) in peer-acked-took)))).so ((let peer-read-took : Took u32 (c.args.row.now) ((field-yes (start).so ((let peer-acked-took : Took u32 (c.args.row.now) (c.args.at) c.peer_acked-1.given.0.0 c.peer_acked-1.given.0.1.0 = took _ _ u32 (number-lawful 4) ((let by : Bytes (c.args.row.now) = typed (c.args.row.now) c.shared_slice_known-1.given in by)) ((let peer-acked-read : read_at u32 (c.args.row.now) (c.args.at) ≡ takes c.peer_acked-1.given.0.0 c.peer_acked-1.given.0.1.0 = learn u32_says c.u32_at.ensures c.peer_acked-1.given.1 in peer-acked-read)) in peer-acked-took)))).here c.peer_read-1.given.0.0 c.peer_read-1.given.0.1.0 = took _ _ u32 (number-lawful 4) ((let by : Bytes (c.args.row.now) = typed (c.args.row.now) c.shared_slice_known-1.given in by)) ((let peer-read-read : read_at u32 (c.args.row.now) ((field-yes (start).so ((let peer-acked-took : Took u32 (c.args.row.now) (c.args.at) c.peer_acked-1.given.0.0 c.peer_acked-1.given.0.1.0 = took _ _ u32 (number-lawful 4) ((let by : Bytes (c.args.row.now) = typed (c.args.row.now) c.shared_slice_known-1.given in by)) ((let peer-acked-read : read_at u32 (c.args.row.now) (c.args.at) ≡ takes c.peer_acked-1.given.0.0 c.peer_acked-1.given.0.1.0 = learn u32_says c.u32_at.ensures c.peer_acked-1.given.1 in peer-acked-read)) in peer-acked-took)))).here ≡ takes c.peer_read-1.given.0.0 c.peer_read-1.given.0.1.0 = learn u32_says c.u32_at-2.ensures c.peer_read-1.given.1 in peer-read-read)) in peer-read-took)))).here c.read_marked-1.given.0.0 c.read_marked-1.given.0.1.0 = took _ _ u32 (number-lawful 4) ((let by : Bytes (c.args.row.now) = typed (c.args.row.now) c.shared_slice_known-1.given in by)) ((let read-marked-read : read_at u32 (c.args.row.now) ((field-yes ((field-yes (start).so ((let peer-acked-took : Took u32 (c.args.row.now) (c.args.at) c.peer_acked-1.given.0.0 c.peer_acked-1.given.0.1.0 = took _ _ u32 (number-lawful 4) ((let by : Bytes (c.args.row.now) = typed (c.args.row.now) c.shared_slice_known-1.given in by)) ((let peer-acked-read : read_at u32 (c.args.row.now) (c.args.at) ≡ takes c.peer_acked-1.given.0.0 c.peer_acked-1.given.0.1.0 = learn u32_says c.u32_at.ensures c.peer_acked-1.given.1 in peer-acked-read)) in peer-acked-took)))).so ((let peer-read-took : Took u32 (c.args.row.now) ((field-yes (start).so ((let peer-acked-took : Took u32 (c.args.row.now) (c.args.at) c.peer_acked-1.given.0.0 c.peer_acked-1.given.0.1.0 = took _ _ u32 (number-lawful 4) ((let by : Bytes (c.args.row.now) = typed (c.args.row.now) c.shared_slice_known-1.given in by)) ((let peer-acked-read : read_at u32 (c.args.row.now) (c.args.at) ≡ takes c.peer_acked-1.given.0.0 c.peer_acked-1.given.0.1.0 = learn u32_says c.u32_at.ensures c.peer_acked-1.given.1 in peer-acked-read)) in peer-acked-took)))).here c.peer_read-1.given.0.0 c.peer_read-1.given.0.1.0 = took _ _ u32 (number-lawful 4) ((let by : Bytes (c.args.row.now) = typed (c.args.row.now) c.shared_slice_known-1.given in by)) ((let peer-read-read : read_at u32 (c.args.row.now) ((field-yes (start).so ((let peer-acked-took : Took u32 (c.args.row.now) (c.args.at) c.peer_acked-1.given.0.0 c.peer_acked-1.given.0.1.0 = took _ _ u32 (number-lawful 4) ((let by : Bytes (c.args.row.now) = typed (c.args.row.now) c.shared_slice_known-1.given in by)) ((let peer-acked-read : read_at u32 (c.args.row.now) (c.args.at) ≡ takes c.peer_acked-1.given.0.0 c.peer_acked-1.given.0.1.0 = learn u32_says c.u32_at.ensures c.peer_acked-1.given.1 in peer-acked-read)) in peer-acked-took)))).here ≡ takes c.peer_read-1.given.0.0 c.peer_read-1.given.0.1.0 = learn u32_says c.u32_at-2.ensures c.peer_read-1.given.1 in peer-read-read)) in peer-read-took)))).here ≡ takes c.read_marked-1.given.0.0 c.read_marked-1.given.0.1.0 = learn u32_says c.u32_at-3.ensures c.read_marked-1.given.1 in read-marked-read)) in read-marked-took)))).here c.contiguous-1.given.0.0 c.contiguous-1.given.0.1.0 = took _ _ u32 (number-lawful 4) ((let by : Bytes (c.args.row.now) = typed (c.args.row.now) c.shared_slice_known-1.given in by)) ((let contiguous-read : read_at u32 (c.args.row.now) ((field-yes ((field-yes ((field-yes (start).so ((let peer-acked-took : Took u32 (c.args.row.now) (c.args.at) c.peer_acked-1.given.0.0 c.peer_acked-1.given.0.1.0 = took _ _ u32 (number-lawful 4) ((let by : Bytes (c.args.row.now) = typed (c.args.row.now) c.shared_slice_known-1.given in by)) ((let peer-acked-read : read_at u32 (c.args.row.now) (c.args.at) ≡ takes c.peer_acked-1.given.0.0 c.peer_acked-1.given.0.1.0 = learn u32_says c.u32_at.ensures c.peer_acked-1.given.1 in peer-acked-read)) in peer-acked-took)))).so ((let peer-read-took : Took u32 (c.args.row.now) ((field-yes (start).so ((let peer-acked-took : Took u32 (c.args.row.now) (c.args.at) c.peer_acked-1.given.0.0 c.peer_acked-1.given.0.1.0 = took _ _ u32 (number-lawful 4) ((let by : Bytes (c.args.row.now) = typed (c.args.row.now) c.shared_slice_known-1.given in by)) ((let peer-acked-read : read_at u32 (c.args.row.now) (c.args.at) ≡ takes c.peer_acked-1.given.0.0 c.peer_acked-1.given.0.1.0 = learn u32_says c.u32_at.ensures c.peer_acked-1.given.1 in peer-acked-read)) in peer-acked-took)))).here c.peer_read-1.given.0.0 c.peer_read-1.given.0.1.0 = took _ _ u32 (number-lawful 4) ((let by : Bytes (c.args.row.now) = typed (c.args.row.now) c.shared_slice_known-1.given in by)) ((let peer-read-read : read_at u32 (c.args.row.now) ((field-yes (start).so ((let peer-acked-took : Took u32 (c.args.row.now) (c.args.at) c.peer_acked-1.given.0.0 c.peer_acked-1.given.0.1.0 = took _ _ u32 (number-lawful 4) ((let by : Bytes (c.args.row.now) = typed (c.args.row.now) c.shared_slice_known-1.given in by)) ((let peer-acked-read : read_at u32 (c.args.row.now) (c.args.at) ≡ takes c.peer_acked-1.given.0.0 c.peer_acked-1.given.0.1.0 = learn u32_says c.u32_at.ensures c.peer_acked-1.given.1 in peer-acked-read)) in peer-acked-took)))).here ≡ takes c.peer_read-1.given.0.0 c.peer_read-1.given.0.1.0 = learn u32_says c.u32_at-2.ensures c.peer_read-1.given.1 in peer-read-read)) in peer-read-took)))).so ((let read-marked-took : Took u32 (c.args.row.now) ((field-yes ((field-yes (start).so ((let peer-acked-took : Took u32 (c.args.row.now) (c.args.at) c.peer_acked-1.given.0.0 c.peer_acked-1.given.0.1.0 = took _ _ u32 (number-lawful 4) ((let by : Bytes (c.args.row.now) = typed (c.args.row.now) c.shared_slice_known-1.given in by)) ((let peer-acked-read : read_at u32 (c.args.row.now) (c.args.at) ≡ takes c.peer_acked-1.given.0.0 c.peer_acked-1.given.0.1.0 = learn u32_says c.u32_at.ensures c.peer_acked-1.given.1 in peer-acked-read)) in peer-acked-took)))).so ((let peer-read-took : Took u32 (c.args.row.now) ((field-yes (start).so ((let peer-acked-took : Took u32 (c.args.row.now) (c.args.at) c.peer_acked-1.given.0.0 c.peer_acked-1.given.0.1.0 = took _ _ u32 (number-lawful 4) ((let by : Bytes (c.args.row.now) = typed (c.args.row.now) c.shared_slice_known-1.given in by)) ((let peer-acked-read : read_at u32 (c.args.row.now) (c.args.at) ≡ takes c.peer_acked-1.given.0.0 c.peer_acked-1.given.0.1.0 = learn u32_says c.u32_at.ensures c.peer_acked-1.given.1 in peer-acked-read)) in peer-acked-took)))).here c.peer_read-1.given.0.0 c.peer_read-1.given.0.1.0 = took _ _ u32 (number-lawful 4) ((let by : Bytes (c.args.row.now) = typed (c.args.row.now) c.shared_slice_known-1.given in by)) ((let peer-read-read : read_at u32 (c.args.row.now) ((field-yes (start).so ((let peer-acked-took : Took u32 (c.args.row.now) (c.args.at) c.peer_acked-1.given.0.0 c.peer_acked-1.given.0.1.0 = took _ _ u32 (number-lawful 4) ((let by : Bytes (c.args.row.now) = typed (c.args.row.now) c.shared_slice_known-1.given in by)) ((let peer-acked-read : read_at u32 (c.args.row.now) (c.args.at) ≡ takes c.peer_acked-1.given.0.0 c.peer_acked-1.given.0.1.0 = learn u32_says c.u32_at.ensures c.peer_acked-1.given.1 in peer-acked-read)) in peer-acked-took)))).here ≡ takes c.peer_read-1.given.0.0 c.peer_read-1.given.0.1.0 = learn u32_says c.u32_at-2.ensures c.peer_read-1.given.1 in peer-read-read)) in peer-read-took)))).here c.read_marked-1.given.0.0 c.read_marked-1.given.0.1.0 = took _ _ u32 (number-lawful 4) ((let by : Bytes (c.args.row.now) = typed (c.args.row.now) c.shared_slice_known-1.given in by)) ((let read-marked-read : read_at u32 (c.args.row.now) ((field-yes ((field-yes (start).so ((let peer-acked-took : Took u32 (c.args.row.now) (c.args.at) c.peer_acked-1.given.0.0 c.peer_acked-1.given.0.1.0 = took _ _ u32 (number-lawful 4) ((let by : Bytes (c.args.row.now) = typed (c.args.row.now) c.shared_slice_known-1.given in by)) ((let peer-acked-read : read_at u32 (c.args.row.now) (c.args.at) ≡ takes c.peer_acked-1.given.0.0 c.peer_acked-1.given.0.1.0 = learn u32_says c.u32_at.ensures c.peer_acked-1.given.1 in peer-acked-read)) in peer-acked-took)))).so ((let peer-read-took : Took u32 (c.args.row.now) ((field-yes (start).so ((let peer-acked-took : Took u32 (c.args.row.now) (c.args.at) c.peer_acked-1.given.0.0 c.peer_acked-1.given.0.1.0 = took _ _ u32 (number-lawful 4) ((let by : Bytes (c.args.row.now) = typed (c.args.row.now) c.shared_slice_known-1.given in by)) ((let peer-acked-read : read_at u32 (c.args.row.now) (c.args.at) ≡ takes c.peer_acked-1.given.0.0 c.peer_acked-1.given.0.1.0 = learn u32_says c.u32_at.ensures c.peer_acked-1.given.1 in peer-acked-read)) in peer-acked-took)))).here c.peer_read-1.given.0.0 c.peer_read-1.given.0.1.0 = took _ _ u32 (number-lawful 4) ((let by : Bytes (c.args.row.now) = typed (c.args.row.now) c.shared_slice_known-1.given in by)) ((let peer-read-read : read_at u32 (c.args.row.now) ((field-yes (start).so ((let peer-acked-took : Took u32 (c.args.row.now) (c.args.at) c.peer_acked-1.given.0.0 c.peer_acked-1.given.0.1.0 = took _ _ u32 (number-lawful 4) ((let by : Bytes (c.args.row.now) = typed (c.args.row.now) c.shared_slice_known-1.given in by)) ((let peer-acked-read : read_at u32 (c.args.row.now) (c.args.at) ≡ takes c.peer_acked-1.given.0.0 c.peer_acked-1.given.0.1.0 = learn u32_says c.u32_at.ensures c.peer_acked-1.given.1 in peer-acked-read)) in peer-acked-took)))).here ≡ takes c.peer_read-1.given.0.0 c.peer_read-1.given.0.1.0 = learn u32_says c.u32_at-2.ensures c.peer_read-1.given.1 in peer-read-read)) in peer-read-took)))).here ≡ takes c.read_marked-1.given.0.0 c.read_marked-1.given.0.1.0 = learn u32_says c.u32_at-3.ensures c.read_marked-1.given.1 in read-marked-read)) in read-marked-took)))).here ≡ takes c.contiguous-1.given.0.0 c.contiguous-1.given.0.1.0 = learn u32_says c.u32_at-4.ensures c.contiguous-1.given.1 in contiguous-read)) in contiguous-took)))).so ((let above-took : Took (list (group range)) (c.args.row.now) ((field-yes ((field-yes ((field-yes ((field-yes (start).so ((let peer-acked-took : Took u32 (c.args.row.now) (c.args.at) c.peer_acked-1.given.0.0 c.peer_acked-1.given.0.1.0 = took _ _ u32 (number-lawful 4) ((let by : Bytes (c.args.row.now) = typed (c.args.row.now) c.shared_slice_known-1.given in by)) ((let peer-acked-read : read_at u32 (c.args.row.now) (c.args.at) ≡ takes c.peer_acked-1.given.0.0 c.peer_acked-1.given.0.1.0 = learn u32_says c.u32_at.ensures c.peer_acked-1.given.1 in peer-acked-read)) in peer-acked-took)))).so ((let peer-read-took : Took u32 (c.args.row.now) ((field-yes (start).so ((let peer-acked-took : Took u32 (c.args.row.now) (c.args.at) c.peer_acked-1.given.0.0 c.peer_acked-1.given.0.1.0 = took _ _ u32 (number-lawful 4) ((let by : Bytes (c.args.row.now) = typed (c.args.row.now) c.shared_slice_known-1.given in by)) ((let peer-acked-read : read_at u32 (c.args.row.now) (c.args.at) ≡ takes c.peer_acked-1.given.0.0 c.peer_acked-1.given.0.1.0 = learn u32_says c.u32_at.ensures c.peer_acked-1.given.1 in peer-acked-read)) in peer-acked-took)))).here c.peer_read-1.given.0.0 c.peer_read-1.given.0.1.0 = took _ _ u32 (number-lawful 4) ((let by : Bytes (c.args.row.now) = typed (c.args.row.now) c.shared_slice_known-1.given in by)) ((let peer-read-read : read_at u32 (c.args.row.now) ((field-yes (start).so ((let peer-acked-took : Took u32 (c.args.row.now) (c.args.at) c.peer_acked-1.given.0.0 c.peer_acked-1.given.0.1.0 = took _ _ u32 (number-lawful 4) ((let by : Bytes (c.args.row.now) = typed (c.args.row.now) c.shared_slice_known-1.given in by)) ((let peer-acked-read : read_at u32 (c.args.row.now) (c.args.at) ≡ takes c.peer_acked-1.given.0.0 c.peer_acked-1.given.0.1.0 = learn u32_says c.u32_at.ensures c.peer_acked-1.given.1 in peer-acked-read)) in peer-acked-took)))).here ≡ takes c.peer_read-1.given.0.0 c.peer_read-1.given.0.1.0 = learn u32_says c.u32_at-2.ensures c.peer_read-1.given.1 in peer-read-read)) in peer-read-took)))).so ((let read-marked-took : Took u32 (c.args.row.now) ((field-yes ((field-yes (start).so ((let peer-acked-took : Took u32 (c.args.row.now) (c.args.at) c.peer_acked-1.given.0.0 c.peer_acked-1.given.0.1.0 = took _ _ u32 (number-lawful 4) ((let by : Bytes (c.args.row.now) = typed (c.args.row.now) c.shared_slice_known-1.given in by)) ((let peer-acked-read : read_at u32 (c.args.row.now) (c.args.at) ≡ takes c.peer_acked-1.given.0.0 c.peer_acked-1.given.0.1.0 = learn u32_says c.u32_at.ensures c.peer_acked-1.given.1 in peer-acked-read)) in peer-acked-took)))).so ((let peer-read-took : Took u32 (c.args.row.now) ((field-yes (start).so ((let peer-acked-took : Took u32 (c.args.row.now) (c.args.at) c.peer_acked-1.given.0.0 c.peer_acked-1.given.0.1.0 = took _ _ u32 (number-lawful 4) ((let by : Bytes (c.args.row.now) = typed (c.args.row.now) c.shared_slice_known-1.given in by)) ((let peer-acked-read : read_at u32 (c.args.row.now) (c.args.at) ≡ takes c.peer_acked-1.given.0.0 c.peer_acked-1.given.0.1.0 = learn u32_says c.u32_at.ensures c.peer_acked-1.given.1 in peer-acked-read)) in peer-acked-took)))).here c.peer_read-1.given.0.0 c.peer_read-1.given.0.1.0 = took _ _ u32 (number-lawful 4) ((let by : Bytes (c.args.row.now) = typed (c.args.row.now) c.shared_slice_known-1.given in by)) ((let peer-read-read : read_at u32 (c.args.row.now) ((field-yes (start).so ((let peer-acked-took : Took u32 (c.args.row.now) (c.args.at) c.peer_acked-1.given.0.0 c.peer_acked-1.given.0.1.0 = took _ _ u32 (number-lawful 4) ((let by : Bytes (c.args.row.now) = typed (c.args.row.now) c.shared_slice_known-1.given in by)) ((let peer-acked-read : read_at u32 (c.args.row.now) (c.args.at) ≡ takes c.peer_acked-1.given.0.0 c.peer_acked-1.given.0.1.0 = learn u32_says c.u32_at.ensures c.peer_acked-1.given.1 in peer-acked-read)) in peer-acked-took)))).here ≡ takes c.peer_read-1.given.0.0 c.peer_read-1.given.0.1.0 = learn u32_says c.u32_at-2.ensures c.peer_read-1.given.1 in peer-read-read)) in peer-read-took)))).here c.read_marked-1.given.0.0 c.read_marked-1.given.0.1.0 = took _ _ u32 (number-lawful 4) ((let by : Bytes (c.args.row.now) = typed (c.args.row.now) c.shared_slice_known-1.given in by)) ((let read-marked-read : read_at u32 (c.args.row.now) ((field-yes ((field-yes (start).so ((let peer-acked-took : Took u32 (c.args.row.now) (c.args.at) c.peer_acked-1.given.0.0 c.peer_acked-1.given.0.1.0 = took _ _ u32 (number-lawful 4) ((let by : Bytes (c.args.row.now) = typed (c.args.row.now) c.shared_slice_known-1.given in by)) ((let peer-acked-read : read_at u32 (c.args.row.now) (c.args.at) ≡ takes c.peer_acked-1.given.0.0 c.peer_acked-1.given.0.1.0 = learn u32_says c.u32_at.ensures c.peer_acked-1.given.1 in peer-acked-read)) in peer-acked-took)))).so ((let peer-read-took : Took u32 (c.args.row.now) ((field-yes (start).so ((let peer-acked-took : Took u32 (c.args.row.now) (c.args.at) c.peer_acked-1.given.0.0 c.peer_acked-1.given.0.1.0 = took _ _ u32 (number-lawful 4) ((let by : Bytes (c.args.row.now) = typed (c.args.row.now) c.shared_slice_known-1.given in by)) ((let peer-acked-read : read_at u32 (c.args.row.now) (c.args.at) ≡ takes c.peer_acked-1.given.0.0 c.peer_acked-1.given.0.1.0 = learn u32_says c.u32_at.ensures c.peer_acked-1.given.1 in peer-acked-read)) in peer-acked-took)))).here c.peer_read-1.given.0.0 c.peer_read-1.given.0.1.0 = took _ _ u32 (number-lawful 4) ((let by : Bytes (c.args.row.now) = typed (c.args.row.now) c.shared_slice_known-1.given in by)) ((let peer-read-read : read_at u32 (c.args.row.now) ((field-yes (start).so ((let peer-acked-took : Took u32 (c.args.row.now) (c.args.at) c.peer_acked-1.given.0.0 c.peer_acked-1.given.0.1.0 = took _ _ u32 (number-lawful 4) ((let by : Bytes (c.args.row.now) = typed (c.args.row.now) c.shared_slice_known-1.given in by)) ((let peer-acked-read : read_at u32 (c.args.row.now) (c.args.at) ≡ takes c.peer_acked-1.given.0.0 c.peer_acked-1.given.0.1.0 = learn u32_says c.u32_at.ensures c.peer_acked-1.given.1 in peer-acked-read)) in peer-acked-took)))).here ≡ takes c.peer_read-1.given.0.0 c.peer_read-1.given.0.1.0 = learn u32_says c.u32_at-2.ensures c.peer_read-1.given.1 in peer-read-read)) in peer-read-took)))).here ≡ takes c.read_marked-1.given.0.0 c.read_marked-1.given.0.1.0 = learn u32_says c.u32_at-3.ensures c.read_marked-1.given.1 in read-marked-read)) in read-marked-took)))).so ((let contiguous-took : Took u32 (c.args.row.now) ((field-yes ((field-yes ((field-yes (start).so ((let peer-acked-took : Took u32 (c.args.row.now) (c.args.at) c.peer_acked-1.given.0.0 c.peer_acked-1.given.0.1.0 = took _ _ u32 (number-lawful 4) ((let by : Bytes (c.args.row.now) = typed (c.args.row.now) c.shared_slice_known-1.given in by)) ((let peer-acked-read : read_at u32 (c.args.row.now) (c.args.at) ≡ takes c.peer_acked-1.given.0.0 c.peer_acked-1.given.0.1.0 = learn u32_says c.u32_at.ensures c.peer_acked-1.given.1 in peer-acked-read)) in peer-acked-took)))).so ((let peer-read-took : Took u32 (c.args.row.now) ((field-yes (start).so ((let peer-acked-took : Took u32 (c.args.row.now) (c.args.at) c.peer_acked-1.given.0.0 c.peer_acked-1.given.0.1.0 = took _ _ u32 (number-lawful 4) ((let by : Bytes (c.args.row.now) = typed (c.args.row.now) c.shared_slice_known-1.given in by)) ((let peer-acked-read : read_at u32 (c.args.row.now) (c.args.at) ≡ takes c.peer_acked-1.given.0.0 c.peer_acked-1.given.0.1.0 = learn u32_says c.u32_at.ensures c.peer_acked-1.given.1 in peer-acked-read)) in peer-acked-took)))).here c.peer_read-1.given.0.0 c.peer_read-1.given.0.1.0 = took _ _ u32 (number-lawful 4) ((let by : Bytes (c.args.row.now) = typed (c.args.row.now) c.shared_slice_known-1.given in by)) ((let peer-read-read : read_at u32 (c.args.row.now) ((field-yes (start).so ((let peer-acked-took : Took u32 (c.args.row.now) (c.args.at) c.peer_acked-1.given.0.0 c.peer_acked-1.given.0.1.0 = took _ _ u32 (number-lawful 4) ((let by : Bytes (c.args.row.now) = typed (c.args.row.now) c.shared_slice_known-1.given in by)) ((let peer-acked-read : read_at u32 (c.args.row.now) (c.args.at) ≡ takes c.peer_acked-1.given.0.0 c.peer_acked-1.given.0.1.0 = learn u32_says c.u32_at.ensures c.peer_acked-1.given.1 in peer-acked-read)) in peer-acked-took)))).here ≡ takes c.peer_read-1.given.0.0 c.peer_read-1.given.0.1.0 = learn u32_says c.u32_at-2.ensures c.peer_read-1.given.1 in peer-read-read)) in peer-read-took)))).so ((let read-marked-took : Took u32 (c.args.row.now) ((field-yes ((field-yes (start).so ((let peer-acked-took : Took u32 (c.args.row.now) (c.args.at) c.peer_acked-1.given.0.0 c.peer_acked-1.given.0.1.0 = took _ _ u32 (number-lawful 4) ((let by : Bytes (c.args.row.now) = typed (c.args.row.now) c.shared_slice_known-1.given in by)) ((let peer-acked-read : read_at u32 (c.args.row.now) (c.args.at) ≡ takes c.peer_acked-1.given.0.0 c.peer_acked-1.given.0.1.0 = learn u32_says c.u32_at.ensures c.peer_acked-1.given.1 in peer-acked-read)) in peer-acked-took)))).so ((let peer-read-took : Took u32 (c.args.row.now) ((field-yes (start).so ((let peer-acked-took : Took u32 (c.args.row.now) (c.args.at) c.peer_acked-1.given.0.0 c.peer_acked-1.given.0.1.0 = took _ _ u32 (number-lawful 4) ((let by : Bytes (c.args.row.now) = typed (c.args.row.now) c.shared_slice_known-1.given in by)) ((let peer-acked-read : read_at u32 (c.args.row.now) (c.args.at) ≡ takes c.peer_acked-1.given.0.0 c.peer_acked-1.given.0.1.0 = learn u32_says c.u32_at.ensures c.peer_acked-1.given.1 in peer-acked-read)) in peer-acked-took)))).here c.peer_read-1.given.0.0 c.peer_read-1.given.0.1.0 = took _ _ u32 (number-lawful 4) ((let by : Bytes (c.args.row.now) = typed (c.args.row.now) c.shared_slice_known-1.given in by)) ((let peer-read-read : read_at u32 (c.args.row.now) ((field-yes (start).so ((let peer-acked-took : Took u32 (c.args.row.now) (c.args.at) c.peer_acked-1.given.0.0 c.peer_acked-1.given.0.1.0 = took _ _ u32 (number-lawful 4) ((let by : Bytes (c.args.row.now) = typed (c.args.row.now) c.shared_slice_known-1.given in by)) ((let peer-acked-read : read_at u32 (c.args.row.now) (c.args.at) ≡ takes c.peer_acked-1.given.0.0 c.peer_acked-1.given.0.1.0 = learn u32_says c.u32_at.ensures c.peer_acked-1.given.1 in peer-acked-read)) in peer-acked-took)))).here ≡ takes c.peer_read-1.given.0.0 c.peer_read-1.given.0.1.0 = learn u32_says c.u32_at-2.ensures c.peer_read-1.given.1 in peer-read-read)) in peer-read-took)))).here c.read_marked-1.given.0.0 c.read_marked-1.given.0.1.0 = took _ _ u32 (number-lawful 4) ((let by : Bytes (c.args.row.now) = typed (c.args.row.now) c.shared_slice_known-1.given in by)) ((let read-marked-read : read_at u32 (c.args.row.now) ((field-yes ((field-yes (start).so ((let peer-acked-took : Took u32 (c.args.row.now) (c.args.at) c.peer_acked-1.given.0.0 c.peer_acked-1.given.0.1.0 = took _ _ u32 (number-lawful 4) ((let by : Bytes (c.args.row.now) = typed (c.args.row.now) c.shared_slice_known-1.given in by)) ((let peer-acked-read : read_at u32 (c.args.row.now) (c.args.at) ≡ takes c.peer_acked-1.given.0.0 c.peer_acked-1.given.0.1.0 = learn u32_says c.u32_at.ensures c.peer_acked-1.given.1 in peer-acked-read)) in peer-acked-took)))).so ((let peer-read-took : Took u32 (c.args.row.now) ((field-yes (start).so ((let peer-acked-took : Took u32 (c.args.row.now) (c.args.at) c.peer_acked-1.given.0.0 c.peer_acked-1.given.0.1.0 = took _ _ u32 (number-lawful 4) ((let by : Bytes (c.args.row.now) = typed (c.args.row.now) c.shared_slice_known-1.given in by)) ((let peer-acked-read : read_at u32 (c.args.row.now) (c.args.at) ≡ takes c.peer_acked-1.given.0.0 c.peer_acked-1.given.0.1.0 = learn u32_says c.u32_at.ensures c.peer_acked-1.given.1 in peer-acked-read)) in peer-acked-took)))).here c.peer_read-1.given.0.0 c.peer_read-1.given.0.1.0 = took _ _ u32 (number-lawful 4) ((let by : Bytes (c.args.row.now) = typed (c.args.row.now) c.shared_slice_known-1.given in by)) ((let peer-read-read : read_at u32 (c.args.row.now) ((field-yes (start).so ((let peer-acked-took : Took u32 (c.args.row.now) (c.args.at) c.peer_acked-1.given.0.0 c.peer_acked-1.given.0.1.0 = took _ _ u32 (number-lawful 4) ((let by : Bytes (c.args.row.now) = typed (c.args.row.now) c.shared_slice_known-1.given in by)) ((let peer-acked-read : read_at u32 (c.args.row.now) (c.args.at) ≡ takes c.peer_acked-1.given.0.0 c.peer_acked-1.given.0.1.0 = learn u32_says c.u32_at.ensures c.peer_acked-1.given.1 in peer-acked-read)) in peer-acked-took)))).here ≡ takes c.peer_read-1.given.0.0 c.peer_read-1.given.0.1.0 = learn u32_says c.u32_at-2.ensures c.peer_read-1.given.1 in peer-read-read)) in peer-read-took)))).here ≡ takes c.read_marked-1.given.0.0 c.read_marked-1.given.0.1.0 = learn u32_says c.u32_at-3.ensures c.read_marked-1.given.1 in read-marked-read)) in read-marked-took)))).here c.contiguous-1.given.0.0 c.contiguous-1.given.0.1.0 = took _ _ u32 (number-lawful 4) ((let by : Bytes (c.args.row.now) = typed (c.args.row.now) c.shared_slice_known-1.given in by)) ((let contiguous-read : read_at u32 (c.args.row.now) ((field-yes ((field-yes ((field-yes (start).so ((let peer-acked-took : Took u32 (c.args.row.now) (c.args.at) c.peer_acked-1.given.0.0 c.peer_acked-1.given.0.1.0 = took _ _ u32 (number-lawful 4) ((let by : Bytes (c.args.row.now) = typed (c.args.row.now) c.shared_slice_known-1.given in by)) ((let peer-acked-read : read_at u32 (c.args.row.now) (c.args.at) ≡ takes c.peer_acked-1.given.0.0 c.peer_acked-1.given.0.1.0 = learn u32_says c.u32_at.ensures c.peer_acked-1.given.1 in peer-acked-read)) in peer-acked-took)))).so ((let peer-read-took : Took u32 (c.args.row.now) ((field-yes (start).so ((let peer-acked-took : Took u32 (c.args.row.now) (c.args.at) c.peer_acked-1.given.0.0 c.peer_acked-1.given.0.1.0 = took _ _ u32 (number-lawful 4) ((let by : Bytes (c.args.row.now) = typed (c.args.row.now) c.shared_slice_known-1.given in by)) ((let peer-acked-read : read_at u32 (c.args.row.now) (c.args.at) ≡ takes c.peer_acked-1.given.0.0 c.peer_acked-1.given.0.1.0 = learn u32_says c.u32_at.ensures c.peer_acked-1.given.1 in peer-acked-read)) in peer-acked-took)))).here c.peer_read-1.given.0.0 c.peer_read-1.given.0.1.0 = took _ _ u32 (number-lawful 4) ((let by : Bytes (c.args.row.now) = typed (c.args.row.now) c.shared_slice_known-1.given in by)) ((let peer-read-read : read_at u32 (c.args.row.now) ((field-yes (start).so ((let peer-acked-took : Took u32 (c.args.row.now) (c.args.at) c.peer_acked-1.given.0.0 c.peer_acked-1.given.0.1.0 = took _ _ u32 (number-lawful 4) ((let by : Bytes (c.args.row.now) = typed (c.args.row.now) c.shared_slice_known-1.given in by)) ((let peer-acked-read : read_at u32 (c.args.row.now) (c.args.at) ≡ takes c.peer_acked-1.given.0.0 c.peer_acked-1.given.0.1.0 = learn u32_says c.u32_at.ensures c.peer_acked-1.given.1 in peer-acked-read)) in peer-acked-took)))).here ≡ takes c.peer_read-1.given.0.0 c.peer_read-1.given.0.1.0 = learn u32_says c.u32_at-2.ensures c.peer_read-1.given.1 in peer-read-read)) in peer-read-took)))).so ((let read-marked-took : Took u32 (c.args.row.now) ((field-yes ((field-yes (start).so ((let peer-acked-took : Took u32 (c.args.row.now) (c.args.at) c.peer_acked-1.given.0.0 c.peer_acked-1.given.0.1.0 = took _ _ u32 (number-lawful 4) ((let by : Bytes (c.args.row.now) = typed (c.args.row.now) c.shared_slice_known-1.given in by)) ((let peer-acked-read : read_at u32 (c.args.row.now) (c.args.at) ≡ takes c.peer_acked-1.given.0.0 c.peer_acked-1.given.0.1.0 = learn u32_says c.u32_at.ensures c.peer_acked-1.given.1 in peer-acked-read)) in peer-acked-took)))).so ((let peer-read-took : Took u32 (c.args.row.now) ((field-yes (start).so ((let peer-acked-took : Took u32 (c.args.row.now) (c.args.at) c.peer_acked-1.given.0.0 c.peer_acked-1.given.0.1.0 = took _ _ u32 (number-lawful 4) ((let by : Bytes (c.args.row.now) = typed (c.args.row.now) c.shared_slice_known-1.given in by)) ((let peer-acked-read : read_at u32 (c.args.row.now) (c.args.at) ≡ takes c.peer_acked-1.given.0.0 c.peer_acked-1.given.0.1.0 = learn u32_says c.u32_at.ensures c.peer_acked-1.given.1 in peer-acked-read)) in peer-acked-took)))).here c.peer_read-1.given.0.0 c.peer_read-1.given.0.1.0 = took _ _ u32 (number-lawful 4) ((let by : Bytes (c.args.row.now) = typed (c.args.row.now) c.shared_slice_known-1.given in by)) ((let peer-read-read : read_at u32 (c.args.row.now) ((field-yes (start).so ((let peer-acked-took : Took u32 (c.args.row.now) (c.args.at) c.peer_acked-1.given.0.0 c.peer_acked-1.given.0.1.0 = took _ _ u32 (number-lawful 4) ((let by : Bytes (c.args.row.now) = typed (c.args.row.now) c.shared_slice_known-1.given in by)) ((let peer-acked-read : read_at u32 (c.args.row.now) (c.args.at) ≡ takes c.peer_acked-1.given.0.0 c.peer_acked-1.given.0.1.0 = learn u32_says c.u32_at.ensures c.peer_acked-1.given.1 in peer-acked-read)) in peer-acked-took)))).here ≡ takes c.peer_read-1.given.0.0 c.peer_read-1.given.0.1.0 = learn u32_says c.u32_at-2.ensures c.peer_read-1.given.1 in peer-read-read)) in peer-read-took)))).here c.read_marked-1.given.0.0 c.read_marked-1.given.0.1.0 = took _ _ u32 (number-lawful 4) ((let by : Bytes (c.args.row.now) = typed (c.args.row.now) c.shared_slice_known-1.given in by)) ((let read-marked-read : read_at u32 (c.args.row.now) ((field-yes ((field-yes (start).so ((let peer-acked-took : Took u32 (c.args.row.now) (c.args.at) c.peer_acked-1.given.0.0 c.peer_acked-1.given.0.1.0 = took _ _ u32 (number-lawful 4) ((let by : Bytes (c.args.row.now) = typed (c.args.row.now) c.shared_slice_known-1.given in by)) ((let peer-acked-read : read_at u32 (c.args.row.now) (c.args.at) ≡ takes c.peer_acked-1.given.0.0 c.peer_acked-1.given.0.1.0 = learn u32_says c.u32_at.ensures c.peer_acked-1.given.1 in peer-acked-read)) in peer-acked-took)))).so ((let peer-read-took : Took u32 (c.args.row.now) ((field-yes (start).so ((let peer-acked-took : Took u32 (c.args.row.now) (c.args.at) c.peer_acked-1.given.0.0 c.peer_acked-1.given.0.1.0 = took _ _ u32 (number-lawful 4) ((let by : Bytes (c.args.row.now) = typed (c.args.row.now) c.shared_slice_known-1.given in by)) ((let peer-acked-read : read_at u32 (c.args.row.now) (c.args.at) ≡ takes c.peer_acked-1.given.0.0 c.peer_acked-1.given.0.1.0 = learn u32_says c.u32_at.ensures c.peer_acked-1.given.1 in peer-acked-read)) in peer-acked-took)))).here c.peer_read-1.given.0.0 c.peer_read-1.given.0.1.0 = took _ _ u32 (number-lawful 4) ((let by : Bytes (c.args.row.now) = typed (c.args.row.now) c.shared_slice_known-1.given in by)) ((let peer-read-read : read_at u32 (c.args.row.now) ((field-yes (start).so ((let peer-acked-took : Took u32 (c.args.row.now) (c.args.at) c.peer_acked-1.given.0.0 c.peer_acked-1.given.0.1.0 = took _ _ u32 (number-lawful 4) ((let by : Bytes (c.args.row.now) = typed (c.args.row.now) c.shared_slice_known-1.given in by)) ((let peer-acked-read : read_at u32 (c.args.row.now) (c.args.at) ≡ takes c.peer_acked-1.given.0.0 c.peer_acked-1.given.0.1.0 = learn u32_says c.u32_at.ensures c.peer_acked-1.given.1 in peer-acked-read)) in peer-acked-took)))).here ≡ takes c.peer_read-1.given.0.0 c.peer_read-1.given.0.1.0 = learn u32_says c.u32_at-2.ensures c.peer_read-1.given.1 in peer-read-read)) in peer-read-took)))).here ≡ takes c.read_marked-1.given.0.0 c.read_marked-1.given.0.1.0 = learn u32_says c.u32_at-3.ensures c.read_marked-1.given.1 in read-marked-read)) in read-marked-took)))).here ≡ takes c.contiguous-1.given.0.0 c.contiguous-1.given.0.1.0 = learn u32_says c.u32_at-4.ensures c.contiguous-1.given.1 in contiguous-read)) in contiguous-took)))).here (list_in (group range) (c.args.row.now) c.above_field-1.given.0.0) c.above_field-1.given.0.0.next = list-took (group range) range-lawful (c.args.row.now) ((let by : Bytes (c.args.row.now) = typed (c.args.row.now) c.shared_slice_known-1.given in by)) _ c.ranges_at-above_field.ensures c.above_field-1.given.1 in above-took)))).so ((let unacked-took : Took (list u32) (c.args.row.now) ((field-yes ((field-yes ((field-yes ((field-yes ((field-yes (start).so ((let peer-acked-took : Took u32 (c.args.row.now) (c.args.at) c.peer_acked-1.given.0.0 c.peer_acked-1.given.0.1.0 = took _ _ u32 (number-lawful 4) ((let by : Bytes (c.args.row.now) = typed (c.args.row.now) c.shared_slice_known-1.given in by)) ((let peer-acked-read : read_at u32 (c.args.row.now) (c.args.at) ≡ takes c.peer_acked-1.given.0.0 c.peer_acked-1.given.0.1.0 = learn u32_says c.u32_at.ensures c.peer_acked-1.given.1 in peer-acked-read)) in peer-acked-took)))).so ((let peer-read-took : Took u32 (c.args.row.now) ((field-yes (start).so ((let peer-acked-took : Took u32 (c.args.row.now) (c.args.at) c.peer_acked-1.given.0.0 c.peer_acked-1.given.0.1.0 = took _ _ u32 (number-lawful 4) ((let by : Bytes (c.args.row.now) = typed (c.args.row.now) c.shared_slice_known-1.given in by)) ((let peer-acked-read : read_at u32 (c.args.row.now) (c.args.at) ≡ takes c.peer_acked-1.given.0.0 c.peer_acked-1.given.0.1.0 = learn u32_says c.u32_at.ensures c.peer_acked-1.given.1 in peer-acked-read)) in peer-acked-took)))).here c.peer_read-1.given.0.0 c.peer_read-1.given.0.1.0 = took _ _ u32 (number-lawful 4) ((let by : Bytes (c.args.row.now) = typed (c.args.row.now) c.shared_slice_known-1.given in by)) ((let peer-read-read : read_at u32 (c.args.row.now) ((field-yes (start).so ((let peer-acked-took : Took u32 (c.args.row.now) (c.args.at) c.peer_acked-1.given.0.0 c.peer_acked-1.given.0.1.0 = took _ _ u32 (number-lawful 4) ((let by : Bytes (c.args.row.now) = typed (c.args.row.now) c.shared_slice_known-1.given in by)) ((let peer-acked-read : read_at u32 (c.args.row.now) (c.args.at) ≡ takes c.peer_acked-1.given.0.0 c.peer_acked-1.given.0.1.0 = learn u32_says c.u32_at.ensures c.peer_acked-1.given.1 in peer-acked-read)) in peer-acked-took)))).here ≡ takes c.peer_read-1.given.0.0 c.peer_read-1.given.0.1.0 = learn u32_says c.u32_at-2.ensures c.peer_read-1.given.1 in peer-read-read)) in peer-read-took)))).so ((let read-marked-took : Took u32 (c.args.row.now) ((field-yes ((field-yes (start).so ((let peer-acked-took : Took u32 (c.args.row.now) (c.args.at) c.peer_acked-1.given.0.0 c.peer_acked-1.given.0.1.0 = took _ _ u32 (number-lawful 4) ((let by : Bytes (c.args.row.now) = typed (c.args.row.now) c.shared_slice_known-1.given in by)) ((let peer-acked-read : read_at u32 (c.args.row.now) (c.args.at) ≡ takes c.peer_acked-1.given.0.0 c.peer_acked-1.given.0.1.0 = learn u32_says c.u32_at.ensures c.peer_acked-1.given.1 in peer-acked-read)) in peer-acked-took)))).so ((let peer-read-took : Took u32 (c.args.row.now) ((field-yes (start).so ((let peer-acked-took : Took u32 (c.args.row.now) (c.args.at) c.peer_acked-1.given.0.0 c.peer_acked-1.given.0.1.0 = took _ _ u32 (number-lawful 4) ((let by : Bytes (c.args.row.now) = typed (c.args.row.now) c.shared_slice_known-1.given in by)) ((let peer-acked-read : read_at u32 (c.args.row.now) (c.args.at) ≡ takes c.peer_acked-1.given.0.0 c.peer_acked-1.given.0.1.0 = learn u32_says c.u32_at.ensures c.peer_acked-1.given.1 in peer-acked-read)) in peer-acked-took)))).here c.peer_read-1.given.0.0 c.peer_read-1.given.0.1.0 = took _ _ u32 (number-lawful 4) ((let by : Bytes (c.args.row.now) = typed (c.args.row.now) c.shared_slice_known-1.given in by)) ((let peer-read-read : read_at u32 (c.args.row.now) ((field-yes (start).so ((let peer-acked-took : Took u32 (c.args.row.now) (c.args.at) c.peer_acked-1.given.0.0 c.peer_acked-1.given.0.1.0 = took _ _ u32 (number-lawful 4) ((let by : Bytes (c.args.row.now) = typed (c.args.row.now) c.shared_slice_known-1.given in by)) ((let peer-acked-read : read_at u32 (c.args.row.now) (c.args.at) ≡ takes c.peer_acked-1.given.0.0 c.peer_acked-1.given.0.1.0 = learn u32_says c.u32_at.ensures c.peer_acked-1.given.1 in peer-acked-read)) in peer-acked-took)))).here ≡ takes c.peer_read-1.given.0.0 c.peer_read-1.given.0.1.0 = learn u32_says c.u32_at-2.ensures c.peer_read-1.given.1 in peer-read-read)) in peer-read-took)))).here c.read_marked-1.given.0.0 c.read_marked-1.given.0.1.0 = took _ _ u32 (number-lawful 4) ((let by : Bytes (c.args.row.now) = typed (c.args.row.now) c.shared_slice_known-1.given in by)) ((let read-marked-read : read_at u32 (c.args.row.now) ((field-yes ((field-yes (start).so ((let peer-acked-took : Took u32 (c.args.row.now) (c.args.at) c.peer_acked-1.given.0.0 c.peer_acked-1.given.0.1.0 = took _ _ u32 (number-lawful 4) ((let by : Bytes (c.args.row.now) = typed (c.args.row.now) c.shared_slice_known-1.given in by)) ((let peer-acked-read : read_at u32 (c.args.row.now) (c.args.at) ≡ takes c.peer_acked-1.given.0.0 c.peer_acked-1.given.0.1.0 = learn u32_says c.u32_at.ensures c.peer_acked-1.given.1 in peer-acked-read)) in peer-acked-took)))).so ((let peer-read-took : Took u32 (c.args.row.now) ((field-yes (start).so ((let peer-acked-took : Took u32 (c.args.row.now) (c.args.at) c.peer_acked-1.given.0.0 c.peer_acked-1.given.0.1.0 = took _ _ u32 (number-lawful 4) ((let by : Bytes (c.args.row.now) = typed (c.args.row.now) c.shared_slice_known-1.given in by)) ((let peer-acked-read : read_at u32 (c.args.row.now) (c.args.at) ≡ takes c.peer_acked-1.given.0.0 c.peer_acked-1.given.0.1.0 = learn u32_says c.u32_at.ensures c.peer_acked-1.given.1 in peer-acked-read)) in peer-acked-took)))).here c.peer_read-1.given.0.0 c.peer_read-1.given.0.1.0 = took _ _ u32 (number-lawful 4) ((let by : Bytes (c.args.row.now) = typed (c.args.row.now) c.shared_slice_known-1.given in by)) ((let peer-read-read : read_at u32 (c.args.row.now) ((field-yes (start).so ((let peer-acked-took : Took u32 (c.args.row.now) (c.args.at) c.peer_acked-1.given.0.0 c.peer_acked-1.given.0.1.0 = took _ _ u32 (number-lawful 4) ((let by : Bytes (c.args.row.now) = typed (c.args.row.now) c.shared_slice_known-1.given in by)) ((let peer-acked-read : read_at u32 (c.args.row.now) (c.args.at) ≡ takes c.peer_acked-1.given.0.0 c.peer_acked-1.given.0.1.0 = learn u32_says c.u32_at.ensures c.peer_acked-1.given.1 in peer-acked-read)) in peer-acked-took)))).here ≡ takes c.peer_read-1.given.0.0 c.peer_read-1.given.0.1.0 = learn u32_says c.u32_at-2.ensures c.peer_read-1.given.1 in peer-read-read)) in peer-read-took)))).here ≡ takes c.read_marked-1.given.0.0 c.read_marked-1.given.0.1.0 = learn u32_says c.u32_at-3.ensures c.read_marked-1.given.1 in read-marked-read)) in read-marked-took)))).so ((let contiguous-took : Took u32 (c.args.row.now) ((field-yes ((field-yes ((field-yes (start).so ((let peer-acked-took : Took u32 (c.args.row.now) (c.args.at) c.peer_acked-1.given.0.0 c.peer_acked-1.given.0.1.0 = took _ _ u32 (number-lawful 4) ((let by : Bytes (c.args.row.now) = typed (c.args.row.now) c.shared_slice_known-1.given in by)) ((let peer-acked-read : read_at u32 (c.args.row.now) (c.args.at) ≡ takes c.peer_acked-1.given.0.0 c.peer_acked-1.given.0.1.0 = learn u32_says c.u32_at.ensures c.peer_acked-1.given.1 in peer-acked-read)) in peer-acked-took)))).so ((let peer-read-took : Took u32 (c.args.row.now) ((field-yes (start).so ((let peer-acked-took : Took u32 (c.args.row.now) (c.args.at) c.peer_acked-1.given.0.0 c.peer_acked-1.given.0.1.0 = took _ _ u32 (number-lawful 4) ((let by : Bytes (c.args.row.now) = typed (c.args.row.now) c.shared_slice_known-1.given in by)) ((let peer-acked-read : read_at u32 (c.args.row.now) (c.args.at) ≡ takes c.peer_acked-1.given.0.0 c.peer_acked-1.given.0.1.0 = learn u32_says c.u32_at.ensures c.peer_acked-1.given.1 in peer-acked-read)) in peer-acked-took)))).here c.peer_read-1.given.0.0 c.peer_read-1.given.0.1.0 = took _ _ u32 (number-lawful 4) ((let by : Bytes (c.args.row.now) = typed (c.args.row.now) c.shared_slice_known-1.given in by)) ((let peer-read-read : read_at u32 (c.args.row.now) ((field-yes (start).so ((let peer-acked-took : Took u32 (c.args.row.now) (c.args.at) c.peer_acked-1.given.0.0 c.peer_acked-1.given.0.1.0 = took _ _ u32 (number-lawful 4) ((let by : Bytes (c.args.row.now) = typed (c.args.row.now) c.shared_slice_known-1.given in by)) ((let peer-acked-read : read_at u32 (c.args.row.now) (c.args.at) ≡ takes c.peer_acked-1.given.0.0 c.peer_acked-1.given.0.1.0 = learn u32_says c.u32_at.ensures c.peer_acked-1.given.1 in peer-acked-read)) in peer-acked-took)))).here ≡ takes c.peer_read-1.given.0.0 c.peer_read-1.given.0.1.0 = learn u32_says c.u32_at-2.ensures c.peer_read-1.given.1 in peer-read-read)) in peer-read-took)))).so ((let read-marked-took : Took u32 (c.args.row.now) ((field-yes ((field-yes (start).so ((let peer-acked-took : Took u32 (c.args.row.now) (c.args.at) c.peer_acked-1.given.0.0 c.peer_acked-1.given.0.1.0 = took _ _ u32 (number-lawful 4) ((let by : Bytes (c.args.row.now) = typed (c.args.row.now) c.shared_slice_known-1.given in by)) ((let peer-acked-read : read_at u32 (c.args.row.now) (c.args.at) ≡ takes c.peer_acked-1.given.0.0 c.peer_acked-1.given.0.1.0 = learn u32_says c.u32_at.ensures c.peer_acked-1.given.1 in peer-acked-read)) in peer-acked-took)))).so ((let peer-read-took : Took u32 (c.args.row.now) ((field-yes (start).so ((let peer-acked-took : Took u32 (c.args.row.now) (c.args.at) c.peer_acked-1.given.0.0 c.peer_acked-1.given.0.1.0 = took _ _ u32 (number-lawful 4) ((let by : Bytes (c.args.row.now) = typed (c.args.row.now) c.shared_slice_known-1.given in by)) ((let peer-acked-read : read_at u32 (c.args.row.now) (c.args.at) ≡ takes c.peer_acked-1.given.0.0 c.peer_acked-1.given.0.1.0 = learn u32_says c.u32_at.ensures c.peer_acked-1.given.1 in peer-acked-read)) in peer-acked-took)))).here c.peer_read-1.given.0.0 c.peer_read-1.given.0.1.0 = took _ _ u32 (number-lawful 4) ((let by : Bytes (c.args.row.now) = typed (c.args.row.now) c.shared_slice_known-1.given in by)) ((let peer-read-read : read_at u32 (c.args.row.now) ((field-yes (start).so ((let peer-acked-took : Took u32 (c.args.row.now) (c.args.at) c.peer_acked-1.given.0.0 c.peer_acked-1.given.0.1.0 = took _ _ u32 (number-lawful 4) ((let by : Bytes (c.args.row.now) = typed (c.args.row.now) c.shared_slice_known-1.given in by)) ((let peer-acked-read : read_at u32 (c.args.row.now) (c.args.at) ≡ takes c.peer_acked-1.given.0.0 c.peer_acked-1.given.0.1.0 = learn u32_says c.u32_at.ensures c.peer_acked-1.given.1 in peer-acked-read)) in peer-acked-took)))).here ≡ takes c.peer_read-1.given.0.0 c.peer_read-1.given.0.1.0 = learn u32_says c.u32_at-2.ensures c.peer_read-1.given.1 in peer-read-read)) in peer-read-took)))).here c.read_marked-1.given.0.0 c.read_marked-1.given.0.1.0 = took _ _ u32 (number-lawful 4) ((let by : Bytes (c.args.row.now) = typed (c.args.row.now) c.shared_slice_known-1.given in by)) ((let read-marked-read : read_at u32 (c.args.row.now) ((field-yes ((field-yes (start).so ((let peer-acked-took : Took u32 (c.args.row.now) (c.args.at) c.peer_acked-1.given.0.0 c.peer_acked-1.given.0.1.0 = took _ _ u32 (number-lawful 4) ((let by : Bytes (c.args.row.now) = typed (c.args.row.now) c.shared_slice_known-1.given in by)) ((let peer-acked-read : read_at u32 (c.args.row.now) (c.args.at) ≡ takes c.peer_acked-1.given.0.0 c.peer_acked-1.given.0.1.0 = learn u32_says c.u32_at.ensures c.peer_acked-1.given.1 in peer-acked-read)) in peer-acked-took)))).so ((let peer-read-took : Took u32 (c.args.row.now) ((field-yes (start).so ((let peer-acked-took : Took u32 (c.args.row.now) (c.args.at) c.peer_acked-1.given.0.0 c.peer_acked-1.given.0.1.0 = took _ _ u32 (number-lawful 4) ((let by : Bytes (c.args.row.now) = typed (c.args.row.now) c.shared_slice_known-1.given in by)) ((let peer-acked-read : read_at u32 (c.args.row.now) (c.args.at) ≡ takes c.peer_acked-1.given.0.0 c.peer_acked-1.given.0.1.0 = learn u32_says c.u32_at.ensures c.peer_acked-1.given.1 in peer-acked-read)) in peer-acked-took)))).here c.peer_read-1.given.0.0 c.peer_read-1.given.0.1.0 = took _ _ u32 (number-lawful 4) ((let by : Bytes (c.args.row.now) = typed (c.args.row.now) c.shared_slice_known-1.given in by)) ((let peer-read-read : read_at u32 (c.args.row.now) ((field-yes (start).so ((let peer-acked-took : Took u32 (c.args.row.now) (c.args.at) c.peer_acked-1.given.0.0 c.peer_acked-1.given.0.1.0 = took _ _ u32 (number-lawful 4) ((let by : Bytes (c.args.row.now) = typed (c.args.row.now) c.shared_slice_known-1.given in by)) ((let peer-acked-read : read_at u32 (c.args.row.now) (c.args.at) ≡ takes c.peer_acked-1.given.0.0 c.peer_acked-1.given.0.1.0 = learn u32_says c.u32_at.ensures c.peer_acked-1.given.1 in peer-acked-read)) in peer-acked-took)))).here ≡ takes c.peer_read-1.given.0.0 c.peer_read-1.given.0.1.0 = learn u32_says c.u32_at-2.ensures c.peer_read-1.given.1 in peer-read-read)) in peer-read-took)))).here ≡ takes c.read_marked-1.given.0.0 c.read_marked-1.given.0.1.0 = learn u32_says c.u32_at-3.ensures c.read_marked-1.given.1 in read-marked-read)) in read-marked-took)))).here c.contiguous-1.given.0.0 c.contiguous-1.given.0.1.0 = took _ _ u32 (number-lawful 4) ((let by : Bytes (c.args.row.now) = typed (c.args.row.now) c.shared_slice_known-1.given in by)) ((let contiguous-read : read_at u32 (c.args.row.now) ((field-yes ((field-yes ((field-yes (start).so ((let peer-acked-took : Took u32 (c.args.row.now) (c.args.at) c.peer_acked-1.given.0.0 c.peer_acked-1.given.0.1.0 = took _ _ u32 (number-lawful 4) ((let by : Bytes (c.args.row.now) = typed (c.args.row.now) c.shared_slice_known-1.given in by)) ((let peer-acked-read : read_at u32 (c.args.row.now) (c.args.at) ≡ takes c.peer_acked-1.given.0.0 c.peer_acked-1.given.0.1.0 = learn u32_says c.u32_at.ensures c.peer_acked-1.given.1 in peer-acked-read)) in peer-acked-took)))).so ((let peer-read-took : Took u32 (c.args.row.now) ((field-yes (start).so ((let peer-acked-took : Took u32 (c.args.row.now) (c.args.at) c.peer_acked-1.given.0.0 c.peer_acked-1.given.0.1.0 = took _ _ u32 (number-lawful 4) ((let by : Bytes (c.args.row.now) = typed (c.args.row.now) c.shared_slice_known-1.given in by)) ((let peer-acked-read : read_at u32 (c.args.row.now) (c.args.at) ≡ takes c.peer_acked-1.given.0.0 c.peer_acked-1.given.0.1.0 = learn u32_says c.u32_at.ensures c.peer_acked-1.given.1 in peer-acked-read)) in peer-acked-took)))).here c.peer_read-1.given.0.0 c.peer_read-1.given.0.1.0 = took _ _ u32 (number-lawful 4) ((let by : Bytes (c.args.row.now) = typed (c.args.row.now) c.shared_slice_known-1.given in by)) ((let peer-read-read : read_at u32 (c.args.row.now) ((field-yes (start).so ((let peer-acked-took : Took u32 (c.args.row.now) (c.args.at) c.peer_acked-1.given.0.0 c.peer_acked-1.given.0.1.0 = took _ _ u32 (number-lawful 4) ((let by : Bytes (c.args.row.now) = typed (c.args.row.now) c.shared_slice_known-1.given in by)) ((let peer-acked-read : read_at u32 (c.args.row.now) (c.args.at) ≡ takes c.peer_acked-1.given.0.0 c.peer_acked-1.given.0.1.0 = learn u32_says c.u32_at.ensures c.peer_acked-1.given.1 in peer-acked-read)) in peer-acked-took)))).here ≡ takes c.peer_read-1.given.0.0 c.peer_read-1.given.0.1.0 = learn u32_says c.u32_at-2.ensures c.peer_read-1.given.1 in peer-read-read)) in peer-read-took)))).so ((let read-marked-took : Took u32 (c.args.row.now) ((field-yes ((field-yes (start).so ((let peer-acked-took : Took u32 (c.args.row.now) (c.args.at) c.peer_acked-1.given.0.0 c.peer_acked-1.given.0.1.0 = took _ _ u32 (number-lawful 4) ((let by : Bytes (c.args.row.now) = typed (c.args.row.now) c.shared_slice_known-1.given in by)) ((let peer-acked-read : read_at u32 (c.args.row.now) (c.args.at) ≡ takes c.peer_acked-1.given.0.0 c.peer_acked-1.given.0.1.0 = learn u32_says c.u32_at.ensures c.peer_acked-1.given.1 in peer-acked-read)) in peer-acked-took)))).so ((let peer-read-took : Took u32 (c.args.row.now) ((field-yes (start).so ((let peer-acked-took : Took u32 (c.args.row.now) (c.args.at) c.peer_acked-1.given.0.0 c.peer_acked-1.given.0.1.0 = took _ _ u32 (number-lawful 4) ((let by : Bytes (c.args.row.now) = typed (c.args.row.now) c.shared_slice_known-1.given in by)) ((let peer-acked-read : read_at u32 (c.args.row.now) (c.args.at) ≡ takes c.peer_acked-1.given.0.0 c.peer_acked-1.given.0.1.0 = learn u32_says c.u32_at.ensures c.peer_acked-1.given.1 in peer-acked-read)) in peer-acked-took)))).here c.peer_read-1.given.0.0 c.peer_read-1.given.0.1.0 = took _ _ u32 (number-lawful 4) ((let by : Bytes (c.args.row.now) = typed (c.args.row.now) c.shared_slice_known-1.given in by)) ((let peer-read-read : read_at u32 (c.args.row.now) ((field-yes (start).so ((let peer-acked-took : Took u32 (c.args.row.now) (c.args.at) c.peer_acked-1.given.0.0 c.peer_acked-1.given.0.1.0 = took _ _ u32 (number-lawful 4) ((let by : Bytes (c.args.row.now) = typed (c.args.row.now) c.shared_slice_known-1.given in by)) ((let peer-acked-read : read_at u32 (c.args.row.now) (c.args.at) ≡ takes c.peer_acked-1.given.0.0 c.peer_acked-1.given.0.1.0 = learn u32_says c.u32_at.ensures c.peer_acked-1.given.1 in peer-acked-read)) in peer-acked-took)))).here ≡ takes c.peer_read-1.given.0.0 c.peer_read-1.given.0.1.0 = learn u32_says c.u32_at-2.ensures c.peer_read-1.given.1 in peer-read-read)) in peer-read-took)))).here c.read_marked-1.given.0.0 c.read_marked-1.given.0.1.0 = took _ _ u32 (number-lawful 4) ((let by : Bytes (c.args.row.now) = typed (c.args.row.now) c.shared_slice_known-1.given in by)) ((let read-marked-read : read_at u32 (c.args.row.now) ((field-yes ((field-yes (start).so ((let peer-acked-took : Took u32 (c.args.row.now) (c.args.at) c.peer_acked-1.given.0.0 c.peer_acked-1.given.0.1.0 = took _ _ u32 (number-lawful 4) ((let by : Bytes (c.args.row.now) = typed (c.args.row.now) c.shared_slice_known-1.given in by)) ((let peer-acked-read : read_at u32 (c.args.row.now) (c.args.at) ≡ takes c.peer_acked-1.given.0.0 c.peer_acked-1.given.0.1.0 = learn u32_says c.u32_at.ensures c.peer_acked-1.given.1 in peer-acked-read)) in peer-acked-took)))).so ((let peer-read-took : Took u32 (c.args.row.now) ((field-yes (start).so ((let peer-acked-took : Took u32 (c.args.row.now) (c.args.at) c.peer_acked-1.given.0.0 c.peer_acked-1.given.0.1.0 = took _ _ u32 (number-lawful 4) ((let by : Bytes (c.args.row.now) = typed (c.args.row.now) c.shared_slice_known-1.given in by)) ((let peer-acked-read : read_at u32 (c.args.row.now) (c.args.at) ≡ takes c.peer_acked-1.given.0.0 c.peer_acked-1.given.0.1.0 = learn u32_says c.u32_at.ensures c.peer_acked-1.given.1 in peer-acked-read)) in peer-acked-took)))).here c.peer_read-1.given.0.0 c.peer_read-1.given.0.1.0 = took _ _ u32 (number-lawful 4) ((let by : Bytes (c.args.row.now) = typed (c.args.row.now) c.shared_slice_known-1.given in by)) ((let peer-read-read : read_at u32 (c.args.row.now) ((field-yes (start).so ((let peer-acked-took : Took u32 (c.args.row.now) (c.args.at) c.peer_acked-1.given.0.0 c.peer_acked-1.given.0.1.0 = took _ _ u32 (number-lawful 4) ((let by : Bytes (c.args.row.now) = typed (c.args.row.now) c.shared_slice_known-1.given in by)) ((let peer-acked-read : read_at u32 (c.args.row.now) (c.args.at) ≡ takes c.peer_acked-1.given.0.0 c.peer_acked-1.given.0.1.0 = learn u32_says c.u32_at.ensures c.peer_acked-1.given.1 in peer-acked-read)) in peer-acked-took)))).here ≡ takes c.peer_read-1.given.0.0 c.peer_read-1.given.0.1.0 = learn u32_says c.u32_at-2.ensures c.peer_read-1.given.1 in peer-read-read)) in peer-read-took)))).here ≡ takes c.read_marked-1.given.0.0 c.read_marked-1.given.0.1.0 = learn u32_says c.u32_at-3.ensures c.read_marked-1.given.1 in read-marked-read)) in read-marked-took)))).here ≡ takes c.contiguous-1.given.0.0 c.contiguous-1.given.0.1.0 = learn u32_says c.u32_at-4.ensures c.contiguous-1.given.1 in contiguous-read)) in contiguous-took)))).so ((let above-took : Took (list (group range)) (c.args.row.now) ((field-yes ((field-yes ((field-yes ((field-yes (start).so ((let peer-acked-took : Took u32 (c.args.row.now) (c.args.at) c.peer_acked-1.given.0.0 c.peer_acked-1.given.0.1.0 = took _ _ u32 (number-lawful 4) ((let by : Bytes (c.args.row.now) = typed (c.args.row.now) c.shared_slice_known-1.given in by)) ((let peer-acked-read : read_at u32 (c.args.row.now) (c.args.at) ≡ takes c.peer_acked-1.given.0.0 c.peer_acked-1.given.0.1.0 = learn u32_says c.u32_at.ensures c.peer_acked-1.given.1 in peer-acked-read)) in peer-acked-took)))).so ((let peer-read-took : Took u32 (c.args.row.now) ((field-yes (start).so ((let peer-acked-took : Took u32 (c.args.row.now) (c.args.at) c.peer_acked-1.given.0.0 c.peer_acked-1.given.0.1.0 = took _ _ u32 (number-lawful 4) ((let by : Bytes (c.args.row.now) = typed (c.args.row.now) c.shared_slice_known-1.given in by)) ((let peer-acked-read : read_at u32 (c.args.row.now) (c.args.at) ≡ takes c.peer_acked-1.given.0.0 c.peer_acked-1.given.0.1.0 = learn u32_says c.u32_at.ensures c.peer_acked-1.given.1 in peer-acked-read)) in peer-acked-took)))).here c.peer_read-1.given.0.0 c.peer_read-1.given.0.1.0 = took _ _ u32 (number-lawful 4) ((let by : Bytes (c.args.row.now) = typed (c.args.row.now) c.shared_slice_known-1.given in by)) ((let peer-read-read : read_at u32 (c.args.row.now) ((field-yes (start).so ((let peer-acked-took : Took u32 (c.args.row.now) (c.args.at) c.peer_acked-1.given.0.0 c.peer_acked-1.given.0.1.0 = took _ _ u32 (number-lawful 4) ((let by : Bytes (c.args.row.now) = typed (c.args.row.now) c.shared_slice_known-1.given in by)) ((let peer-acked-read : read_at u32 (c.args.row.now) (c.args.at) ≡ takes c.peer_acked-1.given.0.0 c.peer_acked-1.given.0.1.0 = learn u32_says c.u32_at.ensures c.peer_acked-1.given.1 in peer-acked-read)) in peer-acked-took)))).here ≡ takes c.peer_read-1.given.0.0 c.peer_read-1.given.0.1.0 = learn u32_says c.u32_at-2.ensures c.peer_read-1.given.1 in peer-read-read)) in peer-read-took)))).so ((let read-marked-took : Took u32 (c.args.row.now) ((field-yes ((field-yes (start).so ((let peer-acked-took : Took u32 (c.args.row.now) (c.args.at) c.peer_acked-1.given.0.0 c.peer_acked-1.given.0.1.0 = took _ _ u32 (number-lawful 4) ((let by : Bytes (c.args.row.now) = typed (c.args.row.now) c.shared_slice_known-1.given in by)) ((let peer-acked-read : read_at u32 (c.args.row.now) (c.args.at) ≡ takes c.peer_acked-1.given.0.0 c.peer_acked-1.given.0.1.0 = learn u32_says c.u32_at.ensures c.peer_acked-1.given.1 in peer-acked-read)) in peer-acked-took)))).so ((let peer-read-took : Took u32 (c.args.row.now) ((field-yes (start).so ((let peer-acked-took : Took u32 (c.args.row.now) (c.args.at) c.peer_acked-1.given.0.0 c.peer_acked-1.given.0.1.0 = took _ _ u32 (number-lawful 4) ((let by : Bytes (c.args.row.now) = typed (c.args.row.now) c.shared_slice_known-1.given in by)) ((let peer-acked-read : read_at u32 (c.args.row.now) (c.args.at) ≡ takes c.peer_acked-1.given.0.0 c.peer_acked-1.given.0.1.0 = learn u32_says c.u32_at.ensures c.peer_acked-1.given.1 in peer-acked-read)) in peer-acked-took)))).here c.peer_read-1.given.0.0 c.peer_read-1.given.0.1.0 = took _ _ u32 (number-lawful 4) ((let by : Bytes (c.args.row.now) = typed (c.args.row.now) c.shared_slice_known-1.given in by)) ((let peer-read-read : read_at u32 (c.args.row.now) ((field-yes (start).so ((let peer-acked-took : Took u32 (c.args.row.now) (c.args.at) c.peer_acked-1.given.0.0 c.peer_acked-1.given.0.1.0 = took _ _ u32 (number-lawful 4) ((let by : Bytes (c.args.row.now) = typed (c.args.row.now) c.shared_slice_known-1.given in by)) ((let peer-acked-read : read_at u32 (c.args.row.now) (c.args.at) ≡ takes c.peer_acked-1.given.0.0 c.peer_acked-1.given.0.1.0 = learn u32_says c.u32_at.ensures c.peer_acked-1.given.1 in peer-acked-read)) in peer-acked-took)))).here ≡ takes c.peer_read-1.given.0.0 c.peer_read-1.given.0.1.0 = learn u32_says c.u32_at-2.ensures c.peer_read-1.given.1 in peer-read-read)) in peer-read-took)))).here c.read_marked-1.given.0.0 c.read_marked-1.given.0.1.0 = took _ _ u32 (number-lawful 4) ((let by : Bytes (c.args.row.now) = typed (c.args.row.now) c.shared_slice_known-1.given in by)) ((let read-marked-read : read_at u32 (c.args.row.now) ((field-yes ((field-yes (start).so ((let peer-acked-took : Took u32 (c.args.row.now) (c.args.at) c.peer_acked-1.given.0.0 c.peer_acked-1.given.0.1.0 = took _ _ u32 (number-lawful 4) ((let by : Bytes (c.args.row.now) = typed (c.args.row.now) c.shared_slice_known-1.given in by)) ((let peer-acked-read : read_at u32 (c.args.row.now) (c.args.at) ≡ takes c.peer_acked-1.given.0.0 c.peer_acked-1.given.0.1.0 = learn u32_says c.u32_at.ensures c.peer_acked-1.given.1 in peer-acked-read)) in peer-acked-took)))).so ((let peer-read-took : Took u32 (c.args.row.now) ((field-yes (start).so ((let peer-acked-took : Took u32 (c.args.row.now) (c.args.at) c.peer_acked-1.given.0.0 c.peer_acked-1.given.0.1.0 = took _ _ u32 (number-lawful 4) ((let by : Bytes (c.args.row.now) = typed (c.args.row.now) c.shared_slice_known-1.given in by)) ((let peer-acked-read : read_at u32 (c.args.row.now) (c.args.at) ≡ takes c.peer_acked-1.given.0.0 c.peer_acked-1.given.0.1.0 = learn u32_says c.u32_at.ensures c.peer_acked-1.given.1 in peer-acked-read)) in peer-acked-took)))).here c.peer_read-1.given.0.0 c.peer_read-1.given.0.1.0 = took _ _ u32 (number-lawful 4) ((let by : Bytes (c.args.row.now) = typed (c.args.row.now) c.shared_slice_known-1.given in by)) ((let peer-read-read : read_at u32 (c.args.row.now) ((field-yes (start).so ((let peer-acked-took : Took u32 (c.args.row.now) (c.args.at) c.peer_acked-1.given.0.0 c.peer_acked-1.given.0.1.0 = took _ _ u32 (number-lawful 4) ((let by : Bytes (c.args.row.now) = typed (c.args.row.now) c.shared_slice_known-1.given in by)) ((let peer-acked-read : read_at u32 (c.args.row.now) (c.args.at) ≡ takes c.peer_acked-1.given.0.0 c.peer_acked-1.given.0.1.0 = learn u32_says c.u32_at.ensures c.peer_acked-1.given.1 in peer-acked-read)) in peer-acked-took)))).here ≡ takes c.peer_read-1.given.0.0 c.peer_read-1.given.0.1.0 = learn u32_says c.u32_at-2.ensures c.peer_read-1.given.1 in peer-read-read)) in peer-read-took)))).here ≡ takes c.read_marked-1.given.0.0 c.read_marked-1.given.0.1.0 = learn u32_says c.u32_at-3.ensures c.read_marked-1.given.1 in read-marked-read)) in read-marked-took)))).so ((let contiguous-took : Took u32 (c.args.row.now) ((field-yes ((field-yes ((field-yes (start).so ((let peer-acked-took : Took u32 (c.args.row.now) (c.args.at) c.peer_acked-1.given.0.0 c.peer_acked-1.given.0.1.0 = took _ _ u32 (number-lawful 4) ((let by : Bytes (c.args.row.now) = typed (c.args.row.now) c.shared_slice_known-1.given in by)) ((let peer-acked-read : read_at u32 (c.args.row.now) (c.args.at) ≡ takes c.peer_acked-1.given.0.0 c.peer_acked-1.given.0.1.0 = learn u32_says c.u32_at.ensures c.peer_acked-1.given.1 in peer-acked-read)) in peer-acked-took)))).so ((let peer-read-took : Took u32 (c.args.row.now) ((field-yes (start).so ((let peer-acked-took : Took u32 (c.args.row.now) (c.args.at) c.peer_acked-1.given.0.0 c.peer_acked-1.given.0.1.0 = took _ _ u32 (number-lawful 4) ((let by : Bytes (c.args.row.now) = typed (c.args.row.now) c.shared_slice_known-1.given in by)) ((let peer-acked-read : read_at u32 (c.args.row.now) (c.args.at) ≡ takes c.peer_acked-1.given.0.0 c.peer_acked-1.given.0.1.0 = learn u32_says c.u32_at.ensures c.peer_acked-1.given.1 in peer-acked-read)) in peer-acked-took)))).here c.peer_read-1.given.0.0 c.peer_read-1.given.0.1.0 = took _ _ u32 (number-lawful 4) ((let by : Bytes (c.args.row.now) = typed (c.args.row.now) c.shared_slice_known-1.given in by)) ((let peer-read-read : read_at u32 (c.args.row.now) ((field-yes (start).so ((let peer-acked-took : Took u32 (c.args.row.now) (c.args.at) c.peer_acked-1.given.0.0 c.peer_acked-1.given.0.1.0 = took _ _ u32 (number-lawful 4) ((let by : Bytes (c.args.row.now) = typed (c.args.row.now) c.shared_slice_known-1.given in by)) ((let peer-acked-read : read_at u32 (c.args.row.now) (c.args.at) ≡ takes c.peer_acked-1.given.0.0 c.peer_acked-1.given.0.1.0 = learn u32_says c.u32_at.ensures c.peer_acked-1.given.1 in peer-acked-read)) in peer-acked-took)))).here ≡ takes c.peer_read-1.given.0.0 c.peer_read-1.given.0.1.0 = learn u32_says c.u32_at-2.ensures c.peer_read-1.given.1 in peer-read-read)) in peer-read-took)))).so ((let read-marked-took : Took u32 (c.args.row.now) ((field-yes ((field-yes (start).so ((let peer-acked-took : Took u32 (c.args.row.now) (c.args.at) c.peer_acked-1.given.0.0 c.peer_acked-1.given.0.1.0 = took _ _ u32 (number-lawful 4) ((let by : Bytes (c.args.row.now) = typed (c.args.row.now) c.shared_slice_known-1.given in by)) ((let peer-acked-read : read_at u32 (c.args.row.now) (c.args.at) ≡ takes c.peer_acked-1.given.0.0 c.peer_acked-1.given.0.1.0 = learn u32_says c.u32_at.ensures c.peer_acked-1.given.1 in peer-acked-read)) in peer-acked-took)))).so ((let peer-read-took : Took u32 (c.args.row.now) ((field-yes (start).so ((let peer-acked-took : Took u32 (c.args.row.now) (c.args.at) c.peer_acked-1.given.0.0 c.peer_acked-1.given.0.1.0 = took _ _ u32 (number-lawful 4) ((let by : Bytes (c.args.row.now) = typed (c.args.row.now) c.shared_slice_known-1.given in by)) ((let peer-acked-read : read_at u32 (c.args.row.now) (c.args.at) ≡ takes c.peer_acked-1.given.0.0 c.peer_acked-1.given.0.1.0 = learn u32_says c.u32_at.ensures c.peer_acked-1.given.1 in peer-acked-read)) in peer-acked-took)))).here c.peer_read-1.given.0.0 c.peer_read-1.given.0.1.0 = took _ _ u32 (number-lawful 4) ((let by : Bytes (c.args.row.now) = typed (c.args.row.now) c.shared_slice_known-1.given in by)) ((let peer-read-read : read_at u32 (c.args.row.now) ((field-yes (start).so ((let peer-acked-took : Took u32 (c.args.row.now) (c.args.at) c.peer_acked-1.given.0.0 c.peer_acked-1.given.0.1.0 = took _ _ u32 (number-lawful 4) ((let by : Bytes (c.args.row.now) = typed (c.args.row.now) c.shared_slice_known-1.given in by)) ((let peer-acked-read : read_at u32 (c.args.row.now) (c.args.at) ≡ takes c.peer_acked-1.given.0.0 c.peer_acked-1.given.0.1.0 = learn u32_says c.u32_at.ensures c.peer_acked-1.given.1 in peer-acked-read)) in peer-acked-took)))).here ≡ takes c.peer_read-1.given.0.0 c.peer_read-1.given.0.1.0 = learn u32_says c.u32_at-2.ensures c.peer_read-1.given.1 in peer-read-read)) in peer-read-took)))).here c.read_marked-1.given.0.0 c.read_marked-1.given.0.1.0 = took _ _ u32 (number-lawful 4) ((let by : Bytes (c.args.row.now) = typed (c.args.row.now) c.shared_slice_known-1.given in by)) ((let read-marked-read : read_at u32 (c.args.row.now) ((field-yes ((field-yes (start).so ((let peer-acked-took : Took u32 (c.args.row.now) (c.args.at) c.peer_acked-1.given.0.0 c.peer_acked-1.given.0.1.0 = took _ _ u32 (number-lawful 4) ((let by : Bytes (c.args.row.now) = typed (c.args.row.now) c.shared_slice_known-1.given in by)) ((let peer-acked-read : read_at u32 (c.args.row.now) (c.args.at) ≡ takes c.peer_acked-1.given.0.0 c.peer_acked-1.given.0.1.0 = learn u32_says c.u32_at.ensures c.peer_acked-1.given.1 in peer-acked-read)) in peer-acked-took)))).so ((let peer-read-took : Took u32 (c.args.row.now) ((field-yes (start).so ((let peer-acked-took : Took u32 (c.args.row.now) (c.args.at) c.peer_acked-1.given.0.0 c.peer_acked-1.given.0.1.0 = took _ _ u32 (number-lawful 4) ((let by : Bytes (c.args.row.now) = typed (c.args.row.now) c.shared_slice_known-1.given in by)) ((let peer-acked-read : read_at u32 (c.args.row.now) (c.args.at) ≡ takes c.peer_acked-1.given.0.0 c.peer_acked-1.given.0.1.0 = learn u32_says c.u32_at.ensures c.peer_acked-1.given.1 in peer-acked-read)) in peer-acked-took)))).here c.peer_read-1.given.0.0 c.peer_read-1.given.0.1.0 = took _ _ u32 (number-lawful 4) ((let by : Bytes (c.args.row.now) = typed (c.args.row.now) c.shared_slice_known-1.given in by)) ((let peer-read-read : read_at u32 (c.args.row.now) ((field-yes (start).so ((let peer-acked-took : Took u32 (c.args.row.now) (c.args.at) c.peer_acked-1.given.0.0 c.peer_acked-1.given.0.1.0 = took _ _ u32 (number-lawful 4) ((let by : Bytes (c.args.row.now) = typed (c.args.row.now) c.shared_slice_known-1.given in by)) ((let peer-acked-read : read_at u32 (c.args.row.now) (c.args.at) ≡ takes c.peer_acked-1.given.0.0 c.peer_acked-1.given.0.1.0 = learn u32_says c.u32_at.ensures c.peer_acked-1.given.1 in peer-acked-read)) in peer-acked-took)))).here ≡ takes c.peer_read-1.given.0.0 c.peer_read-1.given.0.1.0 = learn u32_says c.u32_at-2.ensures c.peer_read-1.given.1 in peer-read-read)) in peer-read-took)))).here ≡ takes c.read_marked-1.given.0.0 c.read_marked-1.given.0.1.0 = learn u32_says c.u32_at-3.ensures c.read_marked-1.given.1 in read-marked-read)) in read-marked-took)))).here c.contiguous-1.given.0.0 c.contiguous-1.given.0.1.0 = took _ _ u32 (number-lawful 4) ((let by : Bytes (c.args.row.now) = typed (c.args.row.now) c.shared_slice_known-1.given in by)) ((let contiguous-read : read_at u32 (c.args.row.now) ((field-yes ((field-yes ((field-yes (start).so ((let peer-acked-took : Took u32 (c.args.row.now) (c.args.at) c.peer_acked-1.given.0.0 c.peer_acked-1.given.0.1.0 = took _ _ u32 (number-lawful 4) ((let by : Bytes (c.args.row.now) = typed (c.args.row.now) c.shared_slice_known-1.given in by)) ((let peer-acked-read : read_at u32 (c.args.row.now) (c.args.at) ≡ takes c.peer_acked-1.given.0.0 c.peer_acked-1.given.0.1.0 = learn u32_says c.u32_at.ensures c.peer_acked-1.given.1 in peer-acked-read)) in peer-acked-took)))).so ((let peer-read-took : Took u32 (c.args.row.now) ((field-yes (start).so ((let peer-acked-took : Took u32 (c.args.row.now) (c.args.at) c.peer_acked-1.given.0.0 c.peer_acked-1.given.0.1.0 = took _ _ u32 (number-lawful 4) ((let by : Bytes (c.args.row.now) = typed (c.args.row.now) c.shared_slice_known-1.given in by)) ((let peer-acked-read : read_at u32 (c.args.row.now) (c.args.at) ≡ takes c.peer_acked-1.given.0.0 c.peer_acked-1.given.0.1.0 = learn u32_says c.u32_at.ensures c.peer_acked-1.given.1 in peer-acked-read)) in peer-acked-took)))).here c.peer_read-1.given.0.0 c.peer_read-1.given.0.1.0 = took _ _ u32 (number-lawful 4) ((let by : Bytes (c.args.row.now) = typed (c.args.row.now) c.shared_slice_known-1.given in by)) ((let peer-read-read : read_at u32 (c.args.row.now) ((field-yes (start).so ((let peer-acked-took : Took u32 (c.args.row.now) (c.args.at) c.peer_acked-1.given.0.0 c.peer_acked-1.given.0.1.0 = took _ _ u32 (number-lawful 4) ((let by : Bytes (c.args.row.now) = typed (c.args.row.now) c.shared_slice_known-1.given in by)) ((let peer-acked-read : read_at u32 (c.args.row.now) (c.args.at) ≡ takes c.peer_acked-1.given.0.0 c.peer_acked-1.given.0.1.0 = learn u32_says c.u32_at.ensures c.peer_acked-1.given.1 in peer-acked-read)) in peer-acked-took)))).here ≡ takes c.peer_read-1.given.0.0 c.peer_read-1.given.0.1.0 = learn u32_says c.u32_at-2.ensures c.peer_read-1.given.1 in peer-read-read)) in peer-read-took)))).so ((let read-marked-took : Took u32 (c.args.row.now) ((field-yes ((field-yes (start).so ((let peer-acked-took : Took u32 (c.args.row.now) (c.args.at) c.peer_acked-1.given.0.0 c.peer_acked-1.given.0.1.0 = took _ _ u32 (number-lawful 4) ((let by : Bytes (c.args.row.now) = typed (c.args.row.now) c.shared_slice_known-1.given in by)) ((let peer-acked-read : read_at u32 (c.args.row.now) (c.args.at) ≡ takes c.peer_acked-1.given.0.0 c.peer_acked-1.given.0.1.0 = learn u32_says c.u32_at.ensures c.peer_acked-1.given.1 in peer-acked-read)) in peer-acked-took)))).so ((let peer-read-took : Took u32 (c.args.row.now) ((field-yes (start).so ((let peer-acked-took : Took u32 (c.args.row.now) (c.args.at) c.peer_acked-1.given.0.0 c.peer_acked-1.given.0.1.0 = took _ _ u32 (number-lawful 4) ((let by : Bytes (c.args.row.now) = typed (c.args.row.now) c.shared_slice_known-1.given in by)) ((let peer-acked-read : read_at u32 (c.args.row.now) (c.args.at) ≡ takes c.peer_acked-1.given.0.0 c.peer_acked-1.given.0.1.0 = learn u32_says c.u32_at.ensures c.peer_acked-1.given.1 in peer-acked-read)) in peer-acked-took)))).here c.peer_read-1.given.0.0 c.peer_read-1.given.0.1.0 = took _ _ u32 (number-lawful 4) ((let by : Bytes (c.args.row.now) = typed (c.args.row.now) c.shared_slice_known-1.given in by)) ((let peer-read-read : read_at u32 (c.args.row.now) ((field-yes (start).so ((let peer-acked-took : Took u32 (c.args.row.now) (c.args.at) c.peer_acked-1.given.0.0 c.peer_acked-1.given.0.1.0 = took _ _ u32 (number-lawful 4) ((let by : Bytes (c.args.row.now) = typed (c.args.row.now) c.shared_slice_known-1.given in by)) ((let peer-acked-read : read_at u32 (c.args.row.now) (c.args.at) ≡ takes c.peer_acked-1.given.0.0 c.peer_acked-1.given.0.1.0 = learn u32_says c.u32_at.ensures c.peer_acked-1.given.1 in peer-acked-read)) in peer-acked-took)))).here ≡ takes c.peer_read-1.given.0.0 c.peer_read-1.given.0.1.0 = learn u32_says c.u32_at-2.ensures c.peer_read-1.given.1 in peer-read-read)) in peer-read-took)))).here c.read_marked-1.given.0.0 c.read_marked-1.given.0.1.0 = took _ _ u32 (number-lawful 4) ((let by : Bytes (c.args.row.now) = typed (c.args.row.now) c.shared_slice_known-1.given in by)) ((let read-marked-read : read_at u32 (c.args.row.now) ((field-yes ((field-yes (start).so ((let peer-acked-took : Took u32 (c.args.row.now) (c.args.at) c.peer_acked-1.given.0.0 c.peer_acked-1.given.0.1.0 = took _ _ u32 (number-lawful 4) ((let by : Bytes (c.args.row.now) = typed (c.args.row.now) c.shared_slice_known-1.given in by)) ((let peer-acked-read : read_at u32 (c.args.row.now) (c.args.at) ≡ takes c.peer_acked-1.given.0.0 c.peer_acked-1.given.0.1.0 = learn u32_says c.u32_at.ensures c.peer_acked-1.given.1 in peer-acked-read)) in peer-acked-took)))).so ((let peer-read-took : Took u32 (c.args.row.now) ((field-yes (start).so ((let peer-acked-took : Took u32 (c.args.row.now) (c.args.at) c.peer_acked-1.given.0.0 c.peer_acked-1.given.0.1.0 = took _ _ u32 (number-lawful 4) ((let by : Bytes (c.args.row.now) = typed (c.args.row.now) c.shared_slice_known-1.given in by)) ((let peer-acked-read : read_at u32 (c.args.row.now) (c.args.at) ≡ takes c.peer_acked-1.given.0.0 c.peer_acked-1.given.0.1.0 = learn u32_says c.u32_at.ensures c.peer_acked-1.given.1 in peer-acked-read)) in peer-acked-took)))).here c.peer_read-1.given.0.0 c.peer_read-1.given.0.1.0 = took _ _ u32 (number-lawful 4) ((let by : Bytes (c.args.row.now) = typed (c.args.row.now) c.shared_slice_known-1.given in by)) ((let peer-read-read : read_at u32 (c.args.row.now) ((field-yes (start).so ((let peer-acked-took : Took u32 (c.args.row.now) (c.args.at) c.peer_acked-1.given.0.0 c.peer_acked-1.given.0.1.0 = took _ _ u32 (number-lawful 4) ((let by : Bytes (c.args.row.now) = typed (c.args.row.now) c.shared_slice_known-1.given in by)) ((let peer-acked-read : read_at u32 (c.args.row.now) (c.args.at) ≡ takes c.peer_acked-1.given.0.0 c.peer_acked-1.given.0.1.0 = learn u32_says c.u32_at.ensures c.peer_acked-1.given.1 in peer-acked-read)) in peer-acked-took)))).here ≡ takes c.peer_read-1.given.0.0 c.peer_read-1.given.0.1.0 = learn u32_says c.u32_at-2.ensures c.peer_read-1.given.1 in peer-read-read)) in peer-read-took)))).here ≡ takes c.read_marked-1.given.0.0 c.read_marked-1.given.0.1.0 = learn u32_says c.u32_at-3.ensures c.read_marked-1.given.1 in read-marked-read)) in read-marked-took)))).here ≡ takes c.contiguous-1.given.0.0 c.contiguous-1.given.0.1.0 = learn u32_says c.u32_at-4.ensures c.contiguous-1.given.1 in contiguous-read)) in contiguous-took)))).here (list_in (group range) (c.args.row.now) c.above_field-1.given.0.0) c.above_field-1.given.0.0.next = list-took (group range) range-lawful (c.args.row.now) ((let by : Bytes (c.args.row.now) = typed (c.args.row.now) c.shared_slice_known-1.given in by)) _ c.ranges_at-above_field.ensures c.above_field-1.given.1 in above-took)))).here (list_in u32 (c.args.row.now) c.unacked_field-1.given.0.0) c.unacked_field-1.given.0.0.next = list-took u32 (number-lawful 4) (c.args.row.now) ((let by : Bytes (c.args.row.now) = typed (c.args.row.now) c.shared_slice_known-1.given in by)) _ c.numbers_at-unacked_field.ensures c.unacked_field-1.given.1 in unacked-took)))).here (list_in (group range) (c.args.row.now) c.expired_field-1.given.0.0) c.expired_field-1.given.0.0.next = list-took (group range) range-lawful (c.args.row.now) ((let by : Bytes (c.args.row.now) = typed (c.args.row.now) c.shared_slice_known-1.given in by)) _ c.ranges_at-expired_field.ensures c.expired_field-1.given.1 in expired-took)).inside
-    (its-places (c.args.at) its
-    ((let above-starts : c.above_field-1.given.0.0 ≡ list_at (group range) ((field-yes ((field-yes ((field-yes ((field-yes (start).so ((let peer-acked-took : Took u32 (c.args.row.now) (c.args.at) c.peer_acked-1.given.0.0 c.peer_acked-1.given.0.1.0 = took _ _ u32 (number-lawful 4) ((let by : Bytes (c.args.row.now) = typed (c.args.row.now) c.shared_slice_known-1.given in by)) ((let peer-acked-read : read_at u32 (c.args.row.now) (c.args.at) ≡ takes c.peer_acked-1.given.0.0 c.peer_acked-1.given.0.1.0 = learn u32_says c.u32_at.ensures c.peer_acked-1.given.1 in peer-acked-read)) in peer-acked-took)))).so ((let peer-read-took : Took u32 (c.args.row.now) ((field-yes (start).so ((let peer-acked-took : Took u32 (c.args.row.now) (c.args.at) c.peer_acked-1.given.0.0 c.peer_acked-1.given.0.1.0 = took _ _ u32 (number-lawful 4) ((let by : Bytes (c.args.row.now) = typed (c.args.row.now) c.shared_slice_known-1.given in by)) ((let peer-acked-read : read_at u32 (c.args.row.now) (c.args.at) ≡ takes c.peer_acked-1.given.0.0 c.peer_acked-1.given.0.1.0 = learn u32_says c.u32_at.ensures c.peer_acked-1.given.1 in peer-acked-read)) in peer-acked-took)))).here c.peer_read-1.given.0.0 c.peer_read-1.given.0.1.0 = took _ _ u32 (number-lawful 4) ((let by : Bytes (c.args.row.now) = typed (c.args.row.now) c.shared_slice_known-1.given in by)) ((let peer-read-read : read_at u32 (c.args.row.now) ((field-yes (start).so ((let peer-acked-took : Took u32 (c.args.row.now) (c.args.at) c.peer_acked-1.given.0.0 c.peer_acked-1.given.0.1.0 = took _ _ u32 (number-lawful 4) ((let by : Bytes (c.args.row.now) = typed (c.args.row.now) c.shared_slice_known-1.given in by)) ((let peer-acked-read : read_at u32 (c.args.row.now) (c.args.at) ≡ takes c.peer_acked-1.given.0.0 c.peer_acked-1.given.0.1.0 = learn u32_says c.u32_at.ensures c.peer_acked-1.given.1 in peer-acked-read)) in peer-acked-took)))).here ≡ takes c.peer_read-1.given.0.0 c.peer_read-1.given.0.1.0 = learn u32_says c.u32_at-2.ensures c.peer_read-1.given.1 in peer-read-read)) in peer-read-took)))).so ((let read-marked-took : Took u32 (c.args.row.now) ((field-yes ((field-yes (start).so ((let peer-acked-took : Took u32 (c.args.row.now) (c.args.at) c.peer_acked-1.given.0.0 c.peer_acked-1.given.0.1.0 = took _ _ u32 (number-lawful 4) ((let by : Bytes (c.args.row.now) = typed (c.args.row.now) c.shared_slice_known-1.given in by)) ((let peer-acked-read : read_at u32 (c.args.row.now) (c.args.at) ≡ takes c.peer_acked-1.given.0.0 c.peer_acked-1.given.0.1.0 = learn u32_says c.u32_at.ensures c.peer_acked-1.given.1 in peer-acked-read)) in peer-acked-took)))).so ((let peer-read-took : Took u32 (c.args.row.now) ((field-yes (start).so ((let peer-acked-took : Took u32 (c.args.row.now) (c.args.at) c.peer_acked-1.given.0.0 c.peer_acked-1.given.0.1.0 = took _ _ u32 (number-lawful 4) ((let by : Bytes (c.args.row.now) = typed (c.args.row.now) c.shared_slice_known-1.given in by)) ((let peer-acked-read : read_at u32 (c.args.row.now) (c.args.at) ≡ takes c.peer_acked-1.given.0.0 c.peer_acked-1.given.0.1.0 = learn u32_says c.u32_at.ensures c.peer_acked-1.given.1 in peer-acked-read)) in peer-acked-took)))).here c.peer_read-1.given.0.0 c.peer_read-1.given.0.1.0 = took _ _ u32 (number-lawful 4) ((let by : Bytes (c.args.row.now) = typed (c.args.row.now) c.shared_slice_known-1.given in by)) ((let peer-read-read : read_at u32 (c.args.row.now) ((field-yes (start).so ((let peer-acked-took : Took u32 (c.args.row.now) (c.args.at) c.peer_acked-1.given.0.0 c.peer_acked-1.given.0.1.0 = took _ _ u32 (number-lawful 4) ((let by : Bytes (c.args.row.now) = typed (c.args.row.now) c.shared_slice_known-1.given in by)) ((let peer-acked-read : read_at u32 (c.args.row.now) (c.args.at) ≡ takes c.peer_acked-1.given.0.0 c.peer_acked-1.given.0.1.0 = learn u32_says c.u32_at.ensures c.peer_acked-1.given.1 in peer-acked-read)) in peer-acked-took)))).here ≡ takes c.peer_read-1.given.0.0 c.peer_read-1.given.0.1.0 = learn u32_says c.u32_at-2.ensures c.peer_read-1.given.1 in peer-read-read)) in peer-read-took)))).here c.read_marked-1.given.0.0 c.read_marked-1.given.0.1.0 = took _ _ u32 (number-lawful 4) ((let by : Bytes (c.args.row.now) = typed (c.args.row.now) c.shared_slice_known-1.given in by)) ((let read-marked-read : read_at u32 (c.args.row.now) ((field-yes ((field-yes (start).so ((let peer-acked-took : Took u32 (c.args.row.now) (c.args.at) c.peer_acked-1.given.0.0 c.peer_acked-1.given.0.1.0 = took _ _ u32 (number-lawful 4) ((let by : Bytes (c.args.row.now) = typed (c.args.row.now) c.shared_slice_known-1.given in by)) ((let peer-acked-read : read_at u32 (c.args.row.now) (c.args.at) ≡ takes c.peer_acked-1.given.0.0 c.peer_acked-1.given.0.1.0 = learn u32_says c.u32_at.ensures c.peer_acked-1.given.1 in peer-acked-read)) in peer-acked-took)))).so ((let peer-read-took : Took u32 (c.args.row.now) ((field-yes (start).so ((let peer-acked-took : Took u32 (c.args.row.now) (c.args.at) c.peer_acked-1.given.0.0 c.peer_acked-1.given.0.1.0 = took _ _ u32 (number-lawful 4) ((let by : Bytes (c.args.row.now) = typed (c.args.row.now) c.shared_slice_known-1.given in by)) ((let peer-acked-read : read_at u32 (c.args.row.now) (c.args.at) ≡ takes c.peer_acked-1.given.0.0 c.peer_acked-1.given.0.1.0 = learn u32_says c.u32_at.ensures c.peer_acked-1.given.1 in peer-acked-read)) in peer-acked-took)))).here c.peer_read-1.given.0.0 c.peer_read-1.given.0.1.0 = took _ _ u32 (number-lawful 4) ((let by : Bytes (c.args.row.now) = typed (c.args.row.now) c.shared_slice_known-1.given in by)) ((let peer-read-read : read_at u32 (c.args.row.now) ((field-yes (start).so ((let peer-acked-took : Took u32 (c.args.row.now) (c.args.at) c.peer_acked-1.given.0.0 c.peer_acked-1.given.0.1.0 = took _ _ u32 (number-lawful 4) ((let by : Bytes (c.args.row.now) = typed (c.args.row.now) c.shared_slice_known-1.given in by)) ((let peer-acked-read : read_at u32 (c.args.row.now) (c.args.at) ≡ takes c.peer_acked-1.given.0.0 c.peer_acked-1.given.0.1.0 = learn u32_says c.u32_at.ensures c.peer_acked-1.given.1 in peer-acked-read)) in peer-acked-took)))).here ≡ takes c.peer_read-1.given.0.0 c.peer_read-1.given.0.1.0 = learn u32_says c.u32_at-2.ensures c.peer_read-1.given.1 in peer-read-read)) in peer-read-took)))).here ≡ takes c.read_marked-1.given.0.0 c.read_marked-1.given.0.1.0 = learn u32_says c.u32_at-3.ensures c.read_marked-1.given.1 in read-marked-read)) in read-marked-took)))).so ((let contiguous-took : Took u32 (c.args.row.now) ((field-yes ((field-yes ((field-yes (start).so ((let peer-acked-took : Took u32 (c.args.row.now) (c.args.at) c.peer_acked-1.given.0.0 c.peer_acked-1.given.0.1.0 = took _ _ u32 (number-lawful 4) ((let by : Bytes (c.args.row.now) = typed (c.args.row.now) c.shared_slice_known-1.given in by)) ((let peer-acked-read : read_at u32 (c.args.row.now) (c.args.at) ≡ takes c.peer_acked-1.given.0.0 c.peer_acked-1.given.0.1.0 = learn u32_says c.u32_at.ensures c.peer_acked-1.given.1 in peer-acked-read)) in peer-acked-took)))).so ((let peer-read-took : Took u32 (c.args.row.now) ((field-yes (start).so ((let peer-acked-took : Took u32 (c.args.row.now) (c.args.at) c.peer_acked-1.given.0.0 c.peer_acked-1.given.0.1.0 = took _ _ u32 (number-lawful 4) ((let by : Bytes (c.args.row.now) = typed (c.args.row.now) c.shared_slice_known-1.given in by)) ((let peer-acked-read : read_at u32 (c.args.row.now) (c.args.at) ≡ takes c.peer_acked-1.given.0.0 c.peer_acked-1.given.0.1.0 = learn u32_says c.u32_at.ensures c.peer_acked-1.given.1 in peer-acked-read)) in peer-acked-took)))).here c.peer_read-1.given.0.0 c.peer_read-1.given.0.1.0 = took _ _ u32 (number-lawful 4) ((let by : Bytes (c.args.row.now) = typed (c.args.row.now) c.shared_slice_known-1.given in by)) ((let peer-read-read : read_at u32 (c.args.row.now) ((field-yes (start).so ((let peer-acked-took : Took u32 (c.args.row.now) (c.args.at) c.peer_acked-1.given.0.0 c.peer_acked-1.given.0.1.0 = took _ _ u32 (number-lawful 4) ((let by : Bytes (c.args.row.now) = typed (c.args.row.now) c.shared_slice_known-1.given in by)) ((let peer-acked-read : read_at u32 (c.args.row.now) (c.args.at) ≡ takes c.peer_acked-1.given.0.0 c.peer_acked-1.given.0.1.0 = learn u32_says c.u32_at.ensures c.peer_acked-1.given.1 in peer-acked-read)) in peer-acked-took)))).here ≡ takes c.peer_read-1.given.0.0 c.peer_read-1.given.0.1.0 = learn u32_says c.u32_at-2.ensures c.peer_read-1.given.1 in peer-read-read)) in peer-read-took)))).so ((let read-marked-took : Took u32 (c.args.row.now) ((field-yes ((field-yes (start).so ((let peer-acked-took : Took u32 (c.args.row.now) (c.args.at) c.peer_acked-1.given.0.0 c.peer_acked-1.given.0.1.0 = took _ _ u32 (number-lawful 4) ((let by : Bytes (c.args.row.now) = typed (c.args.row.now) c.shared_slice_known-1.given in by)) ((let peer-acked-read : read_at u32 (c.args.row.now) (c.args.at) ≡ takes c.peer_acked-1.given.0.0 c.peer_acked-1.given.0.1.0 = learn u32_says c.u32_at.ensures c.peer_acked-1.given.1 in peer-acked-read)) in peer-acked-took)))).so ((let peer-read-took : Took u32 (c.args.row.now) ((field-yes (start).so ((let peer-acked-took : Took u32 (c.args.row.now) (c.args.at) c.peer_acked-1.given.0.0 c.peer_acked-1.given.0.1.0 = took _ _ u32 (number-lawful 4) ((let by : Bytes (c.args.row.now) = typed (c.args.row.now) c.shared_slice_known-1.given in by)) ((let peer-acked-read : read_at u32 (c.args.row.now) (c.args.at) ≡ takes c.peer_acked-1.given.0.0 c.peer_acked-1.given.0.1.0 = learn u32_says c.u32_at.ensures c.peer_acked-1.given.1 in peer-acked-read)) in peer-acked-took)))).here c.peer_read-1.given.0.0 c.peer_read-1.given.0.1.0 = took _ _ u32 (number-lawful 4) ((let by : Bytes (c.args.row.now) = typed (c.args.row.now) c.shared_slice_known-1.given in by)) ((let peer-read-read : read_at u32 (c.args.row.now) ((field-yes (start).so ((let peer-acked-took : Took u32 (c.args.row.now) (c.args.at) c.peer_acked-1.given.0.0 c.peer_acked-1.given.0.1.0 = took _ _ u32 (number-lawful 4) ((let by : Bytes (c.args.row.now) = typed (c.args.row.now) c.shared_slice_known-1.given in by)) ((let peer-acked-read : read_at u32 (c.args.row.now) (c.args.at) ≡ takes c.peer_acked-1.given.0.0 c.peer_acked-1.given.0.1.0 = learn u32_says c.u32_at.ensures c.peer_acked-1.given.1 in peer-acked-read)) in peer-acked-took)))).here ≡ takes c.peer_read-1.given.0.0 c.peer_read-1.given.0.1.0 = learn u32_says c.u32_at-2.ensures c.peer_read-1.given.1 in peer-read-read)) in peer-read-took)))).here c.read_marked-1.given.0.0 c.read_marked-1.given.0.1.0 = took _ _ u32 (number-lawful 4) ((let by : Bytes (c.args.row.now) = typed (c.args.row.now) c.shared_slice_known-1.given in by)) ((let read-marked-read : read_at u32 (c.args.row.now) ((field-yes ((field-yes (start).so ((let peer-acked-took : Took u32 (c.args.row.now) (c.args.at) c.peer_acked-1.given.0.0 c.peer_acked-1.given.0.1.0 = took _ _ u32 (number-lawful 4) ((let by : Bytes (c.args.row.now) = typed (c.args.row.now) c.shared_slice_known-1.given in by)) ((let peer-acked-read : read_at u32 (c.args.row.now) (c.args.at) ≡ takes c.peer_acked-1.given.0.0 c.peer_acked-1.given.0.1.0 = learn u32_says c.u32_at.ensures c.peer_acked-1.given.1 in peer-acked-read)) in peer-acked-took)))).so ((let peer-read-took : Took u32 (c.args.row.now) ((field-yes (start).so ((let peer-acked-took : Took u32 (c.args.row.now) (c.args.at) c.peer_acked-1.given.0.0 c.peer_acked-1.given.0.1.0 = took _ _ u32 (number-lawful 4) ((let by : Bytes (c.args.row.now) = typed (c.args.row.now) c.shared_slice_known-1.given in by)) ((let peer-acked-read : read_at u32 (c.args.row.now) (c.args.at) ≡ takes c.peer_acked-1.given.0.0 c.peer_acked-1.given.0.1.0 = learn u32_says c.u32_at.ensures c.peer_acked-1.given.1 in peer-acked-read)) in peer-acked-took)))).here c.peer_read-1.given.0.0 c.peer_read-1.given.0.1.0 = took _ _ u32 (number-lawful 4) ((let by : Bytes (c.args.row.now) = typed (c.args.row.now) c.shared_slice_known-1.given in by)) ((let peer-read-read : read_at u32 (c.args.row.now) ((field-yes (start).so ((let peer-acked-took : Took u32 (c.args.row.now) (c.args.at) c.peer_acked-1.given.0.0 c.peer_acked-1.given.0.1.0 = took _ _ u32 (number-lawful 4) ((let by : Bytes (c.args.row.now) = typed (c.args.row.now) c.shared_slice_known-1.given in by)) ((let peer-acked-read : read_at u32 (c.args.row.now) (c.args.at) ≡ takes c.peer_acked-1.given.0.0 c.peer_acked-1.given.0.1.0 = learn u32_says c.u32_at.ensures c.peer_acked-1.given.1 in peer-acked-read)) in peer-acked-took)))).here ≡ takes c.peer_read-1.given.0.0 c.peer_read-1.given.0.1.0 = learn u32_says c.u32_at-2.ensures c.peer_read-1.given.1 in peer-read-read)) in peer-read-took)))).here ≡ takes c.read_marked-1.given.0.0 c.read_marked-1.given.0.1.0 = learn u32_says c.u32_at-3.ensures c.read_marked-1.given.1 in read-marked-read)) in read-marked-took)))).here c.contiguous-1.given.0.0 c.contiguous-1.given.0.1.0 = took _ _ u32 (number-lawful 4) ((let by : Bytes (c.args.row.now) = typed (c.args.row.now) c.shared_slice_known-1.given in by)) ((let contiguous-read : read_at u32 (c.args.row.now) ((field-yes ((field-yes ((field-yes (start).so ((let peer-acked-took : Took u32 (c.args.row.now) (c.args.at) c.peer_acked-1.given.0.0 c.peer_acked-1.given.0.1.0 = took _ _ u32 (number-lawful 4) ((let by : Bytes (c.args.row.now) = typed (c.args.row.now) c.shared_slice_known-1.given in by)) ((let peer-acked-read : read_at u32 (c.args.row.now) (c.args.at) ≡ takes c.peer_acked-1.given.0.0 c.peer_acked-1.given.0.1.0 = learn u32_says c.u32_at.ensures c.peer_acked-1.given.1 in peer-acked-read)) in peer-acked-took)))).so ((let peer-read-took : Took u32 (c.args.row.now) ((field-yes (start).so ((let peer-acked-took : Took u32 (c.args.row.now) (c.args.at) c.peer_acked-1.given.0.0 c.peer_acked-1.given.0.1.0 = took _ _ u32 (number-lawful 4) ((let by : Bytes (c.args.row.now) = typed (c.args.row.now) c.shared_slice_known-1.given in by)) ((let peer-acked-read : read_at u32 (c.args.row.now) (c.args.at) ≡ takes c.peer_acked-1.given.0.0 c.peer_acked-1.given.0.1.0 = learn u32_says c.u32_at.ensures c.peer_acked-1.given.1 in peer-acked-read)) in peer-acked-took)))).here c.peer_read-1.given.0.0 c.peer_read-1.given.0.1.0 = took _ _ u32 (number-lawful 4) ((let by : Bytes (c.args.row.now) = typed (c.args.row.now) c.shared_slice_known-1.given in by)) ((let peer-read-read : read_at u32 (c.args.row.now) ((field-yes (start).so ((let peer-acked-took : Took u32 (c.args.row.now) (c.args.at) c.peer_acked-1.given.0.0 c.peer_acked-1.given.0.1.0 = took _ _ u32 (number-lawful 4) ((let by : Bytes (c.args.row.now) = typed (c.args.row.now) c.shared_slice_known-1.given in by)) ((let peer-acked-read : read_at u32 (c.args.row.now) (c.args.at) ≡ takes c.peer_acked-1.given.0.0 c.peer_acked-1.given.0.1.0 = learn u32_says c.u32_at.ensures c.peer_acked-1.given.1 in peer-acked-read)) in peer-acked-took)))).here ≡ takes c.peer_read-1.given.0.0 c.peer_read-1.given.0.1.0 = learn u32_says c.u32_at-2.ensures c.peer_read-1.given.1 in peer-read-read)) in peer-read-took)))).so ((let read-marked-took : Took u32 (c.args.row.now) ((field-yes ((field-yes (start).so ((let peer-acked-took : Took u32 (c.args.row.now) (c.args.at) c.peer_acked-1.given.0.0 c.peer_acked-1.given.0.1.0 = took _ _ u32 (number-lawful 4) ((let by : Bytes (c.args.row.now) = typed (c.args.row.now) c.shared_slice_known-1.given in by)) ((let peer-acked-read : read_at u32 (c.args.row.now) (c.args.at) ≡ takes c.peer_acked-1.given.0.0 c.peer_acked-1.given.0.1.0 = learn u32_says c.u32_at.ensures c.peer_acked-1.given.1 in peer-acked-read)) in peer-acked-took)))).so ((let peer-read-took : Took u32 (c.args.row.now) ((field-yes (start).so ((let peer-acked-took : Took u32 (c.args.row.now) (c.args.at) c.peer_acked-1.given.0.0 c.peer_acked-1.given.0.1.0 = took _ _ u32 (number-lawful 4) ((let by : Bytes (c.args.row.now) = typed (c.args.row.now) c.shared_slice_known-1.given in by)) ((let peer-acked-read : read_at u32 (c.args.row.now) (c.args.at) ≡ takes c.peer_acked-1.given.0.0 c.peer_acked-1.given.0.1.0 = learn u32_says c.u32_at.ensures c.peer_acked-1.given.1 in peer-acked-read)) in peer-acked-took)))).here c.peer_read-1.given.0.0 c.peer_read-1.given.0.1.0 = took _ _ u32 (number-lawful 4) ((let by : Bytes (c.args.row.now) = typed (c.args.row.now) c.shared_slice_known-1.given in by)) ((let peer-read-read : read_at u32 (c.args.row.now) ((field-yes (start).so ((let peer-acked-took : Took u32 (c.args.row.now) (c.args.at) c.peer_acked-1.given.0.0 c.peer_acked-1.given.0.1.0 = took _ _ u32 (number-lawful 4) ((let by : Bytes (c.args.row.now) = typed (c.args.row.now) c.shared_slice_known-1.given in by)) ((let peer-acked-read : read_at u32 (c.args.row.now) (c.args.at) ≡ takes c.peer_acked-1.given.0.0 c.peer_acked-1.given.0.1.0 = learn u32_says c.u32_at.ensures c.peer_acked-1.given.1 in peer-acked-read)) in peer-acked-took)))).here ≡ takes c.peer_read-1.given.0.0 c.peer_read-1.given.0.1.0 = learn u32_says c.u32_at-2.ensures c.peer_read-1.given.1 in peer-read-read)) in peer-read-took)))).here c.read_marked-1.given.0.0 c.read_marked-1.given.0.1.0 = took _ _ u32 (number-lawful 4) ((let by : Bytes (c.args.row.now) = typed (c.args.row.now) c.shared_slice_known-1.given in by)) ((let read-marked-read : read_at u32 (c.args.row.now) ((field-yes ((field-yes (start).so ((let peer-acked-took : Took u32 (c.args.row.now) (c.args.at) c.peer_acked-1.given.0.0 c.peer_acked-1.given.0.1.0 = took _ _ u32 (number-lawful 4) ((let by : Bytes (c.args.row.now) = typed (c.args.row.now) c.shared_slice_known-1.given in by)) ((let peer-acked-read : read_at u32 (c.args.row.now) (c.args.at) ≡ takes c.peer_acked-1.given.0.0 c.peer_acked-1.given.0.1.0 = learn u32_says c.u32_at.ensures c.peer_acked-1.given.1 in peer-acked-read)) in peer-acked-took)))).so ((let peer-read-took : Took u32 (c.args.row.now) ((field-yes (start).so ((let peer-acked-took : Took u32 (c.args.row.now) (c.args.at) c.peer_acked-1.given.0.0 c.peer_acked-1.given.0.1.0 = took _ _ u32 (number-lawful 4) ((let by : Bytes (c.args.row.now) = typed (c.args.row.now) c.shared_slice_known-1.given in by)) ((let peer-acked-read : read_at u32 (c.args.row.now) (c.args.at) ≡ takes c.peer_acked-1.given.0.0 c.peer_acked-1.given.0.1.0 = learn u32_says c.u32_at.ensures c.peer_acked-1.given.1 in peer-acked-read)) in peer-acked-took)))).here c.peer_read-1.given.0.0 c.peer_read-1.given.0.1.0 = took _ _ u32 (number-lawful 4) ((let by : Bytes (c.args.row.now) = typed (c.args.row.now) c.shared_slice_known-1.given in by)) ((let peer-read-read : read_at u32 (c.args.row.now) ((field-yes (start).so ((let peer-acked-took : Took u32 (c.args.row.now) (c.args.at) c.peer_acked-1.given.0.0 c.peer_acked-1.given.0.1.0 = took _ _ u32 (number-lawful 4) ((let by : Bytes (c.args.row.now) = typed (c.args.row.now) c.shared_slice_known-1.given in by)) ((let peer-acked-read : read_at u32 (c.args.row.now) (c.args.at) ≡ takes c.peer_acked-1.given.0.0 c.peer_acked-1.given.0.1.0 = learn u32_says c.u32_at.ensures c.peer_acked-1.given.1 in peer-acked-read)) in peer-acked-took)))).here ≡ takes c.peer_read-1.given.0.0 c.peer_read-1.given.0.1.0 = learn u32_says c.u32_at-2.ensures c.peer_read-1.given.1 in peer-read-read)) in peer-read-took)))).here ≡ takes c.read_marked-1.given.0.0 c.read_marked-1.given.0.1.0 = learn u32_says c.u32_at-3.ensures c.read_marked-1.given.1 in read-marked-read)) in read-marked-took)))).here ≡ takes c.contiguous-1.given.0.0 c.contiguous-1.given.0.1.0 = learn u32_says c.u32_at-4.ensures c.contiguous-1.given.1 in contiguous-read)) in contiguous-took)))).here (list_in (group range) (c.args.row.now) c.above_field-1.given.0.0) = list-starts (group range) range-lawful (c.args.row.now) ((let by : Bytes (c.args.row.now) = typed (c.args.row.now) c.shared_slice_known-1.given in by)) _ c.ranges_at-above_field.ensures c.above_field-1.given.1 ((let contiguous-took : Took u32 (c.args.row.now) ((field-yes ((field-yes ((field-yes (start).so ((let peer-acked-took : Took u32 (c.args.row.now) (c.args.at) c.peer_acked-1.given.0.0 c.peer_acked-1.given.0.1.0 = took _ _ u32 (number-lawful 4) ((let by : Bytes (c.args.row.now) = typed (c.args.row.now) c.shared_slice_known-1.given in by)) ((let peer-acked-read : read_at u32 (c.args.row.now) (c.args.at) ≡ takes c.peer_acked-1.given.0.0 c.peer_acked-1.given.0.1.0 = learn u32_says c.u32_at.ensures c.peer_acked-1.given.1 in peer-acked-read)) in peer-acked-took)))).so ((let peer-read-took : Took u32 (c.args.row.now) ((field-yes (start).so ((let peer-acked-took : Took u32 (c.args.row.now) (c.args.at) c.peer_acked-1.given.0.0 c.peer_acked-1.given.0.1.0 = took _ _ u32 (number-lawful 4) ((let by : Bytes (c.args.row.now) = typed (c.args.row.now) c.shared_slice_known-1.given in by)) ((let peer-acked-read : read_at u32 (c.args.row.now) (c.args.at) ≡ takes c.peer_acked-1.given.0.0 c.peer_acked-1.given.0.1.0 = learn u32_says c.u32_at.ensures c.peer_acked-1.given.1 in peer-acked-read)) in peer-acked-took)))).here c.peer_read-1.given.0.0 c.peer_read-1.given.0.1.0 = took _ _ u32 (number-lawful 4) ((let by : Bytes (c.args.row.now) = typed (c.args.row.now) c.shared_slice_known-1.given in by)) ((let peer-read-read : read_at u32 (c.args.row.now) ((field-yes (start).so ((let peer-acked-took : Took u32 (c.args.row.now) (c.args.at) c.peer_acked-1.given.0.0 c.peer_acked-1.given.0.1.0 = took _ _ u32 (number-lawful 4) ((let by : Bytes (c.args.row.now) = typed (c.args.row.now) c.shared_slice_known-1.given in by)) ((let peer-acked-read : read_at u32 (c.args.row.now) (c.args.at) ≡ takes c.peer_acked-1.given.0.0 c.peer_acked-1.given.0.1.0 = learn u32_says c.u32_at.ensures c.peer_acked-1.given.1 in peer-acked-read)) in peer-acked-took)))).here ≡ takes c.peer_read-1.given.0.0 c.peer_read-1.given.0.1.0 = learn u32_says c.u32_at-2.ensures c.peer_read-1.given.1 in peer-read-read)) in peer-read-took)))).so ((let read-marked-took : Took u32 (c.args.row.now) ((field-yes ((field-yes (start).so ((let peer-acked-took : Took u32 (c.args.row.now) (c.args.at) c.peer_acked-1.given.0.0 c.peer_acked-1.given.0.1.0 = took _ _ u32 (number-lawful 4) ((let by : Bytes (c.args.row.now) = typed (c.args.row.now) c.shared_slice_known-1.given in by)) ((let peer-acked-read : read_at u32 (c.args.row.now) (c.args.at) ≡ takes c.peer_acked-1.given.0.0 c.peer_acked-1.given.0.1.0 = learn u32_says c.u32_at.ensures c.peer_acked-1.given.1 in peer-acked-read)) in peer-acked-took)))).so ((let peer-read-took : Took u32 (c.args.row.now) ((field-yes (start).so ((let peer-acked-took : Took u32 (c.args.row.now) (c.args.at) c.peer_acked-1.given.0.0 c.peer_acked-1.given.0.1.0 = took _ _ u32 (number-lawful 4) ((let by : Bytes (c.args.row.now) = typed (c.args.row.now) c.shared_slice_known-1.given in by)) ((let peer-acked-read : read_at u32 (c.args.row.now) (c.args.at) ≡ takes c.peer_acked-1.given.0.0 c.peer_acked-1.given.0.1.0 = learn u32_says c.u32_at.ensures c.peer_acked-1.given.1 in peer-acked-read)) in peer-acked-took)))).here c.peer_read-1.given.0.0 c.peer_read-1.given.0.1.0 = took _ _ u32 (number-lawful 4) ((let by : Bytes (c.args.row.now) = typed (c.args.row.now) c.shared_slice_known-1.given in by)) ((let peer-read-read : read_at u32 (c.args.row.now) ((field-yes (start).so ((let peer-acked-took : Took u32 (c.args.row.now) (c.args.at) c.peer_acked-1.given.0.0 c.peer_acked-1.given.0.1.0 = took _ _ u32 (number-lawful 4) ((let by : Bytes (c.args.row.now) = typed (c.args.row.now) c.shared_slice_known-1.given in by)) ((let peer-acked-read : read_at u32 (c.args.row.now) (c.args.at) ≡ takes c.peer_acked-1.given.0.0 c.peer_acked-1.given.0.1.0 = learn u32_says c.u32_at.ensures c.peer_acked-1.given.1 in peer-acked-read)) in peer-acked-took)))).here ≡ takes c.peer_read-1.given.0.0 c.peer_read-1.given.0.1.0 = learn u32_says c.u32_at-2.ensures c.peer_read-1.given.1 in peer-read-read)) in peer-read-took)))).here c.read_marked-1.given.0.0 c.read_marked-1.given.0.1.0 = took _ _ u32 (number-lawful 4) ((let by : Bytes (c.args.row.now) = typed (c.args.row.now) c.shared_slice_known-1.given in by)) ((let read-marked-read : read_at u32 (c.args.row.now) ((field-yes ((field-yes (start).so ((let peer-acked-took : Took u32 (c.args.row.now) (c.args.at) c.peer_acked-1.given.0.0 c.peer_acked-1.given.0.1.0 = took _ _ u32 (number-lawful 4) ((let by : Bytes (c.args.row.now) = typed (c.args.row.now) c.shared_slice_known-1.given in by)) ((let peer-acked-read : read_at u32 (c.args.row.now) (c.args.at) ≡ takes c.peer_acked-1.given.0.0 c.peer_acked-1.given.0.1.0 = learn u32_says c.u32_at.ensures c.peer_acked-1.given.1 in peer-acked-read)) in peer-acked-took)))).so ((let peer-read-took : Took u32 (c.args.row.now) ((field-yes (start).so ((let peer-acked-took : Took u32 (c.args.row.now) (c.args.at) c.peer_acked-1.given.0.0 c.peer_acked-1.given.0.1.0 = took _ _ u32 (number-lawful 4) ((let by : Bytes (c.args.row.now) = typed (c.args.row.now) c.shared_slice_known-1.given in by)) ((let peer-acked-read : read_at u32 (c.args.row.now) (c.args.at) ≡ takes c.peer_acked-1.given.0.0 c.peer_acked-1.given.0.1.0 = learn u32_says c.u32_at.ensures c.peer_acked-1.given.1 in peer-acked-read)) in peer-acked-took)))).here c.peer_read-1.given.0.0 c.peer_read-1.given.0.1.0 = took _ _ u32 (number-lawful 4) ((let by : Bytes (c.args.row.now) = typed (c.args.row.now) c.shared_slice_known-1.given in by)) ((let peer-read-read : read_at u32 (c.args.row.now) ((field-yes (start).so ((let peer-acked-took : Took u32 (c.args.row.now) (c.args.at) c.peer_acked-1.given.0.0 c.peer_acked-1.given.0.1.0 = took _ _ u32 (number-lawful 4) ((let by : Bytes (c.args.row.now) = typed (c.args.row.now) c.shared_slice_known-1.given in by)) ((let peer-acked-read : read_at u32 (c.args.row.now) (c.args.at) ≡ takes c.peer_acked-1.given.0.0 c.peer_acked-1.given.0.1.0 = learn u32_says c.u32_at.ensures c.peer_acked-1.given.1 in peer-acked-read)) in peer-acked-took)))).here ≡ takes c.peer_read-1.given.0.0 c.peer_read-1.given.0.1.0 = learn u32_says c.u32_at-2.ensures c.peer_read-1.given.1 in peer-read-read)) in peer-read-took)))).here ≡ takes c.read_marked-1.given.0.0 c.read_marked-1.given.0.1.0 = learn u32_says c.u32_at-3.ensures c.read_marked-1.given.1 in read-marked-read)) in read-marked-took)))).here c.contiguous-1.given.0.0 c.contiguous-1.given.0.1.0 = took _ _ u32 (number-lawful 4) ((let by : Bytes (c.args.row.now) = typed (c.args.row.now) c.shared_slice_known-1.given in by)) ((let contiguous-read : read_at u32 (c.args.row.now) ((field-yes ((field-yes ((field-yes (start).so ((let peer-acked-took : Took u32 (c.args.row.now) (c.args.at) c.peer_acked-1.given.0.0 c.peer_acked-1.given.0.1.0 = took _ _ u32 (number-lawful 4) ((let by : Bytes (c.args.row.now) = typed (c.args.row.now) c.shared_slice_known-1.given in by)) ((let peer-acked-read : read_at u32 (c.args.row.now) (c.args.at) ≡ takes c.peer_acked-1.given.0.0 c.peer_acked-1.given.0.1.0 = learn u32_says c.u32_at.ensures c.peer_acked-1.given.1 in peer-acked-read)) in peer-acked-took)))).so ((let peer-read-took : Took u32 (c.args.row.now) ((field-yes (start).so ((let peer-acked-took : Took u32 (c.args.row.now) (c.args.at) c.peer_acked-1.given.0.0 c.peer_acked-1.given.0.1.0 = took _ _ u32 (number-lawful 4) ((let by : Bytes (c.args.row.now) = typed (c.args.row.now) c.shared_slice_known-1.given in by)) ((let peer-acked-read : read_at u32 (c.args.row.now) (c.args.at) ≡ takes c.peer_acked-1.given.0.0 c.peer_acked-1.given.0.1.0 = learn u32_says c.u32_at.ensures c.peer_acked-1.given.1 in peer-acked-read)) in peer-acked-took)))).here c.peer_read-1.given.0.0 c.peer_read-1.given.0.1.0 = took _ _ u32 (number-lawful 4) ((let by : Bytes (c.args.row.now) = typed (c.args.row.now) c.shared_slice_known-1.given in by)) ((let peer-read-read : read_at u32 (c.args.row.now) ((field-yes (start).so ((let peer-acked-took : Took u32 (c.args.row.now) (c.args.at) c.peer_acked-1.given.0.0 c.peer_acked-1.given.0.1.0 = took _ _ u32 (number-lawful 4) ((let by : Bytes (c.args.row.now) = typed (c.args.row.now) c.shared_slice_known-1.given in by)) ((let peer-acked-read : read_at u32 (c.args.row.now) (c.args.at) ≡ takes c.peer_acked-1.given.0.0 c.peer_acked-1.given.0.1.0 = learn u32_says c.u32_at.ensures c.peer_acked-1.given.1 in peer-acked-read)) in peer-acked-took)))).here ≡ takes c.peer_read-1.given.0.0 c.peer_read-1.given.0.1.0 = learn u32_says c.u32_at-2.ensures c.peer_read-1.given.1 in peer-read-read)) in peer-read-took)))).so ((let read-marked-took : Took u32 (c.args.row.now) ((field-yes ((field-yes (start).so ((let peer-acked-took : Took u32 (c.args.row.now) (c.args.at) c.peer_acked-1.given.0.0 c.peer_acked-1.given.0.1.0 = took _ _ u32 (number-lawful 4) ((let by : Bytes (c.args.row.now) = typed (c.args.row.now) c.shared_slice_known-1.given in by)) ((let peer-acked-read : read_at u32 (c.args.row.now) (c.args.at) ≡ takes c.peer_acked-1.given.0.0 c.peer_acked-1.given.0.1.0 = learn u32_says c.u32_at.ensures c.peer_acked-1.given.1 in peer-acked-read)) in peer-acked-took)))).so ((let peer-read-took : Took u32 (c.args.row.now) ((field-yes (start).so ((let peer-acked-took : Took u32 (c.args.row.now) (c.args.at) c.peer_acked-1.given.0.0 c.peer_acked-1.given.0.1.0 = took _ _ u32 (number-lawful 4) ((let by : Bytes (c.args.row.now) = typed (c.args.row.now) c.shared_slice_known-1.given in by)) ((let peer-acked-read : read_at u32 (c.args.row.now) (c.args.at) ≡ takes c.peer_acked-1.given.0.0 c.peer_acked-1.given.0.1.0 = learn u32_says c.u32_at.ensures c.peer_acked-1.given.1 in peer-acked-read)) in peer-acked-took)))).here c.peer_read-1.given.0.0 c.peer_read-1.given.0.1.0 = took _ _ u32 (number-lawful 4) ((let by : Bytes (c.args.row.now) = typed (c.args.row.now) c.shared_slice_known-1.given in by)) ((let peer-read-read : read_at u32 (c.args.row.now) ((field-yes (start).so ((let peer-acked-took : Took u32 (c.args.row.now) (c.args.at) c.peer_acked-1.given.0.0 c.peer_acked-1.given.0.1.0 = took _ _ u32 (number-lawful 4) ((let by : Bytes (c.args.row.now) = typed (c.args.row.now) c.shared_slice_known-1.given in by)) ((let peer-acked-read : read_at u32 (c.args.row.now) (c.args.at) ≡ takes c.peer_acked-1.given.0.0 c.peer_acked-1.given.0.1.0 = learn u32_says c.u32_at.ensures c.peer_acked-1.given.1 in peer-acked-read)) in peer-acked-took)))).here ≡ takes c.peer_read-1.given.0.0 c.peer_read-1.given.0.1.0 = learn u32_says c.u32_at-2.ensures c.peer_read-1.given.1 in peer-read-read)) in peer-read-took)))).here c.read_marked-1.given.0.0 c.read_marked-1.given.0.1.0 = took _ _ u32 (number-lawful 4) ((let by : Bytes (c.args.row.now) = typed (c.args.row.now) c.shared_slice_known-1.given in by)) ((let read-marked-read : read_at u32 (c.args.row.now) ((field-yes ((field-yes (start).so ((let peer-acked-took : Took u32 (c.args.row.now) (c.args.at) c.peer_acked-1.given.0.0 c.peer_acked-1.given.0.1.0 = took _ _ u32 (number-lawful 4) ((let by : Bytes (c.args.row.now) = typed (c.args.row.now) c.shared_slice_known-1.given in by)) ((let peer-acked-read : read_at u32 (c.args.row.now) (c.args.at) ≡ takes c.peer_acked-1.given.0.0 c.peer_acked-1.given.0.1.0 = learn u32_says c.u32_at.ensures c.peer_acked-1.given.1 in peer-acked-read)) in peer-acked-took)))).so ((let peer-read-took : Took u32 (c.args.row.now) ((field-yes (start).so ((let peer-acked-took : Took u32 (c.args.row.now) (c.args.at) c.peer_acked-1.given.0.0 c.peer_acked-1.given.0.1.0 = took _ _ u32 (number-lawful 4) ((let by : Bytes (c.args.row.now) = typed (c.args.row.now) c.shared_slice_known-1.given in by)) ((let peer-acked-read : read_at u32 (c.args.row.now) (c.args.at) ≡ takes c.peer_acked-1.given.0.0 c.peer_acked-1.given.0.1.0 = learn u32_says c.u32_at.ensures c.peer_acked-1.given.1 in peer-acked-read)) in peer-acked-took)))).here c.peer_read-1.given.0.0 c.peer_read-1.given.0.1.0 = took _ _ u32 (number-lawful 4) ((let by : Bytes (c.args.row.now) = typed (c.args.row.now) c.shared_slice_known-1.given in by)) ((let peer-read-read : read_at u32 (c.args.row.now) ((field-yes (start).so ((let peer-acked-took : Took u32 (c.args.row.now) (c.args.at) c.peer_acked-1.given.0.0 c.peer_acked-1.given.0.1.0 = took _ _ u32 (number-lawful 4) ((let by : Bytes (c.args.row.now) = typed (c.args.row.now) c.shared_slice_known-1.given in by)) ((let peer-acked-read : read_at u32 (c.args.row.now) (c.args.at) ≡ takes c.peer_acked-1.given.0.0 c.peer_acked-1.given.0.1.0 = learn u32_says c.u32_at.ensures c.peer_acked-1.given.1 in peer-acked-read)) in peer-acked-took)))).here ≡ takes c.peer_read-1.given.0.0 c.peer_read-1.given.0.1.0 = learn u32_says c.u32_at-2.ensures c.peer_read-1.given.1 in peer-read-read)) in peer-read-took)))).here ≡ takes c.read_marked-1.given.0.0 c.read_marked-1.given.0.1.0 = learn u32_says c.u32_at-3.ensures c.read_marked-1.given.1 in read-marked-read)) in read-marked-took)))).here ≡ takes c.contiguous-1.given.0.0 c.contiguous-1.given.0.1.0 = learn u32_says c.u32_at-4.ensures c.contiguous-1.given.1 in contiguous-read)) in contiguous-took)).inside in above-starts))
-    (omega (arith, (let peer-acked-next : c.peer_acked-1.given.0.1.0 ≡ c.args.at + length (u32.print c.peer_acked-1.given.0.0) = took-next _ _ u32 (number-lawful 4) ((let by : Bytes (c.args.row.now) = typed (c.args.row.now) c.shared_slice_known-1.given in by)) ((let peer-acked-read : read_at u32 (c.args.row.now) (c.args.at) ≡ takes c.peer_acked-1.given.0.0 c.peer_acked-1.given.0.1.0 = learn u32_says c.u32_at.ensures c.peer_acked-1.given.1 in peer-acked-read)) (not-past _ _ u32 refl ((let peer-acked-read : read_at u32 (c.args.row.now) (c.args.at) ≡ takes c.peer_acked-1.given.0.0 c.peer_acked-1.given.0.1.0 = learn u32_says c.u32_at.ensures c.peer_acked-1.given.1 in peer-acked-read))) in peer-acked-next), (let peer-read-next : c.peer_read-1.given.0.1.0 ≡ ((field-yes (start).so ((let peer-acked-took : Took u32 (c.args.row.now) (c.args.at) c.peer_acked-1.given.0.0 c.peer_acked-1.given.0.1.0 = took _ _ u32 (number-lawful 4) ((let by : Bytes (c.args.row.now) = typed (c.args.row.now) c.shared_slice_known-1.given in by)) ((let peer-acked-read : read_at u32 (c.args.row.now) (c.args.at) ≡ takes c.peer_acked-1.given.0.0 c.peer_acked-1.given.0.1.0 = learn u32_says c.u32_at.ensures c.peer_acked-1.given.1 in peer-acked-read)) in peer-acked-took)))).here + length (u32.print c.peer_read-1.given.0.0) = took-next _ _ u32 (number-lawful 4) ((let by : Bytes (c.args.row.now) = typed (c.args.row.now) c.shared_slice_known-1.given in by)) ((let peer-read-read : read_at u32 (c.args.row.now) ((field-yes (start).so ((let peer-acked-took : Took u32 (c.args.row.now) (c.args.at) c.peer_acked-1.given.0.0 c.peer_acked-1.given.0.1.0 = took _ _ u32 (number-lawful 4) ((let by : Bytes (c.args.row.now) = typed (c.args.row.now) c.shared_slice_known-1.given in by)) ((let peer-acked-read : read_at u32 (c.args.row.now) (c.args.at) ≡ takes c.peer_acked-1.given.0.0 c.peer_acked-1.given.0.1.0 = learn u32_says c.u32_at.ensures c.peer_acked-1.given.1 in peer-acked-read)) in peer-acked-took)))).here ≡ takes c.peer_read-1.given.0.0 c.peer_read-1.given.0.1.0 = learn u32_says c.u32_at-2.ensures c.peer_read-1.given.1 in peer-read-read)) ((let peer-acked-took : Took u32 (c.args.row.now) (c.args.at) c.peer_acked-1.given.0.0 c.peer_acked-1.given.0.1.0 = took _ _ u32 (number-lawful 4) ((let by : Bytes (c.args.row.now) = typed (c.args.row.now) c.shared_slice_known-1.given in by)) ((let peer-acked-read : read_at u32 (c.args.row.now) (c.args.at) ≡ takes c.peer_acked-1.given.0.0 c.peer_acked-1.given.0.1.0 = learn u32_says c.u32_at.ensures c.peer_acked-1.given.1 in peer-acked-read)) in peer-acked-took)).inside in peer-read-next), (let read-marked-next : c.read_marked-1.given.0.1.0 ≡ ((field-yes ((field-yes (start).so ((let peer-acked-took : Took u32 (c.args.row.now) (c.args.at) c.peer_acked-1.given.0.0 c.peer_acked-1.given.0.1.0 = took _ _ u32 (number-lawful 4) ((let by : Bytes (c.args.row.now) = typed (c.args.row.now) c.shared_slice_known-1.given in by)) ((let peer-acked-read : read_at u32 (c.args.row.now) (c.args.at) ≡ takes c.peer_acked-1.given.0.0 c.peer_acked-1.given.0.1.0 = learn u32_says c.u32_at.ensures c.peer_acked-1.given.1 in peer-acked-read)) in peer-acked-took)))).so ((let peer-read-took : Took u32 (c.args.row.now) ((field-yes (start).so ((let peer-acked-took : Took u32 (c.args.row.now) (c.args.at) c.peer_acked-1.given.0.0 c.peer_acked-1.given.0.1.0 = took _ _ u32 (number-lawful 4) ((let by : Bytes (c.args.row.now) = typed (c.args.row.now) c.shared_slice_known-1.given in by)) ((let peer-acked-read : read_at u32 (c.args.row.now) (c.args.at) ≡ takes c.peer_acked-1.given.0.0 c.peer_acked-1.given.0.1.0 = learn u32_says c.u32_at.ensures c.peer_acked-1.given.1 in peer-acked-read)) in peer-acked-took)))).here c.peer_read-1.given.0.0 c.peer_read-1.given.0.1.0 = took _ _ u32 (number-lawful 4) ((let by : Bytes (c.args.row.now) = typed (c.args.row.now) c.shared_slice_known-1.given in by)) ((let peer-read-read : read_at u32 (c.args.row.now) ((field-yes (start).so ((let peer-acked-took : Took u32 (c.args.row.now) (c.args.at) c.peer_acked-1.given.0.0 c.peer_acked-1.given.0.1.0 = took _ _ u32 (number-lawful 4) ((let by : Bytes (c.args.row.now) = typed (c.args.row.now) c.shared_slice_known-1.given in by)) ((let peer-acked-read : read_at u32 (c.args.row.now) (c.args.at) ≡ takes c.peer_acked-1.given.0.0 c.peer_acked-1.given.0.1.0 = learn u32_says c.u32_at.ensures c.peer_acked-1.given.1 in peer-acked-read)) in peer-acked-took)))).here ≡ takes c.peer_read-1.given.0.0 c.peer_read-1.given.0.1.0 = learn u32_says c.u32_at-2.ensures c.peer_read-1.given.1 in peer-read-read)) in peer-read-took)))).here + length (u32.print c.read_marked-1.given.0.0) = took-next _ _ u32 (number-lawful 4) ((let by : Bytes (c.args.row.now) = typed (c.args.row.now) c.shared_slice_known-1.given in by)) ((let read-marked-read : read_at u32 (c.args.row.now) ((field-yes ((field-yes (start).so ((let peer-acked-took : Took u32 (c.args.row.now) (c.args.at) c.peer_acked-1.given.0.0 c.peer_acked-1.given.0.1.0 = took _ _ u32 (number-lawful 4) ((let by : Bytes (c.args.row.now) = typed (c.args.row.now) c.shared_slice_known-1.given in by)) ((let peer-acked-read : read_at u32 (c.args.row.now) (c.args.at) ≡ takes c.peer_acked-1.given.0.0 c.peer_acked-1.given.0.1.0 = learn u32_says c.u32_at.ensures c.peer_acked-1.given.1 in peer-acked-read)) in peer-acked-took)))).so ((let peer-read-took : Took u32 (c.args.row.now) ((field-yes (start).so ((let peer-acked-took : Took u32 (c.args.row.now) (c.args.at) c.peer_acked-1.given.0.0 c.peer_acked-1.given.0.1.0 = took _ _ u32 (number-lawful 4) ((let by : Bytes (c.args.row.now) = typed (c.args.row.now) c.shared_slice_known-1.given in by)) ((let peer-acked-read : read_at u32 (c.args.row.now) (c.args.at) ≡ takes c.peer_acked-1.given.0.0 c.peer_acked-1.given.0.1.0 = learn u32_says c.u32_at.ensures c.peer_acked-1.given.1 in peer-acked-read)) in peer-acked-took)))).here c.peer_read-1.given.0.0 c.peer_read-1.given.0.1.0 = took _ _ u32 (number-lawful 4) ((let by : Bytes (c.args.row.now) = typed (c.args.row.now) c.shared_slice_known-1.given in by)) ((let peer-read-read : read_at u32 (c.args.row.now) ((field-yes (start).so ((let peer-acked-took : Took u32 (c.args.row.now) (c.args.at) c.peer_acked-1.given.0.0 c.peer_acked-1.given.0.1.0 = took _ _ u32 (number-lawful 4) ((let by : Bytes (c.args.row.now) = typed (c.args.row.now) c.shared_slice_known-1.given in by)) ((let peer-acked-read : read_at u32 (c.args.row.now) (c.args.at) ≡ takes c.peer_acked-1.given.0.0 c.peer_acked-1.given.0.1.0 = learn u32_says c.u32_at.ensures c.peer_acked-1.given.1 in peer-acked-read)) in peer-acked-took)))).here ≡ takes c.peer_read-1.given.0.0 c.peer_read-1.given.0.1.0 = learn u32_says c.u32_at-2.ensures c.peer_read-1.given.1 in peer-read-read)) in peer-read-took)))).here ≡ takes c.read_marked-1.given.0.0 c.read_marked-1.given.0.1.0 = learn u32_says c.u32_at-3.ensures c.read_marked-1.given.1 in read-marked-read)) ((let peer-read-took : Took u32 (c.args.row.now) ((field-yes (start).so ((let peer-acked-took : Took u32 (c.args.row.now) (c.args.at) c.peer_acked-1.given.0.0 c.peer_acked-1.given.0.1.0 = took _ _ u32 (number-lawful 4) ((let by : Bytes (c.args.row.now) = typed (c.args.row.now) c.shared_slice_known-1.given in by)) ((let peer-acked-read : read_at u32 (c.args.row.now) (c.args.at) ≡ takes c.peer_acked-1.given.0.0 c.peer_acked-1.given.0.1.0 = learn u32_says c.u32_at.ensures c.peer_acked-1.given.1 in peer-acked-read)) in peer-acked-took)))).here c.peer_read-1.given.0.0 c.peer_read-1.given.0.1.0 = took _ _ u32 (number-lawful 4) ((let by : Bytes (c.args.row.now) = typed (c.args.row.now) c.shared_slice_known-1.given in by)) ((let peer-read-read : read_at u32 (c.args.row.now) ((field-yes (start).so ((let peer-acked-took : Took u32 (c.args.row.now) (c.args.at) c.peer_acked-1.given.0.0 c.peer_acked-1.given.0.1.0 = took _ _ u32 (number-lawful 4) ((let by : Bytes (c.args.row.now) = typed (c.args.row.now) c.shared_slice_known-1.given in by)) ((let peer-acked-read : read_at u32 (c.args.row.now) (c.args.at) ≡ takes c.peer_acked-1.given.0.0 c.peer_acked-1.given.0.1.0 = learn u32_says c.u32_at.ensures c.peer_acked-1.given.1 in peer-acked-read)) in peer-acked-took)))).here ≡ takes c.peer_read-1.given.0.0 c.peer_read-1.given.0.1.0 = learn u32_says c.u32_at-2.ensures c.peer_read-1.given.1 in peer-read-read)) in peer-read-took)).inside in read-marked-next), (let contiguous-next : c.contiguous-1.given.0.1.0 ≡ ((field-yes ((field-yes ((field-yes (start).so ((let peer-acked-took : Took u32 (c.args.row.now) (c.args.at) c.peer_acked-1.given.0.0 c.peer_acked-1.given.0.1.0 = took _ _ u32 (number-lawful 4) ((let by : Bytes (c.args.row.now) = typed (c.args.row.now) c.shared_slice_known-1.given in by)) ((let peer-acked-read : read_at u32 (c.args.row.now) (c.args.at) ≡ takes c.peer_acked-1.given.0.0 c.peer_acked-1.given.0.1.0 = learn u32_says c.u32_at.ensures c.peer_acked-1.given.1 in peer-acked-read)) in peer-acked-took)))).so ((let peer-read-took : Took u32 (c.args.row.now) ((field-yes (start).so ((let peer-acked-took : Took u32 (c.args.row.now) (c.args.at) c.peer_acked-1.given.0.0 c.peer_acked-1.given.0.1.0 = took _ _ u32 (number-lawful 4) ((let by : Bytes (c.args.row.now) = typed (c.args.row.now) c.shared_slice_known-1.given in by)) ((let peer-acked-read : read_at u32 (c.args.row.now) (c.args.at) ≡ takes c.peer_acked-1.given.0.0 c.peer_acked-1.given.0.1.0 = learn u32_says c.u32_at.ensures c.peer_acked-1.given.1 in peer-acked-read)) in peer-acked-took)))).here c.peer_read-1.given.0.0 c.peer_read-1.given.0.1.0 = took _ _ u32 (number-lawful 4) ((let by : Bytes (c.args.row.now) = typed (c.args.row.now) c.shared_slice_known-1.given in by)) ((let peer-read-read : read_at u32 (c.args.row.now) ((field-yes (start).so ((let peer-acked-took : Took u32 (c.args.row.now) (c.args.at) c.peer_acked-1.given.0.0 c.peer_acked-1.given.0.1.0 = took _ _ u32 (number-lawful 4) ((let by : Bytes (c.args.row.now) = typed (c.args.row.now) c.shared_slice_known-1.given in by)) ((let peer-acked-read : read_at u32 (c.args.row.now) (c.args.at) ≡ takes c.peer_acked-1.given.0.0 c.peer_acked-1.given.0.1.0 = learn u32_says c.u32_at.ensures c.peer_acked-1.given.1 in peer-acked-read)) in peer-acked-took)))).here ≡ takes c.peer_read-1.given.0.0 c.peer_read-1.given.0.1.0 = learn u32_says c.u32_at-2.ensures c.peer_read-1.given.1 in peer-read-read)) in peer-read-took)))).so ((let read-marked-took : Took u32 (c.args.row.now) ((field-yes ((field-yes (start).so ((let peer-acked-took : Took u32 (c.args.row.now) (c.args.at) c.peer_acked-1.given.0.0 c.peer_acked-1.given.0.1.0 = took _ _ u32 (number-lawful 4) ((let by : Bytes (c.args.row.now) = typed (c.args.row.now) c.shared_slice_known-1.given in by)) ((let peer-acked-read : read_at u32 (c.args.row.now) (c.args.at) ≡ takes c.peer_acked-1.given.0.0 c.peer_acked-1.given.0.1.0 = learn u32_says c.u32_at.ensures c.peer_acked-1.given.1 in peer-acked-read)) in peer-acked-took)))).so ((let peer-read-took : Took u32 (c.args.row.now) ((field-yes (start).so ((let peer-acked-took : Took u32 (c.args.row.now) (c.args.at) c.peer_acked-1.given.0.0 c.peer_acked-1.given.0.1.0 = took _ _ u32 (number-lawful 4) ((let by : Bytes (c.args.row.now) = typed (c.args.row.now) c.shared_slice_known-1.given in by)) ((let peer-acked-read : read_at u32 (c.args.row.now) (c.args.at) ≡ takes c.peer_acked-1.given.0.0 c.peer_acked-1.given.0.1.0 = learn u32_says c.u32_at.ensures c.peer_acked-1.given.1 in peer-acked-read)) in peer-acked-took)))).here c.peer_read-1.given.0.0 c.peer_read-1.given.0.1.0 = took _ _ u32 (number-lawful 4) ((let by : Bytes (c.args.row.now) = typed (c.args.row.now) c.shared_slice_known-1.given in by)) ((let peer-read-read : read_at u32 (c.args.row.now) ((field-yes (start).so ((let peer-acked-took : Took u32 (c.args.row.now) (c.args.at) c.peer_acked-1.given.0.0 c.peer_acked-1.given.0.1.0 = took _ _ u32 (number-lawful 4) ((let by : Bytes (c.args.row.now) = typed (c.args.row.now) c.shared_slice_known-1.given in by)) ((let peer-acked-read : read_at u32 (c.args.row.now) (c.args.at) ≡ takes c.peer_acked-1.given.0.0 c.peer_acked-1.given.0.1.0 = learn u32_says c.u32_at.ensures c.peer_acked-1.given.1 in peer-acked-read)) in peer-acked-took)))).here ≡ takes c.peer_read-1.given.0.0 c.peer_read-1.given.0.1.0 = learn u32_says c.u32_at-2.ensures c.peer_read-1.given.1 in peer-read-read)) in peer-read-took)))).here c.read_marked-1.given.0.0 c.read_marked-1.given.0.1.0 = took _ _ u32 (number-lawful 4) ((let by : Bytes (c.args.row.now) = typed (c.args.row.now) c.shared_slice_known-1.given in by)) ((let read-marked-read : read_at u32 (c.args.row.now) ((field-yes ((field-yes (start).so ((let peer-acked-took : Took u32 (c.args.row.now) (c.args.at) c.peer_acked-1.given.0.0 c.peer_acked-1.given.0.1.0 = took _ _ u32 (number-lawful 4) ((let by : Bytes (c.args.row.now) = typed (c.args.row.now) c.shared_slice_known-1.given in by)) ((let peer-acked-read : read_at u32 (c.args.row.now) (c.args.at) ≡ takes c.peer_acked-1.given.0.0 c.peer_acked-1.given.0.1.0 = learn u32_says c.u32_at.ensures c.peer_acked-1.given.1 in peer-acked-read)) in peer-acked-took)))).so ((let peer-read-took : Took u32 (c.args.row.now) ((field-yes (start).so ((let peer-acked-took : Took u32 (c.args.row.now) (c.args.at) c.peer_acked-1.given.0.0 c.peer_acked-1.given.0.1.0 = took _ _ u32 (number-lawful 4) ((let by : Bytes (c.args.row.now) = typed (c.args.row.now) c.shared_slice_known-1.given in by)) ((let peer-acked-read : read_at u32 (c.args.row.now) (c.args.at) ≡ takes c.peer_acked-1.given.0.0 c.peer_acked-1.given.0.1.0 = learn u32_says c.u32_at.ensures c.peer_acked-1.given.1 in peer-acked-read)) in peer-acked-took)))).here c.peer_read-1.given.0.0 c.peer_read-1.given.0.1.0 = took _ _ u32 (number-lawful 4) ((let by : Bytes (c.args.row.now) = typed (c.args.row.now) c.shared_slice_known-1.given in by)) ((let peer-read-read : read_at u32 (c.args.row.now) ((field-yes (start).so ((let peer-acked-took : Took u32 (c.args.row.now) (c.args.at) c.peer_acked-1.given.0.0 c.peer_acked-1.given.0.1.0 = took _ _ u32 (number-lawful 4) ((let by : Bytes (c.args.row.now) = typed (c.args.row.now) c.shared_slice_known-1.given in by)) ((let peer-acked-read : read_at u32 (c.args.row.now) (c.args.at) ≡ takes c.peer_acked-1.given.0.0 c.peer_acked-1.given.0.1.0 = learn u32_says c.u32_at.ensures c.peer_acked-1.given.1 in peer-acked-read)) in peer-acked-took)))).here ≡ takes c.peer_read-1.given.0.0 c.peer_read-1.given.0.1.0 = learn u32_says c.u32_at-2.ensures c.peer_read-1.given.1 in peer-read-read)) in peer-read-took)))).here ≡ takes c.read_marked-1.given.0.0 c.read_marked-1.given.0.1.0 = learn u32_says c.u32_at-3.ensures c.read_marked-1.given.1 in read-marked-read)) in read-marked-took)))).here + length (u32.print c.contiguous-1.given.0.0) = took-next _ _ u32 (number-lawful 4) ((let by : Bytes (c.args.row.now) = typed (c.args.row.now) c.shared_slice_known-1.given in by)) ((let contiguous-read : read_at u32 (c.args.row.now) ((field-yes ((field-yes ((field-yes (start).so ((let peer-acked-took : Took u32 (c.args.row.now) (c.args.at) c.peer_acked-1.given.0.0 c.peer_acked-1.given.0.1.0 = took _ _ u32 (number-lawful 4) ((let by : Bytes (c.args.row.now) = typed (c.args.row.now) c.shared_slice_known-1.given in by)) ((let peer-acked-read : read_at u32 (c.args.row.now) (c.args.at) ≡ takes c.peer_acked-1.given.0.0 c.peer_acked-1.given.0.1.0 = learn u32_says c.u32_at.ensures c.peer_acked-1.given.1 in peer-acked-read)) in peer-acked-took)))).so ((let peer-read-took : Took u32 (c.args.row.now) ((field-yes (start).so ((let peer-acked-took : Took u32 (c.args.row.now) (c.args.at) c.peer_acked-1.given.0.0 c.peer_acked-1.given.0.1.0 = took _ _ u32 (number-lawful 4) ((let by : Bytes (c.args.row.now) = typed (c.args.row.now) c.shared_slice_known-1.given in by)) ((let peer-acked-read : read_at u32 (c.args.row.now) (c.args.at) ≡ takes c.peer_acked-1.given.0.0 c.peer_acked-1.given.0.1.0 = learn u32_says c.u32_at.ensures c.peer_acked-1.given.1 in peer-acked-read)) in peer-acked-took)))).here c.peer_read-1.given.0.0 c.peer_read-1.given.0.1.0 = took _ _ u32 (number-lawful 4) ((let by : Bytes (c.args.row.now) = typed (c.args.row.now) c.shared_slice_known-1.given in by)) ((let peer-read-read : read_at u32 (c.args.row.now) ((field-yes (start).so ((let peer-acked-took : Took u32 (c.args.row.now) (c.args.at) c.peer_acked-1.given.0.0 c.peer_acked-1.given.0.1.0 = took _ _ u32 (number-lawful 4) ((let by : Bytes (c.args.row.now) = typed (c.args.row.now) c.shared_slice_known-1.given in by)) ((let peer-acked-read : read_at u32 (c.args.row.now) (c.args.at) ≡ takes c.peer_acked-1.given.0.0 c.peer_acked-1.given.0.1.0 = learn u32_says c.u32_at.ensures c.peer_acked-1.given.1 in peer-acked-read)) in peer-acked-took)))).here ≡ takes c.peer_read-1.given.0.0 c.peer_read-1.given.0.1.0 = learn u32_says c.u32_at-2.ensures c.peer_read-1.given.1 in peer-read-read)) in peer-read-took)))).so ((let read-marked-took : Took u32 (c.args.row.now) ((field-yes ((field-yes (start).so ((let peer-acked-took : Took u32 (c.args.row.now) (c.args.at) c.peer_acked-1.given.0.0 c.peer_acked-1.given.0.1.0 = took _ _ u32 (number-lawful 4) ((let by : Bytes (c.args.row.now) = typed (c.args.row.now) c.shared_slice_known-1.given in by)) ((let peer-acked-read : read_at u32 (c.args.row.now) (c.args.at) ≡ takes c.peer_acked-1.given.0.0 c.peer_acked-1.given.0.1.0 = learn u32_says c.u32_at.ensures c.peer_acked-1.given.1 in peer-acked-read)) in peer-acked-took)))).so ((let peer-read-took : Took u32 (c.args.row.now) ((field-yes (start).so ((let peer-acked-took : Took u32 (c.args.row.now) (c.args.at) c.peer_acked-1.given.0.0 c.peer_acked-1.given.0.1.0 = took _ _ u32 (number-lawful 4) ((let by : Bytes (c.args.row.now) = typed (c.args.row.now) c.shared_slice_known-1.given in by)) ((let peer-acked-read : read_at u32 (c.args.row.now) (c.args.at) ≡ takes c.peer_acked-1.given.0.0 c.peer_acked-1.given.0.1.0 = learn u32_says c.u32_at.ensures c.peer_acked-1.given.1 in peer-acked-read)) in peer-acked-took)))).here c.peer_read-1.given.0.0 c.peer_read-1.given.0.1.0 = took _ _ u32 (number-lawful 4) ((let by : Bytes (c.args.row.now) = typed (c.args.row.now) c.shared_slice_known-1.given in by)) ((let peer-read-read : read_at u32 (c.args.row.now) ((field-yes (start).so ((let peer-acked-took : Took u32 (c.args.row.now) (c.args.at) c.peer_acked-1.given.0.0 c.peer_acked-1.given.0.1.0 = took _ _ u32 (number-lawful 4) ((let by : Bytes (c.args.row.now) = typed (c.args.row.now) c.shared_slice_known-1.given in by)) ((let peer-acked-read : read_at u32 (c.args.row.now) (c.args.at) ≡ takes c.peer_acked-1.given.0.0 c.peer_acked-1.given.0.1.0 = learn u32_says c.u32_at.ensures c.peer_acked-1.given.1 in peer-acked-read)) in peer-acked-took)))).here ≡ takes c.peer_read-1.given.0.0 c.peer_read-1.given.0.1.0 = learn u32_says c.u32_at-2.ensures c.peer_read-1.given.1 in peer-read-read)) in peer-read-took)))).here c.read_marked-1.given.0.0 c.read_marked-1.given.0.1.0 = took _ _ u32 (number-lawful 4) ((let by : Bytes (c.args.row.now) = typed (c.args.row.now) c.shared_slice_known-1.given in by)) ((let read-marked-read : read_at u32 (c.args.row.now) ((field-yes ((field-yes (start).so ((let peer-acked-took : Took u32 (c.args.row.now) (c.args.at) c.peer_acked-1.given.0.0 c.peer_acked-1.given.0.1.0 = took _ _ u32 (number-lawful 4) ((let by : Bytes (c.args.row.now) = typed (c.args.row.now) c.shared_slice_known-1.given in by)) ((let peer-acked-read : read_at u32 (c.args.row.now) (c.args.at) ≡ takes c.peer_acked-1.given.0.0 c.peer_acked-1.given.0.1.0 = learn u32_says c.u32_at.ensures c.peer_acked-1.given.1 in peer-acked-read)) in peer-acked-took)))).so ((let peer-read-took : Took u32 (c.args.row.now) ((field-yes (start).so ((let peer-acked-took : Took u32 (c.args.row.now) (c.args.at) c.peer_acked-1.given.0.0 c.peer_acked-1.given.0.1.0 = took _ _ u32 (number-lawful 4) ((let by : Bytes (c.args.row.now) = typed (c.args.row.now) c.shared_slice_known-1.given in by)) ((let peer-acked-read : read_at u32 (c.args.row.now) (c.args.at) ≡ takes c.peer_acked-1.given.0.0 c.peer_acked-1.given.0.1.0 = learn u32_says c.u32_at.ensures c.peer_acked-1.given.1 in peer-acked-read)) in peer-acked-took)))).here c.peer_read-1.given.0.0 c.peer_read-1.given.0.1.0 = took _ _ u32 (number-lawful 4) ((let by : Bytes (c.args.row.now) = typed (c.args.row.now) c.shared_slice_known-1.given in by)) ((let peer-read-read : read_at u32 (c.args.row.now) ((field-yes (start).so ((let peer-acked-took : Took u32 (c.args.row.now) (c.args.at) c.peer_acked-1.given.0.0 c.peer_acked-1.given.0.1.0 = took _ _ u32 (number-lawful 4) ((let by : Bytes (c.args.row.now) = typed (c.args.row.now) c.shared_slice_known-1.given in by)) ((let peer-acked-read : read_at u32 (c.args.row.now) (c.args.at) ≡ takes c.peer_acked-1.given.0.0 c.peer_acked-1.given.0.1.0 = learn u32_says c.u32_at.ensures c.peer_acked-1.given.1 in peer-acked-read)) in peer-acked-took)))).here ≡ takes c.peer_read-1.given.0.0 c.peer_read-1.given.0.1.0 = learn u32_says c.u32_at-2.ensures c.peer_read-1.given.1 in peer-read-read)) in peer-read-took)))).here ≡ takes c.read_marked-1.given.0.0 c.read_marked-1.given.0.1.0 = learn u32_says c.u32_at-3.ensures c.read_marked-1.given.1 in read-marked-read)) in read-marked-took)))).here ≡ takes c.contiguous-1.given.0.0 c.contiguous-1.given.0.1.0 = learn u32_says c.u32_at-4.ensures c.contiguous-1.given.1 in contiguous-read)) ((let read-marked-took : Took u32 (c.args.row.now) ((field-yes ((field-yes (start).so ((let peer-acked-took : Took u32 (c.args.row.now) (c.args.at) c.peer_acked-1.given.0.0 c.peer_acked-1.given.0.1.0 = took _ _ u32 (number-lawful 4) ((let by : Bytes (c.args.row.now) = typed (c.args.row.now) c.shared_slice_known-1.given in by)) ((let peer-acked-read : read_at u32 (c.args.row.now) (c.args.at) ≡ takes c.peer_acked-1.given.0.0 c.peer_acked-1.given.0.1.0 = learn u32_says c.u32_at.ensures c.peer_acked-1.given.1 in peer-acked-read)) in peer-acked-took)))).so ((let peer-read-took : Took u32 (c.args.row.now) ((field-yes (start).so ((let peer-acked-took : Took u32 (c.args.row.now) (c.args.at) c.peer_acked-1.given.0.0 c.peer_acked-1.given.0.1.0 = took _ _ u32 (number-lawful 4) ((let by : Bytes (c.args.row.now) = typed (c.args.row.now) c.shared_slice_known-1.given in by)) ((let peer-acked-read : read_at u32 (c.args.row.now) (c.args.at) ≡ takes c.peer_acked-1.given.0.0 c.peer_acked-1.given.0.1.0 = learn u32_says c.u32_at.ensures c.peer_acked-1.given.1 in peer-acked-read)) in peer-acked-took)))).here c.peer_read-1.given.0.0 c.peer_read-1.given.0.1.0 = took _ _ u32 (number-lawful 4) ((let by : Bytes (c.args.row.now) = typed (c.args.row.now) c.shared_slice_known-1.given in by)) ((let peer-read-read : read_at u32 (c.args.row.now) ((field-yes (start).so ((let peer-acked-took : Took u32 (c.args.row.now) (c.args.at) c.peer_acked-1.given.0.0 c.peer_acked-1.given.0.1.0 = took _ _ u32 (number-lawful 4) ((let by : Bytes (c.args.row.now) = typed (c.args.row.now) c.shared_slice_known-1.given in by)) ((let peer-acked-read : read_at u32 (c.args.row.now) (c.args.at) ≡ takes c.peer_acked-1.given.0.0 c.peer_acked-1.given.0.1.0 = learn u32_says c.u32_at.ensures c.peer_acked-1.given.1 in peer-acked-read)) in peer-acked-took)))).here ≡ takes c.peer_read-1.given.0.0 c.peer_read-1.given.0.1.0 = learn u32_says c.u32_at-2.ensures c.peer_read-1.given.1 in peer-read-read)) in peer-read-took)))).here c.read_marked-1.given.0.0 c.read_marked-1.given.0.1.0 = took _ _ u32 (number-lawful 4) ((let by : Bytes (c.args.row.now) = typed (c.args.row.now) c.shared_slice_known-1.given in by)) ((let read-marked-read : read_at u32 (c.args.row.now) ((field-yes ((field-yes (start).so ((let peer-acked-took : Took u32 (c.args.row.now) (c.args.at) c.peer_acked-1.given.0.0 c.peer_acked-1.given.0.1.0 = took _ _ u32 (number-lawful 4) ((let by : Bytes (c.args.row.now) = typed (c.args.row.now) c.shared_slice_known-1.given in by)) ((let peer-acked-read : read_at u32 (c.args.row.now) (c.args.at) ≡ takes c.peer_acked-1.given.0.0 c.peer_acked-1.given.0.1.0 = learn u32_says c.u32_at.ensures c.peer_acked-1.given.1 in peer-acked-read)) in peer-acked-took)))).so ((let peer-read-took : Took u32 (c.args.row.now) ((field-yes (start).so ((let peer-acked-took : Took u32 (c.args.row.now) (c.args.at) c.peer_acked-1.given.0.0 c.peer_acked-1.given.0.1.0 = took _ _ u32 (number-lawful 4) ((let by : Bytes (c.args.row.now) = typed (c.args.row.now) c.shared_slice_known-1.given in by)) ((let peer-acked-read : read_at u32 (c.args.row.now) (c.args.at) ≡ takes c.peer_acked-1.given.0.0 c.peer_acked-1.given.0.1.0 = learn u32_says c.u32_at.ensures c.peer_acked-1.given.1 in peer-acked-read)) in peer-acked-took)))).here c.peer_read-1.given.0.0 c.peer_read-1.given.0.1.0 = took _ _ u32 (number-lawful 4) ((let by : Bytes (c.args.row.now) = typed (c.args.row.now) c.shared_slice_known-1.given in by)) ((let peer-read-read : read_at u32 (c.args.row.now) ((field-yes (start).so ((let peer-acked-took : Took u32 (c.args.row.now) (c.args.at) c.peer_acked-1.given.0.0 c.peer_acked-1.given.0.1.0 = took _ _ u32 (number-lawful 4) ((let by : Bytes (c.args.row.now) = typed (c.args.row.now) c.shared_slice_known-1.given in by)) ((let peer-acked-read : read_at u32 (c.args.row.now) (c.args.at) ≡ takes c.peer_acked-1.given.0.0 c.peer_acked-1.given.0.1.0 = learn u32_says c.u32_at.ensures c.peer_acked-1.given.1 in peer-acked-read)) in peer-acked-took)))).here ≡ takes c.peer_read-1.given.0.0 c.peer_read-1.given.0.1.0 = learn u32_says c.u32_at-2.ensures c.peer_read-1.given.1 in peer-read-read)) in peer-read-took)))).here ≡ takes c.read_marked-1.given.0.0 c.read_marked-1.given.0.1.0 = learn u32_says c.u32_at-3.ensures c.read_marked-1.given.1 in read-marked-read)) in read-marked-took)).inside in contiguous-next)))
-    ((let unacked-starts : c.unacked_field-1.given.0.0 ≡ list_at u32 ((field-yes ((field-yes ((field-yes ((field-yes ((field-yes (start).so ((let peer-acked-took : Took u32 (c.args.row.now) (c.args.at) c.peer_acked-1.given.0.0 c.peer_acked-1.given.0.1.0 = took _ _ u32 (number-lawful 4) ((let by : Bytes (c.args.row.now) = typed (c.args.row.now) c.shared_slice_known-1.given in by)) ((let peer-acked-read : read_at u32 (c.args.row.now) (c.args.at) ≡ takes c.peer_acked-1.given.0.0 c.peer_acked-1.given.0.1.0 = learn u32_says c.u32_at.ensures c.peer_acked-1.given.1 in peer-acked-read)) in peer-acked-took)))).so ((let peer-read-took : Took u32 (c.args.row.now) ((field-yes (start).so ((let peer-acked-took : Took u32 (c.args.row.now) (c.args.at) c.peer_acked-1.given.0.0 c.peer_acked-1.given.0.1.0 = took _ _ u32 (number-lawful 4) ((let by : Bytes (c.args.row.now) = typed (c.args.row.now) c.shared_slice_known-1.given in by)) ((let peer-acked-read : read_at u32 (c.args.row.now) (c.args.at) ≡ takes c.peer_acked-1.given.0.0 c.peer_acked-1.given.0.1.0 = learn u32_says c.u32_at.ensures c.peer_acked-1.given.1 in peer-acked-read)) in peer-acked-took)))).here c.peer_read-1.given.0.0 c.peer_read-1.given.0.1.0 = took _ _ u32 (number-lawful 4) ((let by : Bytes (c.args.row.now) = typed (c.args.row.now) c.shared_slice_known-1.given in by)) ((let peer-read-read : read_at u32 (c.args.row.now) ((field-yes (start).so ((let peer-acked-took : Took u32 (c.args.row.now) (c.args.at) c.peer_acked-1.given.0.0 c.peer_acked-1.given.0.1.0 = took _ _ u32 (number-lawful 4) ((let by : Bytes (c.args.row.now) = typed (c.args.row.now) c.shared_slice_known-1.given in by)) ((let peer-acked-read : read_at u32 (c.args.row.now) (c.args.at) ≡ takes c.peer_acked-1.given.0.0 c.peer_acked-1.given.0.1.0 = learn u32_says c.u32_at.ensures c.peer_acked-1.given.1 in peer-acked-read)) in peer-acked-took)))).here ≡ takes c.peer_read-1.given.0.0 c.peer_read-1.given.0.1.0 = learn u32_says c.u32_at-2.ensures c.peer_read-1.given.1 in peer-read-read)) in peer-read-took)))).so ((let read-marked-took : Took u32 (c.args.row.now) ((field-yes ((field-yes (start).so ((let peer-acked-took : Took u32 (c.args.row.now) (c.args.at) c.peer_acked-1.given.0.0 c.peer_acked-1.given.0.1.0 = took _ _ u32 (number-lawful 4) ((let by : Bytes (c.args.row.now) = typed (c.args.row.now) c.shared_slice_known-1.given in by)) ((let peer-acked-read : read_at u32 (c.args.row.now) (c.args.at) ≡ takes c.peer_acked-1.given.0.0 c.peer_acked-1.given.0.1.0 = learn u32_says c.u32_at.ensures c.peer_acked-1.given.1 in peer-acked-read)) in peer-acked-took)))).so ((let peer-read-took : Took u32 (c.args.row.now) ((field-yes (start).so ((let peer-acked-took : Took u32 (c.args.row.now) (c.args.at) c.peer_acked-1.given.0.0 c.peer_acked-1.given.0.1.0 = took _ _ u32 (number-lawful 4) ((let by : Bytes (c.args.row.now) = typed (c.args.row.now) c.shared_slice_known-1.given in by)) ((let peer-acked-read : read_at u32 (c.args.row.now) (c.args.at) ≡ takes c.peer_acked-1.given.0.0 c.peer_acked-1.given.0.1.0 = learn u32_says c.u32_at.ensures c.peer_acked-1.given.1 in peer-acked-read)) in peer-acked-took)))).here c.peer_read-1.given.0.0 c.peer_read-1.given.0.1.0 = took _ _ u32 (number-lawful 4) ((let by : Bytes (c.args.row.now) = typed (c.args.row.now) c.shared_slice_known-1.given in by)) ((let peer-read-read : read_at u32 (c.args.row.now) ((field-yes (start).so ((let peer-acked-took : Took u32 (c.args.row.now) (c.args.at) c.peer_acked-1.given.0.0 c.peer_acked-1.given.0.1.0 = took _ _ u32 (number-lawful 4) ((let by : Bytes (c.args.row.now) = typed (c.args.row.now) c.shared_slice_known-1.given in by)) ((let peer-acked-read : read_at u32 (c.args.row.now) (c.args.at) ≡ takes c.peer_acked-1.given.0.0 c.peer_acked-1.given.0.1.0 = learn u32_says c.u32_at.ensures c.peer_acked-1.given.1 in peer-acked-read)) in peer-acked-took)))).here ≡ takes c.peer_read-1.given.0.0 c.peer_read-1.given.0.1.0 = learn u32_says c.u32_at-2.ensures c.peer_read-1.given.1 in peer-read-read)) in peer-read-took)))).here c.read_marked-1.given.0.0 c.read_marked-1.given.0.1.0 = took _ _ u32 (number-lawful 4) ((let by : Bytes (c.args.row.now) = typed (c.args.row.now) c.shared_slice_known-1.given in by)) ((let read-marked-read : read_at u32 (c.args.row.now) ((field-yes ((field-yes (start).so ((let peer-acked-took : Took u32 (c.args.row.now) (c.args.at) c.peer_acked-1.given.0.0 c.peer_acked-1.given.0.1.0 = took _ _ u32 (number-lawful 4) ((let by : Bytes (c.args.row.now) = typed (c.args.row.now) c.shared_slice_known-1.given in by)) ((let peer-acked-read : read_at u32 (c.args.row.now) (c.args.at) ≡ takes c.peer_acked-1.given.0.0 c.peer_acked-1.given.0.1.0 = learn u32_says c.u32_at.ensures c.peer_acked-1.given.1 in peer-acked-read)) in peer-acked-took)))).so ((let peer-read-took : Took u32 (c.args.row.now) ((field-yes (start).so ((let peer-acked-took : Took u32 (c.args.row.now) (c.args.at) c.peer_acked-1.given.0.0 c.peer_acked-1.given.0.1.0 = took _ _ u32 (number-lawful 4) ((let by : Bytes (c.args.row.now) = typed (c.args.row.now) c.shared_slice_known-1.given in by)) ((let peer-acked-read : read_at u32 (c.args.row.now) (c.args.at) ≡ takes c.peer_acked-1.given.0.0 c.peer_acked-1.given.0.1.0 = learn u32_says c.u32_at.ensures c.peer_acked-1.given.1 in peer-acked-read)) in peer-acked-took)))).here c.peer_read-1.given.0.0 c.peer_read-1.given.0.1.0 = took _ _ u32 (number-lawful 4) ((let by : Bytes (c.args.row.now) = typed (c.args.row.now) c.shared_slice_known-1.given in by)) ((let peer-read-read : read_at u32 (c.args.row.now) ((field-yes (start).so ((let peer-acked-took : Took u32 (c.args.row.now) (c.args.at) c.peer_acked-1.given.0.0 c.peer_acked-1.given.0.1.0 = took _ _ u32 (number-lawful 4) ((let by : Bytes (c.args.row.now) = typed (c.args.row.now) c.shared_slice_known-1.given in by)) ((let peer-acked-read : read_at u32 (c.args.row.now) (c.args.at) ≡ takes c.peer_acked-1.given.0.0 c.peer_acked-1.given.0.1.0 = learn u32_says c.u32_at.ensures c.peer_acked-1.given.1 in peer-acked-read)) in peer-acked-took)))).here ≡ takes c.peer_read-1.given.0.0 c.peer_read-1.given.0.1.0 = learn u32_says c.u32_at-2.ensures c.peer_read-1.given.1 in peer-read-read)) in peer-read-took)))).here ≡ takes c.read_marked-1.given.0.0 c.read_marked-1.given.0.1.0 = learn u32_says c.u32_at-3.ensures c.read_marked-1.given.1 in read-marked-read)) in read-marked-took)))).so ((let contiguous-took : Took u32 (c.args.row.now) ((field-yes ((field-yes ((field-yes (start).so ((let peer-acked-took : Took u32 (c.args.row.now) (c.args.at) c.peer_acked-1.given.0.0 c.peer_acked-1.given.0.1.0 = took _ _ u32 (number-lawful 4) ((let by : Bytes (c.args.row.now) = typed (c.args.row.now) c.shared_slice_known-1.given in by)) ((let peer-acked-read : read_at u32 (c.args.row.now) (c.args.at) ≡ takes c.peer_acked-1.given.0.0 c.peer_acked-1.given.0.1.0 = learn u32_says c.u32_at.ensures c.peer_acked-1.given.1 in peer-acked-read)) in peer-acked-took)))).so ((let peer-read-took : Took u32 (c.args.row.now) ((field-yes (start).so ((let peer-acked-took : Took u32 (c.args.row.now) (c.args.at) c.peer_acked-1.given.0.0 c.peer_acked-1.given.0.1.0 = took _ _ u32 (number-lawful 4) ((let by : Bytes (c.args.row.now) = typed (c.args.row.now) c.shared_slice_known-1.given in by)) ((let peer-acked-read : read_at u32 (c.args.row.now) (c.args.at) ≡ takes c.peer_acked-1.given.0.0 c.peer_acked-1.given.0.1.0 = learn u32_says c.u32_at.ensures c.peer_acked-1.given.1 in peer-acked-read)) in peer-acked-took)))).here c.peer_read-1.given.0.0 c.peer_read-1.given.0.1.0 = took _ _ u32 (number-lawful 4) ((let by : Bytes (c.args.row.now) = typed (c.args.row.now) c.shared_slice_known-1.given in by)) ((let peer-read-read : read_at u32 (c.args.row.now) ((field-yes (start).so ((let peer-acked-took : Took u32 (c.args.row.now) (c.args.at) c.peer_acked-1.given.0.0 c.peer_acked-1.given.0.1.0 = took _ _ u32 (number-lawful 4) ((let by : Bytes (c.args.row.now) = typed (c.args.row.now) c.shared_slice_known-1.given in by)) ((let peer-acked-read : read_at u32 (c.args.row.now) (c.args.at) ≡ takes c.peer_acked-1.given.0.0 c.peer_acked-1.given.0.1.0 = learn u32_says c.u32_at.ensures c.peer_acked-1.given.1 in peer-acked-read)) in peer-acked-took)))).here ≡ takes c.peer_read-1.given.0.0 c.peer_read-1.given.0.1.0 = learn u32_says c.u32_at-2.ensures c.peer_read-1.given.1 in peer-read-read)) in peer-read-took)))).so ((let read-marked-took : Took u32 (c.args.row.now) ((field-yes ((field-yes (start).so ((let peer-acked-took : Took u32 (c.args.row.now) (c.args.at) c.peer_acked-1.given.0.0 c.peer_acked-1.given.0.1.0 = took _ _ u32 (number-lawful 4) ((let by : Bytes (c.args.row.now) = typed (c.args.row.now) c.shared_slice_known-1.given in by)) ((let peer-acked-read : read_at u32 (c.args.row.now) (c.args.at) ≡ takes c.peer_acked-1.given.0.0 c.peer_acked-1.given.0.1.0 = learn u32_says c.u32_at.ensures c.peer_acked-1.given.1 in peer-acked-read)) in peer-acked-took)))).so ((let peer-read-took : Took u32 (c.args.row.now) ((field-yes (start).so ((let peer-acked-took : Took u32 (c.args.row.now) (c.args.at) c.peer_acked-1.given.0.0 c.peer_acked-1.given.0.1.0 = took _ _ u32 (number-lawful 4) ((let by : Bytes (c.args.row.now) = typed (c.args.row.now) c.shared_slice_known-1.given in by)) ((let peer-acked-read : read_at u32 (c.args.row.now) (c.args.at) ≡ takes c.peer_acked-1.given.0.0 c.peer_acked-1.given.0.1.0 = learn u32_says c.u32_at.ensures c.peer_acked-1.given.1 in peer-acked-read)) in peer-acked-took)))).here c.peer_read-1.given.0.0 c.peer_read-1.given.0.1.0 = took _ _ u32 (number-lawful 4) ((let by : Bytes (c.args.row.now) = typed (c.args.row.now) c.shared_slice_known-1.given in by)) ((let peer-read-read : read_at u32 (c.args.row.now) ((field-yes (start).so ((let peer-acked-took : Took u32 (c.args.row.now) (c.args.at) c.peer_acked-1.given.0.0 c.peer_acked-1.given.0.1.0 = took _ _ u32 (number-lawful 4) ((let by : Bytes (c.args.row.now) = typed (c.args.row.now) c.shared_slice_known-1.given in by)) ((let peer-acked-read : read_at u32 (c.args.row.now) (c.args.at) ≡ takes c.peer_acked-1.given.0.0 c.peer_acked-1.given.0.1.0 = learn u32_says c.u32_at.ensures c.peer_acked-1.given.1 in peer-acked-read)) in peer-acked-took)))).here ≡ takes c.peer_read-1.given.0.0 c.peer_read-1.given.0.1.0 = learn u32_says c.u32_at-2.ensures c.peer_read-1.given.1 in peer-read-read)) in peer-read-took)))).here c.read_marked-1.given.0.0 c.read_marked-1.given.0.1.0 = took _ _ u32 (number-lawful 4) ((let by : Bytes (c.args.row.now) = typed (c.args.row.now) c.shared_slice_known-1.given in by)) ((let read-marked-read : read_at u32 (c.args.row.now) ((field-yes ((field-yes (start).so ((let peer-acked-took : Took u32 (c.args.row.now) (c.args.at) c.peer_acked-1.given.0.0 c.peer_acked-1.given.0.1.0 = took _ _ u32 (number-lawful 4) ((let by : Bytes (c.args.row.now) = typed (c.args.row.now) c.shared_slice_known-1.given in by)) ((let peer-acked-read : read_at u32 (c.args.row.now) (c.args.at) ≡ takes c.peer_acked-1.given.0.0 c.peer_acked-1.given.0.1.0 = learn u32_says c.u32_at.ensures c.peer_acked-1.given.1 in peer-acked-read)) in peer-acked-took)))).so ((let peer-read-took : Took u32 (c.args.row.now) ((field-yes (start).so ((let peer-acked-took : Took u32 (c.args.row.now) (c.args.at) c.peer_acked-1.given.0.0 c.peer_acked-1.given.0.1.0 = took _ _ u32 (number-lawful 4) ((let by : Bytes (c.args.row.now) = typed (c.args.row.now) c.shared_slice_known-1.given in by)) ((let peer-acked-read : read_at u32 (c.args.row.now) (c.args.at) ≡ takes c.peer_acked-1.given.0.0 c.peer_acked-1.given.0.1.0 = learn u32_says c.u32_at.ensures c.peer_acked-1.given.1 in peer-acked-read)) in peer-acked-took)))).here c.peer_read-1.given.0.0 c.peer_read-1.given.0.1.0 = took _ _ u32 (number-lawful 4) ((let by : Bytes (c.args.row.now) = typed (c.args.row.now) c.shared_slice_known-1.given in by)) ((let peer-read-read : read_at u32 (c.args.row.now) ((field-yes (start).so ((let peer-acked-took : Took u32 (c.args.row.now) (c.args.at) c.peer_acked-1.given.0.0 c.peer_acked-1.given.0.1.0 = took _ _ u32 (number-lawful 4) ((let by : Bytes (c.args.row.now) = typed (c.args.row.now) c.shared_slice_known-1.given in by)) ((let peer-acked-read : read_at u32 (c.args.row.now) (c.args.at) ≡ takes c.peer_acked-1.given.0.0 c.peer_acked-1.given.0.1.0 = learn u32_says c.u32_at.ensures c.peer_acked-1.given.1 in peer-acked-read)) in peer-acked-took)))).here ≡ takes c.peer_read-1.given.0.0 c.peer_read-1.given.0.1.0 = learn u32_says c.u32_at-2.ensures c.peer_read-1.given.1 in peer-read-read)) in peer-read-took)))).here ≡ takes c.read_marked-1.given.0.0 c.read_marked-1.given.0.1.0 = learn u32_says c.u32_at-3.ensures c.read_marked-1.given.1 in read-marked-read)) in read-marked-took)))).here c.contiguous-1.given.0.0 c.contiguous-1.given.0.1.0 = took _ _ u32 (number-lawful 4) ((let by : Bytes (c.args.row.now) = typed (c.args.row.now) c.shared_slice_known-1.given in by)) ((let contiguous-read : read_at u32 (c.args.row.now) ((field-yes ((field-yes ((field-yes (start).so ((let peer-acked-took : Took u32 (c.args.row.now) (c.args.at) c.peer_acked-1.given.0.0 c.peer_acked-1.given.0.1.0 = took _ _ u32 (number-lawful 4) ((let by : Bytes (c.args.row.now) = typed (c.args.row.now) c.shared_slice_known-1.given in by)) ((let peer-acked-read : read_at u32 (c.args.row.now) (c.args.at) ≡ takes c.peer_acked-1.given.0.0 c.peer_acked-1.given.0.1.0 = learn u32_says c.u32_at.ensures c.peer_acked-1.given.1 in peer-acked-read)) in peer-acked-took)))).so ((let peer-read-took : Took u32 (c.args.row.now) ((field-yes (start).so ((let peer-acked-took : Took u32 (c.args.row.now) (c.args.at) c.peer_acked-1.given.0.0 c.peer_acked-1.given.0.1.0 = took _ _ u32 (number-lawful 4) ((let by : Bytes (c.args.row.now) = typed (c.args.row.now) c.shared_slice_known-1.given in by)) ((let peer-acked-read : read_at u32 (c.args.row.now) (c.args.at) ≡ takes c.peer_acked-1.given.0.0 c.peer_acked-1.given.0.1.0 = learn u32_says c.u32_at.ensures c.peer_acked-1.given.1 in peer-acked-read)) in peer-acked-took)))).here c.peer_read-1.given.0.0 c.peer_read-1.given.0.1.0 = took _ _ u32 (number-lawful 4) ((let by : Bytes (c.args.row.now) = typed (c.args.row.now) c.shared_slice_known-1.given in by)) ((let peer-read-read : read_at u32 (c.args.row.now) ((field-yes (start).so ((let peer-acked-took : Took u32 (c.args.row.now) (c.args.at) c.peer_acked-1.given.0.0 c.peer_acked-1.given.0.1.0 = took _ _ u32 (number-lawful 4) ((let by : Bytes (c.args.row.now) = typed (c.args.row.now) c.shared_slice_known-1.given in by)) ((let peer-acked-read : read_at u32 (c.args.row.now) (c.args.at) ≡ takes c.peer_acked-1.given.0.0 c.peer_acked-1.given.0.1.0 = learn u32_says c.u32_at.ensures c.peer_acked-1.given.1 in peer-acked-read)) in peer-acked-took)))).here ≡ takes c.peer_read-1.given.0.0 c.peer_read-1.given.0.1.0 = learn u32_says c.u32_at-2.ensures c.peer_read-1.given.1 in peer-read-read)) in peer-read-took)))).so ((let read-marked-took : Took u32 (c.args.row.now) ((field-yes ((field-yes (start).so ((let peer-acked-took : Took u32 (c.args.row.now) (c.args.at) c.peer_acked-1.given.0.0 c.peer_acked-1.given.0.1.0 = took _ _ u32 (number-lawful 4) ((let by : Bytes (c.args.row.now) = typed (c.args.row.now) c.shared_slice_known-1.given in by)) ((let peer-acked-read : read_at u32 (c.args.row.now) (c.args.at) ≡ takes c.peer_acked-1.given.0.0 c.peer_acked-1.given.0.1.0 = learn u32_says c.u32_at.ensures c.peer_acked-1.given.1 in peer-acked-read)) in peer-acked-took)))).so ((let peer-read-took : Took u32 (c.args.row.now) ((field-yes (start).so ((let peer-acked-took : Took u32 (c.args.row.now) (c.args.at) c.peer_acked-1.given.0.0 c.peer_acked-1.given.0.1.0 = took _ _ u32 (number-lawful 4) ((let by : Bytes (c.args.row.now) = typed (c.args.row.now) c.shared_slice_known-1.given in by)) ((let peer-acked-read : read_at u32 (c.args.row.now) (c.args.at) ≡ takes c.peer_acked-1.given.0.0 c.peer_acked-1.given.0.1.0 = learn u32_says c.u32_at.ensures c.peer_acked-1.given.1 in peer-acked-read)) in peer-acked-took)))).here c.peer_read-1.given.0.0 c.peer_read-1.given.0.1.0 = took _ _ u32 (number-lawful 4) ((let by : Bytes (c.args.row.now) = typed (c.args.row.now) c.shared_slice_known-1.given in by)) ((let peer-read-read : read_at u32 (c.args.row.now) ((field-yes (start).so ((let peer-acked-took : Took u32 (c.args.row.now) (c.args.at) c.peer_acked-1.given.0.0 c.peer_acked-1.given.0.1.0 = took _ _ u32 (number-lawful 4) ((let by : Bytes (c.args.row.now) = typed (c.args.row.now) c.shared_slice_known-1.given in by)) ((let peer-acked-read : read_at u32 (c.args.row.now) (c.args.at) ≡ takes c.peer_acked-1.given.0.0 c.peer_acked-1.given.0.1.0 = learn u32_says c.u32_at.ensures c.peer_acked-1.given.1 in peer-acked-read)) in peer-acked-took)))).here ≡ takes c.peer_read-1.given.0.0 c.peer_read-1.given.0.1.0 = learn u32_says c.u32_at-2.ensures c.peer_read-1.given.1 in peer-read-read)) in peer-read-took)))).here c.read_marked-1.given.0.0 c.read_marked-1.given.0.1.0 = took _ _ u32 (number-lawful 4) ((let by : Bytes (c.args.row.now) = typed (c.args.row.now) c.shared_slice_known-1.given in by)) ((let read-marked-read : read_at u32 (c.args.row.now) ((field-yes ((field-yes (start).so ((let peer-acked-took : Took u32 (c.args.row.now) (c.args.at) c.peer_acked-1.given.0.0 c.peer_acked-1.given.0.1.0 = took _ _ u32 (number-lawful 4) ((let by : Bytes (c.args.row.now) = typed (c.args.row.now) c.shared_slice_known-1.given in by)) ((let peer-acked-read : read_at u32 (c.args.row.now) (c.args.at) ≡ takes c.peer_acked-1.given.0.0 c.peer_acked-1.given.0.1.0 = learn u32_says c.u32_at.ensures c.peer_acked-1.given.1 in peer-acked-read)) in peer-acked-took)))).so ((let peer-read-took : Took u32 (c.args.row.now) ((field-yes (start).so ((let peer-acked-took : Took u32 (c.args.row.now) (c.args.at) c.peer_acked-1.given.0.0 c.peer_acked-1.given.0.1.0 = took _ _ u32 (number-lawful 4) ((let by : Bytes (c.args.row.now) = typed (c.args.row.now) c.shared_slice_known-1.given in by)) ((let peer-acked-read : read_at u32 (c.args.row.now) (c.args.at) ≡ takes c.peer_acked-1.given.0.0 c.peer_acked-1.given.0.1.0 = learn u32_says c.u32_at.ensures c.peer_acked-1.given.1 in peer-acked-read)) in peer-acked-took)))).here c.peer_read-1.given.0.0 c.peer_read-1.given.0.1.0 = took _ _ u32 (number-lawful 4) ((let by : Bytes (c.args.row.now) = typed (c.args.row.now) c.shared_slice_known-1.given in by)) ((let peer-read-read : read_at u32 (c.args.row.now) ((field-yes (start).so ((let peer-acked-took : Took u32 (c.args.row.now) (c.args.at) c.peer_acked-1.given.0.0 c.peer_acked-1.given.0.1.0 = took _ _ u32 (number-lawful 4) ((let by : Bytes (c.args.row.now) = typed (c.args.row.now) c.shared_slice_known-1.given in by)) ((let peer-acked-read : read_at u32 (c.args.row.now) (c.args.at) ≡ takes c.peer_acked-1.given.0.0 c.peer_acked-1.given.0.1.0 = learn u32_says c.u32_at.ensures c.peer_acked-1.given.1 in peer-acked-read)) in peer-acked-took)))).here ≡ takes c.peer_read-1.given.0.0 c.peer_read-1.given.0.1.0 = learn u32_says c.u32_at-2.ensures c.peer_read-1.given.1 in peer-read-read)) in peer-read-took)))).here ≡ takes c.read_marked-1.given.0.0 c.read_marked-1.given.0.1.0 = learn u32_says c.u32_at-3.ensures c.read_marked-1.given.1 in read-marked-read)) in read-marked-took)))).here ≡ takes c.contiguous-1.given.0.0 c.contiguous-1.given.0.1.0 = learn u32_says c.u32_at-4.ensures c.contiguous-1.given.1 in contiguous-read)) in contiguous-took)))).so ((let above-took : Took (list (group range)) (c.args.row.now) ((field-yes ((field-yes ((field-yes ((field-yes (start).so ((let peer-acked-took : Took u32 (c.args.row.now) (c.args.at) c.peer_acked-1.given.0.0 c.peer_acked-1.given.0.1.0 = took _ _ u32 (number-lawful 4) ((let by : Bytes (c.args.row.now) = typed (c.args.row.now) c.shared_slice_known-1.given in by)) ((let peer-acked-read : read_at u32 (c.args.row.now) (c.args.at) ≡ takes c.peer_acked-1.given.0.0 c.peer_acked-1.given.0.1.0 = learn u32_says c.u32_at.ensures c.peer_acked-1.given.1 in peer-acked-read)) in peer-acked-took)))).so ((let peer-read-took : Took u32 (c.args.row.now) ((field-yes (start).so ((let peer-acked-took : Took u32 (c.args.row.now) (c.args.at) c.peer_acked-1.given.0.0 c.peer_acked-1.given.0.1.0 = took _ _ u32 (number-lawful 4) ((let by : Bytes (c.args.row.now) = typed (c.args.row.now) c.shared_slice_known-1.given in by)) ((let peer-acked-read : read_at u32 (c.args.row.now) (c.args.at) ≡ takes c.peer_acked-1.given.0.0 c.peer_acked-1.given.0.1.0 = learn u32_says c.u32_at.ensures c.peer_acked-1.given.1 in peer-acked-read)) in peer-acked-took)))).here c.peer_read-1.given.0.0 c.peer_read-1.given.0.1.0 = took _ _ u32 (number-lawful 4) ((let by : Bytes (c.args.row.now) = typed (c.args.row.now) c.shared_slice_known-1.given in by)) ((let peer-read-read : read_at u32 (c.args.row.now) ((field-yes (start).so ((let peer-acked-took : Took u32 (c.args.row.now) (c.args.at) c.peer_acked-1.given.0.0 c.peer_acked-1.given.0.1.0 = took _ _ u32 (number-lawful 4) ((let by : Bytes (c.args.row.now) = typed (c.args.row.now) c.shared_slice_known-1.given in by)) ((let peer-acked-read : read_at u32 (c.args.row.now) (c.args.at) ≡ takes c.peer_acked-1.given.0.0 c.peer_acked-1.given.0.1.0 = learn u32_says c.u32_at.ensures c.peer_acked-1.given.1 in peer-acked-read)) in peer-acked-took)))).here ≡ takes c.peer_read-1.given.0.0 c.peer_read-1.given.0.1.0 = learn u32_says c.u32_at-2.ensures c.peer_read-1.given.1 in peer-read-read)) in peer-read-took)))).so ((let read-marked-took : Took u32 (c.args.row.now) ((field-yes ((field-yes (start).so ((let peer-acked-took : Took u32 (c.args.row.now) (c.args.at) c.peer_acked-1.given.0.0 c.peer_acked-1.given.0.1.0 = took _ _ u32 (number-lawful 4) ((let by : Bytes (c.args.row.now) = typed (c.args.row.now) c.shared_slice_known-1.given in by)) ((let peer-acked-read : read_at u32 (c.args.row.now) (c.args.at) ≡ takes c.peer_acked-1.given.0.0 c.peer_acked-1.given.0.1.0 = learn u32_says c.u32_at.ensures c.peer_acked-1.given.1 in peer-acked-read)) in peer-acked-took)))).so ((let peer-read-took : Took u32 (c.args.row.now) ((field-yes (start).so ((let peer-acked-took : Took u32 (c.args.row.now) (c.args.at) c.peer_acked-1.given.0.0 c.peer_acked-1.given.0.1.0 = took _ _ u32 (number-lawful 4) ((let by : Bytes (c.args.row.now) = typed (c.args.row.now) c.shared_slice_known-1.given in by)) ((let peer-acked-read : read_at u32 (c.args.row.now) (c.args.at) ≡ takes c.peer_acked-1.given.0.0 c.peer_acked-1.given.0.1.0 = learn u32_says c.u32_at.ensures c.peer_acked-1.given.1 in peer-acked-read)) in peer-acked-took)))).here c.peer_read-1.given.0.0 c.peer_read-1.given.0.1.0 = took _ _ u32 (number-lawful 4) ((let by : Bytes (c.args.row.now) = typed (c.args.row.now) c.shared_slice_known-1.given in by)) ((let peer-read-read : read_at u32 (c.args.row.now) ((field-yes (start).so ((let peer-acked-took : Took u32 (c.args.row.now) (c.args.at) c.peer_acked-1.given.0.0 c.peer_acked-1.given.0.1.0 = took _ _ u32 (number-lawful 4) ((let by : Bytes (c.args.row.now) = typed (c.args.row.now) c.shared_slice_known-1.given in by)) ((let peer-acked-read : read_at u32 (c.args.row.now) (c.args.at) ≡ takes c.peer_acked-1.given.0.0 c.peer_acked-1.given.0.1.0 = learn u32_says c.u32_at.ensures c.peer_acked-1.given.1 in peer-acked-read)) in peer-acked-took)))).here ≡ takes c.peer_read-1.given.0.0 c.peer_read-1.given.0.1.0 = learn u32_says c.u32_at-2.ensures c.peer_read-1.given.1 in peer-read-read)) in peer-read-took)))).here c.read_marked-1.given.0.0 c.read_marked-1.given.0.1.0 = took _ _ u32 (number-lawful 4) ((let by : Bytes (c.args.row.now) = typed (c.args.row.now) c.shared_slice_known-1.given in by)) ((let read-marked-read : read_at u32 (c.args.row.now) ((field-yes ((field-yes (start).so ((let peer-acked-took : Took u32 (c.args.row.now) (c.args.at) c.peer_acked-1.given.0.0 c.peer_acked-1.given.0.1.0 = took _ _ u32 (number-lawful 4) ((let by : Bytes (c.args.row.now) = typed (c.args.row.now) c.shared_slice_known-1.given in by)) ((let peer-acked-read : read_at u32 (c.args.row.now) (c.args.at) ≡ takes c.peer_acked-1.given.0.0 c.peer_acked-1.given.0.1.0 = learn u32_says c.u32_at.ensures c.peer_acked-1.given.1 in peer-acked-read)) in peer-acked-took)))).so ((let peer-read-took : Took u32 (c.args.row.now) ((field-yes (start).so ((let peer-acked-took : Took u32 (c.args.row.now) (c.args.at) c.peer_acked-1.given.0.0 c.peer_acked-1.given.0.1.0 = took _ _ u32 (number-lawful 4) ((let by : Bytes (c.args.row.now) = typed (c.args.row.now) c.shared_slice_known-1.given in by)) ((let peer-acked-read : read_at u32 (c.args.row.now) (c.args.at) ≡ takes c.peer_acked-1.given.0.0 c.peer_acked-1.given.0.1.0 = learn u32_says c.u32_at.ensures c.peer_acked-1.given.1 in peer-acked-read)) in peer-acked-took)))).here c.peer_read-1.given.0.0 c.peer_read-1.given.0.1.0 = took _ _ u32 (number-lawful 4) ((let by : Bytes (c.args.row.now) = typed (c.args.row.now) c.shared_slice_known-1.given in by)) ((let peer-read-read : read_at u32 (c.args.row.now) ((field-yes (start).so ((let peer-acked-took : Took u32 (c.args.row.now) (c.args.at) c.peer_acked-1.given.0.0 c.peer_acked-1.given.0.1.0 = took _ _ u32 (number-lawful 4) ((let by : Bytes (c.args.row.now) = typed (c.args.row.now) c.shared_slice_known-1.given in by)) ((let peer-acked-read : read_at u32 (c.args.row.now) (c.args.at) ≡ takes c.peer_acked-1.given.0.0 c.peer_acked-1.given.0.1.0 = learn u32_says c.u32_at.ensures c.peer_acked-1.given.1 in peer-acked-read)) in peer-acked-took)))).here ≡ takes c.peer_read-1.given.0.0 c.peer_read-1.given.0.1.0 = learn u32_says c.u32_at-2.ensures c.peer_read-1.given.1 in peer-read-read)) in peer-read-took)))).here ≡ takes c.read_marked-1.given.0.0 c.read_marked-1.given.0.1.0 = learn u32_says c.u32_at-3.ensures c.read_marked-1.given.1 in read-marked-read)) in read-marked-took)))).so ((let contiguous-took : Took u32 (c.args.row.now) ((field-yes ((field-yes ((field-yes (start).so ((let peer-acked-took : Took u32 (c.args.row.now) (c.args.at) c.peer_acked-1.given.0.0 c.peer_acked-1.given.0.1.0 = took _ _ u32 (number-lawful 4) ((let by : Bytes (c.args.row.now) = typed (c.args.row.now) c.shared_slice_known-1.given in by)) ((let peer-acked-read : read_at u32 (c.args.row.now) (c.args.at) ≡ takes c.peer_acked-1.given.0.0 c.peer_acked-1.given.0.1.0 = learn u32_says c.u32_at.ensures c.peer_acked-1.given.1 in peer-acked-read)) in peer-acked-took)))).so ((let peer-read-took : Took u32 (c.args.row.now) ((field-yes (start).so ((let peer-acked-took : Took u32 (c.args.row.now) (c.args.at) c.peer_acked-1.given.0.0 c.peer_acked-1.given.0.1.0 = took _ _ u32 (number-lawful 4) ((let by : Bytes (c.args.row.now) = typed (c.args.row.now) c.shared_slice_known-1.given in by)) ((let peer-acked-read : read_at u32 (c.args.row.now) (c.args.at) ≡ takes c.peer_acked-1.given.0.0 c.peer_acked-1.given.0.1.0 = learn u32_says c.u32_at.ensures c.peer_acked-1.given.1 in peer-acked-read)) in peer-acked-took)))).here c.peer_read-1.given.0.0 c.peer_read-1.given.0.1.0 = took _ _ u32 (number-lawful 4) ((let by : Bytes (c.args.row.now) = typed (c.args.row.now) c.shared_slice_known-1.given in by)) ((let peer-read-read : read_at u32 (c.args.row.now) ((field-yes (start).so ((let peer-acked-took : Took u32 (c.args.row.now) (c.args.at) c.peer_acked-1.given.0.0 c.peer_acked-1.given.0.1.0 = took _ _ u32 (number-lawful 4) ((let by : Bytes (c.args.row.now) = typed (c.args.row.now) c.shared_slice_known-1.given in by)) ((let peer-acked-read : read_at u32 (c.args.row.now) (c.args.at) ≡ takes c.peer_acked-1.given.0.0 c.peer_acked-1.given.0.1.0 = learn u32_says c.u32_at.ensures c.peer_acked-1.given.1 in peer-acked-read)) in peer-acked-took)))).here ≡ takes c.peer_read-1.given.0.0 c.peer_read-1.given.0.1.0 = learn u32_says c.u32_at-2.ensures c.peer_read-1.given.1 in peer-read-read)) in peer-read-took)))).so ((let read-marked-took : Took u32 (c.args.row.now) ((field-yes ((field-yes (start).so ((let peer-acked-took : Took u32 (c.args.row.now) (c.args.at) c.peer_acked-1.given.0.0 c.peer_acked-1.given.0.1.0 = took _ _ u32 (number-lawful 4) ((let by : Bytes (c.args.row.now) = typed (c.args.row.now) c.shared_slice_known-1.given in by)) ((let peer-acked-read : read_at u32 (c.args.row.now) (c.args.at) ≡ takes c.peer_acked-1.given.0.0 c.peer_acked-1.given.0.1.0 = learn u32_says c.u32_at.ensures c.peer_acked-1.given.1 in peer-acked-read)) in peer-acked-took)))).so ((let peer-read-took : Took u32 (c.args.row.now) ((field-yes (start).so ((let peer-acked-took : Took u32 (c.args.row.now) (c.args.at) c.peer_acked-1.given.0.0 c.peer_acked-1.given.0.1.0 = took _ _ u32 (number-lawful 4) ((let by : Bytes (c.args.row.now) = typed (c.args.row.now) c.shared_slice_known-1.given in by)) ((let peer-acked-read : read_at u32 (c.args.row.now) (c.args.at) ≡ takes c.peer_acked-1.given.0.0 c.peer_acked-1.given.0.1.0 = learn u32_says c.u32_at.ensures c.peer_acked-1.given.1 in peer-acked-read)) in peer-acked-took)))).here c.peer_read-1.given.0.0 c.peer_read-1.given.0.1.0 = took _ _ u32 (number-lawful 4) ((let by : Bytes (c.args.row.now) = typed (c.args.row.now) c.shared_slice_known-1.given in by)) ((let peer-read-read : read_at u32 (c.args.row.now) ((field-yes (start).so ((let peer-acked-took : Took u32 (c.args.row.now) (c.args.at) c.peer_acked-1.given.0.0 c.peer_acked-1.given.0.1.0 = took _ _ u32 (number-lawful 4) ((let by : Bytes (c.args.row.now) = typed (c.args.row.now) c.shared_slice_known-1.given in by)) ((let peer-acked-read : read_at u32 (c.args.row.now) (c.args.at) ≡ takes c.peer_acked-1.given.0.0 c.peer_acked-1.given.0.1.0 = learn u32_says c.u32_at.ensures c.peer_acked-1.given.1 in peer-acked-read)) in peer-acked-took)))).here ≡ takes c.peer_read-1.given.0.0 c.peer_read-1.given.0.1.0 = learn u32_says c.u32_at-2.ensures c.peer_read-1.given.1 in peer-read-read)) in peer-read-took)))).here c.read_marked-1.given.0.0 c.read_marked-1.given.0.1.0 = took _ _ u32 (number-lawful 4) ((let by : Bytes (c.args.row.now) = typed (c.args.row.now) c.shared_slice_known-1.given in by)) ((let read-marked-read : read_at u32 (c.args.row.now) ((field-yes ((field-yes (start).so ((let peer-acked-took : Took u32 (c.args.row.now) (c.args.at) c.peer_acked-1.given.0.0 c.peer_acked-1.given.0.1.0 = took _ _ u32 (number-lawful 4) ((let by : Bytes (c.args.row.now) = typed (c.args.row.now) c.shared_slice_known-1.given in by)) ((let peer-acked-read : read_at u32 (c.args.row.now) (c.args.at) ≡ takes c.peer_acked-1.given.0.0 c.peer_acked-1.given.0.1.0 = learn u32_says c.u32_at.ensures c.peer_acked-1.given.1 in peer-acked-read)) in peer-acked-took)))).so ((let peer-read-took : Took u32 (c.args.row.now) ((field-yes (start).so ((let peer-acked-took : Took u32 (c.args.row.now) (c.args.at) c.peer_acked-1.given.0.0 c.peer_acked-1.given.0.1.0 = took _ _ u32 (number-lawful 4) ((let by : Bytes (c.args.row.now) = typed (c.args.row.now) c.shared_slice_known-1.given in by)) ((let peer-acked-read : read_at u32 (c.args.row.now) (c.args.at) ≡ takes c.peer_acked-1.given.0.0 c.peer_acked-1.given.0.1.0 = learn u32_says c.u32_at.ensures c.peer_acked-1.given.1 in peer-acked-read)) in peer-acked-took)))).here c.peer_read-1.given.0.0 c.peer_read-1.given.0.1.0 = took _ _ u32 (number-lawful 4) ((let by : Bytes (c.args.row.now) = typed (c.args.row.now) c.shared_slice_known-1.given in by)) ((let peer-read-read : read_at u32 (c.args.row.now) ((field-yes (start).so ((let peer-acked-took : Took u32 (c.args.row.now) (c.args.at) c.peer_acked-1.given.0.0 c.peer_acked-1.given.0.1.0 = took _ _ u32 (number-lawful 4) ((let by : Bytes (c.args.row.now) = typed (c.args.row.now) c.shared_slice_known-1.given in by)) ((let peer-acked-read : read_at u32 (c.args.row.now) (c.args.at) ≡ takes c.peer_acked-1.given.0.0 c.peer_acked-1.given.0.1.0 = learn u32_says c.u32_at.ensures c.peer_acked-1.given.1 in peer-acked-read)) in peer-acked-took)))).here ≡ takes c.peer_read-1.given.0.0 c.peer_read-1.given.0.1.0 = learn u32_says c.u32_at-2.ensures c.peer_read-1.given.1 in peer-read-read)) in peer-read-took)))).here ≡ takes c.read_marked-1.given.0.0 c.read_marked-1.given.0.1.0 = learn u32_says c.u32_at-3.ensures c.read_marked-1.given.1 in read-marked-read)) in read-marked-took)))).here c.contiguous-1.given.0.0 c.contiguous-1.given.0.1.0 = took _ _ u32 (number-lawful 4) ((let by : Bytes (c.args.row.now) = typed (c.args.row.now) c.shared_slice_known-1.given in by)) ((let contiguous-read : read_at u32 (c.args.row.now) ((field-yes ((field-yes ((field-yes (start).so ((let peer-acked-took : Took u32 (c.args.row.now) (c.args.at) c.peer_acked-1.given.0.0 c.peer_acked-1.given.0.1.0 = took _ _ u32 (number-lawful 4) ((let by : Bytes (c.args.row.now) = typed (c.args.row.now) c.shared_slice_known-1.given in by)) ((let peer-acked-read : read_at u32 (c.args.row.now) (c.args.at) ≡ takes c.peer_acked-1.given.0.0 c.peer_acked-1.given.0.1.0 = learn u32_says c.u32_at.ensures c.peer_acked-1.given.1 in peer-acked-read)) in peer-acked-took)))).so ((let peer-read-took : Took u32 (c.args.row.now) ((field-yes (start).so ((let peer-acked-took : Took u32 (c.args.row.now) (c.args.at) c.peer_acked-1.given.0.0 c.peer_acked-1.given.0.1.0 = took _ _ u32 (number-lawful 4) ((let by : Bytes (c.args.row.now) = typed (c.args.row.now) c.shared_slice_known-1.given in by)) ((let peer-acked-read : read_at u32 (c.args.row.now) (c.args.at) ≡ takes c.peer_acked-1.given.0.0 c.peer_acked-1.given.0.1.0 = learn u32_says c.u32_at.ensures c.peer_acked-1.given.1 in peer-acked-read)) in peer-acked-took)))).here c.peer_read-1.given.0.0 c.peer_read-1.given.0.1.0 = took _ _ u32 (number-lawful 4) ((let by : Bytes (c.args.row.now) = typed (c.args.row.now) c.shared_slice_known-1.given in by)) ((let peer-read-read : read_at u32 (c.args.row.now) ((field-yes (start).so ((let peer-acked-took : Took u32 (c.args.row.now) (c.args.at) c.peer_acked-1.given.0.0 c.peer_acked-1.given.0.1.0 = took _ _ u32 (number-lawful 4) ((let by : Bytes (c.args.row.now) = typed (c.args.row.now) c.shared_slice_known-1.given in by)) ((let peer-acked-read : read_at u32 (c.args.row.now) (c.args.at) ≡ takes c.peer_acked-1.given.0.0 c.peer_acked-1.given.0.1.0 = learn u32_says c.u32_at.ensures c.peer_acked-1.given.1 in peer-acked-read)) in peer-acked-took)))).here ≡ takes c.peer_read-1.given.0.0 c.peer_read-1.given.0.1.0 = learn u32_says c.u32_at-2.ensures c.peer_read-1.given.1 in peer-read-read)) in peer-read-took)))).so ((let read-marked-took : Took u32 (c.args.row.now) ((field-yes ((field-yes (start).so ((let peer-acked-took : Took u32 (c.args.row.now) (c.args.at) c.peer_acked-1.given.0.0 c.peer_acked-1.given.0.1.0 = took _ _ u32 (number-lawful 4) ((let by : Bytes (c.args.row.now) = typed (c.args.row.now) c.shared_slice_known-1.given in by)) ((let peer-acked-read : read_at u32 (c.args.row.now) (c.args.at) ≡ takes c.peer_acked-1.given.0.0 c.peer_acked-1.given.0.1.0 = learn u32_says c.u32_at.ensures c.peer_acked-1.given.1 in peer-acked-read)) in peer-acked-took)))).so ((let peer-read-took : Took u32 (c.args.row.now) ((field-yes (start).so ((let peer-acked-took : Took u32 (c.args.row.now) (c.args.at) c.peer_acked-1.given.0.0 c.peer_acked-1.given.0.1.0 = took _ _ u32 (number-lawful 4) ((let by : Bytes (c.args.row.now) = typed (c.args.row.now) c.shared_slice_known-1.given in by)) ((let peer-acked-read : read_at u32 (c.args.row.now) (c.args.at) ≡ takes c.peer_acked-1.given.0.0 c.peer_acked-1.given.0.1.0 = learn u32_says c.u32_at.ensures c.peer_acked-1.given.1 in peer-acked-read)) in peer-acked-took)))).here c.peer_read-1.given.0.0 c.peer_read-1.given.0.1.0 = took _ _ u32 (number-lawful 4) ((let by : Bytes (c.args.row.now) = typed (c.args.row.now) c.shared_slice_known-1.given in by)) ((let peer-read-read : read_at u32 (c.args.row.now) ((field-yes (start).so ((let peer-acked-took : Took u32 (c.args.row.now) (c.args.at) c.peer_acked-1.given.0.0 c.peer_acked-1.given.0.1.0 = took _ _ u32 (number-lawful 4) ((let by : Bytes (c.args.row.now) = typed (c.args.row.now) c.shared_slice_known-1.given in by)) ((let peer-acked-read : read_at u32 (c.args.row.now) (c.args.at) ≡ takes c.peer_acked-1.given.0.0 c.peer_acked-1.given.0.1.0 = learn u32_says c.u32_at.ensures c.peer_acked-1.given.1 in peer-acked-read)) in peer-acked-took)))).here ≡ takes c.peer_read-1.given.0.0 c.peer_read-1.given.0.1.0 = learn u32_says c.u32_at-2.ensures c.peer_read-1.given.1 in peer-read-read)) in peer-read-took)))).here c.read_marked-1.given.0.0 c.read_marked-1.given.0.1.0 = took _ _ u32 (number-lawful 4) ((let by : Bytes (c.args.row.now) = typed (c.args.row.now) c.shared_slice_known-1.given in by)) ((let read-marked-read : read_at u32 (c.args.row.now) ((field-yes ((field-yes (start).so ((let peer-acked-took : Took u32 (c.args.row.now) (c.args.at) c.peer_acked-1.given.0.0 c.peer_acked-1.given.0.1.0 = took _ _ u32 (number-lawful 4) ((let by : Bytes (c.args.row.now) = typed (c.args.row.now) c.shared_slice_known-1.given in by)) ((let peer-acked-read : read_at u32 (c.args.row.now) (c.args.at) ≡ takes c.peer_acked-1.given.0.0 c.peer_acked-1.given.0.1.0 = learn u32_says c.u32_at.ensures c.peer_acked-1.given.1 in peer-acked-read)) in peer-acked-took)))).so ((let peer-read-took : Took u32 (c.args.row.now) ((field-yes (start).so ((let peer-acked-took : Took u32 (c.args.row.now) (c.args.at) c.peer_acked-1.given.0.0 c.peer_acked-1.given.0.1.0 = took _ _ u32 (number-lawful 4) ((let by : Bytes (c.args.row.now) = typed (c.args.row.now) c.shared_slice_known-1.given in by)) ((let peer-acked-read : read_at u32 (c.args.row.now) (c.args.at) ≡ takes c.peer_acked-1.given.0.0 c.peer_acked-1.given.0.1.0 = learn u32_says c.u32_at.ensures c.peer_acked-1.given.1 in peer-acked-read)) in peer-acked-took)))).here c.peer_read-1.given.0.0 c.peer_read-1.given.0.1.0 = took _ _ u32 (number-lawful 4) ((let by : Bytes (c.args.row.now) = typed (c.args.row.now) c.shared_slice_known-1.given in by)) ((let peer-read-read : read_at u32 (c.args.row.now) ((field-yes (start).so ((let peer-acked-took : Took u32 (c.args.row.now) (c.args.at) c.peer_acked-1.given.0.0 c.peer_acked-1.given.0.1.0 = took _ _ u32 (number-lawful 4) ((let by : Bytes (c.args.row.now) = typed (c.args.row.now) c.shared_slice_known-1.given in by)) ((let peer-acked-read : read_at u32 (c.args.row.now) (c.args.at) ≡ takes c.peer_acked-1.given.0.0 c.peer_acked-1.given.0.1.0 = learn u32_says c.u32_at.ensures c.peer_acked-1.given.1 in peer-acked-read)) in peer-acked-took)))).here ≡ takes c.peer_read-1.given.0.0 c.peer_read-1.given.0.1.0 = learn u32_says c.u32_at-2.ensures c.peer_read-1.given.1 in peer-read-read)) in peer-read-took)))).here ≡ takes c.read_marked-1.given.0.0 c.read_marked-1.given.0.1.0 = learn u32_says c.u32_at-3.ensures c.read_marked-1.given.1 in read-marked-read)) in read-marked-took)))).here ≡ takes c.contiguous-1.given.0.0 c.contiguous-1.given.0.1.0 = learn u32_says c.u32_at-4.ensures c.contiguous-1.given.1 in contiguous-read)) in contiguous-took)))).here (list_in (group range) (c.args.row.now) c.above_field-1.given.0.0) c.above_field-1.given.0.0.next = list-took (group range) range-lawful (c.args.row.now) ((let by : Bytes (c.args.row.now) = typed (c.args.row.now) c.shared_slice_known-1.given in by)) _ c.ranges_at-above_field.ensures c.above_field-1.given.1 in above-took)))).here (list_in u32 (c.args.row.now) c.unacked_field-1.given.0.0) = list-starts u32 (number-lawful 4) (c.args.row.now) ((let by : Bytes (c.args.row.now) = typed (c.args.row.now) c.shared_slice_known-1.given in by)) _ c.numbers_at-unacked_field.ensures c.unacked_field-1.given.1 ((let above-took : Took (list (group range)) (c.args.row.now) ((field-yes ((field-yes ((field-yes ((field-yes (start).so ((let peer-acked-took : Took u32 (c.args.row.now) (c.args.at) c.peer_acked-1.given.0.0 c.peer_acked-1.given.0.1.0 = took _ _ u32 (number-lawful 4) ((let by : Bytes (c.args.row.now) = typed (c.args.row.now) c.shared_slice_known-1.given in by)) ((let peer-acked-read : read_at u32 (c.args.row.now) (c.args.at) ≡ takes c.peer_acked-1.given.0.0 c.peer_acked-1.given.0.1.0 = learn u32_says c.u32_at.ensures c.peer_acked-1.given.1 in peer-acked-read)) in peer-acked-took)))).so ((let peer-read-took : Took u32 (c.args.row.now) ((field-yes (start).so ((let peer-acked-took : Took u32 (c.args.row.now) (c.args.at) c.peer_acked-1.given.0.0 c.peer_acked-1.given.0.1.0 = took _ _ u32 (number-lawful 4) ((let by : Bytes (c.args.row.now) = typed (c.args.row.now) c.shared_slice_known-1.given in by)) ((let peer-acked-read : read_at u32 (c.args.row.now) (c.args.at) ≡ takes c.peer_acked-1.given.0.0 c.peer_acked-1.given.0.1.0 = learn u32_says c.u32_at.ensures c.peer_acked-1.given.1 in peer-acked-read)) in peer-acked-took)))).here c.peer_read-1.given.0.0 c.peer_read-1.given.0.1.0 = took _ _ u32 (number-lawful 4) ((let by : Bytes (c.args.row.now) = typed (c.args.row.now) c.shared_slice_known-1.given in by)) ((let peer-read-read : read_at u32 (c.args.row.now) ((field-yes (start).so ((let peer-acked-took : Took u32 (c.args.row.now) (c.args.at) c.peer_acked-1.given.0.0 c.peer_acked-1.given.0.1.0 = took _ _ u32 (number-lawful 4) ((let by : Bytes (c.args.row.now) = typed (c.args.row.now) c.shared_slice_known-1.given in by)) ((let peer-acked-read : read_at u32 (c.args.row.now) (c.args.at) ≡ takes c.peer_acked-1.given.0.0 c.peer_acked-1.given.0.1.0 = learn u32_says c.u32_at.ensures c.peer_acked-1.given.1 in peer-acked-read)) in peer-acked-took)))).here ≡ takes c.peer_read-1.given.0.0 c.peer_read-1.given.0.1.0 = learn u32_says c.u32_at-2.ensures c.peer_read-1.given.1 in peer-read-read)) in peer-read-took)))).so ((let read-marked-took : Took u32 (c.args.row.now) ((field-yes ((field-yes (start).so ((let peer-acked-took : Took u32 (c.args.row.now) (c.args.at) c.peer_acked-1.given.0.0 c.peer_acked-1.given.0.1.0 = took _ _ u32 (number-lawful 4) ((let by : Bytes (c.args.row.now) = typed (c.args.row.now) c.shared_slice_known-1.given in by)) ((let peer-acked-read : read_at u32 (c.args.row.now) (c.args.at) ≡ takes c.peer_acked-1.given.0.0 c.peer_acked-1.given.0.1.0 = learn u32_says c.u32_at.ensures c.peer_acked-1.given.1 in peer-acked-read)) in peer-acked-took)))).so ((let peer-read-took : Took u32 (c.args.row.now) ((field-yes (start).so ((let peer-acked-took : Took u32 (c.args.row.now) (c.args.at) c.peer_acked-1.given.0.0 c.peer_acked-1.given.0.1.0 = took _ _ u32 (number-lawful 4) ((let by : Bytes (c.args.row.now) = typed (c.args.row.now) c.shared_slice_known-1.given in by)) ((let peer-acked-read : read_at u32 (c.args.row.now) (c.args.at) ≡ takes c.peer_acked-1.given.0.0 c.peer_acked-1.given.0.1.0 = learn u32_says c.u32_at.ensures c.peer_acked-1.given.1 in peer-acked-read)) in peer-acked-took)))).here c.peer_read-1.given.0.0 c.peer_read-1.given.0.1.0 = took _ _ u32 (number-lawful 4) ((let by : Bytes (c.args.row.now) = typed (c.args.row.now) c.shared_slice_known-1.given in by)) ((let peer-read-read : read_at u32 (c.args.row.now) ((field-yes (start).so ((let peer-acked-took : Took u32 (c.args.row.now) (c.args.at) c.peer_acked-1.given.0.0 c.peer_acked-1.given.0.1.0 = took _ _ u32 (number-lawful 4) ((let by : Bytes (c.args.row.now) = typed (c.args.row.now) c.shared_slice_known-1.given in by)) ((let peer-acked-read : read_at u32 (c.args.row.now) (c.args.at) ≡ takes c.peer_acked-1.given.0.0 c.peer_acked-1.given.0.1.0 = learn u32_says c.u32_at.ensures c.peer_acked-1.given.1 in peer-acked-read)) in peer-acked-took)))).here ≡ takes c.peer_read-1.given.0.0 c.peer_read-1.given.0.1.0 = learn u32_says c.u32_at-2.ensures c.peer_read-1.given.1 in peer-read-read)) in peer-read-took)))).here c.read_marked-1.given.0.0 c.read_marked-1.given.0.1.0 = took _ _ u32 (number-lawful 4) ((let by : Bytes (c.args.row.now) = typed (c.args.row.now) c.shared_slice_known-1.given in by)) ((let read-marked-read : read_at u32 (c.args.row.now) ((field-yes ((field-yes (start).so ((let peer-acked-took : Took u32 (c.args.row.now) (c.args.at) c.peer_acked-1.given.0.0 c.peer_acked-1.given.0.1.0 = took _ _ u32 (number-lawful 4) ((let by : Bytes (c.args.row.now) = typed (c.args.row.now) c.shared_slice_known-1.given in by)) ((let peer-acked-read : read_at u32 (c.args.row.now) (c.args.at) ≡ takes c.peer_acked-1.given.0.0 c.peer_acked-1.given.0.1.0 = learn u32_says c.u32_at.ensures c.peer_acked-1.given.1 in peer-acked-read)) in peer-acked-took)))).so ((let peer-read-took : Took u32 (c.args.row.now) ((field-yes (start).so ((let peer-acked-took : Took u32 (c.args.row.now) (c.args.at) c.peer_acked-1.given.0.0 c.peer_acked-1.given.0.1.0 = took _ _ u32 (number-lawful 4) ((let by : Bytes (c.args.row.now) = typed (c.args.row.now) c.shared_slice_known-1.given in by)) ((let peer-acked-read : read_at u32 (c.args.row.now) (c.args.at) ≡ takes c.peer_acked-1.given.0.0 c.peer_acked-1.given.0.1.0 = learn u32_says c.u32_at.ensures c.peer_acked-1.given.1 in peer-acked-read)) in peer-acked-took)))).here c.peer_read-1.given.0.0 c.peer_read-1.given.0.1.0 = took _ _ u32 (number-lawful 4) ((let by : Bytes (c.args.row.now) = typed (c.args.row.now) c.shared_slice_known-1.given in by)) ((let peer-read-read : read_at u32 (c.args.row.now) ((field-yes (start).so ((let peer-acked-took : Took u32 (c.args.row.now) (c.args.at) c.peer_acked-1.given.0.0 c.peer_acked-1.given.0.1.0 = took _ _ u32 (number-lawful 4) ((let by : Bytes (c.args.row.now) = typed (c.args.row.now) c.shared_slice_known-1.given in by)) ((let peer-acked-read : read_at u32 (c.args.row.now) (c.args.at) ≡ takes c.peer_acked-1.given.0.0 c.peer_acked-1.given.0.1.0 = learn u32_says c.u32_at.ensures c.peer_acked-1.given.1 in peer-acked-read)) in peer-acked-took)))).here ≡ takes c.peer_read-1.given.0.0 c.peer_read-1.given.0.1.0 = learn u32_says c.u32_at-2.ensures c.peer_read-1.given.1 in peer-read-read)) in peer-read-took)))).here ≡ takes c.read_marked-1.given.0.0 c.read_marked-1.given.0.1.0 = learn u32_says c.u32_at-3.ensures c.read_marked-1.given.1 in read-marked-read)) in read-marked-took)))).so ((let contiguous-took : Took u32 (c.args.row.now) ((field-yes ((field-yes ((field-yes (start).so ((let peer-acked-took : Took u32 (c.args.row.now) (c.args.at) c.peer_acked-1.given.0.0 c.peer_acked-1.given.0.1.0 = took _ _ u32 (number-lawful 4) ((let by : Bytes (c.args.row.now) = typed (c.args.row.now) c.shared_slice_known-1.given in by)) ((let peer-acked-read : read_at u32 (c.args.row.now) (c.args.at) ≡ takes c.peer_acked-1.given.0.0 c.peer_acked-1.given.0.1.0 = learn u32_says c.u32_at.ensures c.peer_acked-1.given.1 in peer-acked-read)) in peer-acked-took)))).so ((let peer-read-took : Took u32 (c.args.row.now) ((field-yes (start).so ((let peer-acked-took : Took u32 (c.args.row.now) (c.args.at) c.peer_acked-1.given.0.0 c.peer_acked-1.given.0.1.0 = took _ _ u32 (number-lawful 4) ((let by : Bytes (c.args.row.now) = typed (c.args.row.now) c.shared_slice_known-1.given in by)) ((let peer-acked-read : read_at u32 (c.args.row.now) (c.args.at) ≡ takes c.peer_acked-1.given.0.0 c.peer_acked-1.given.0.1.0 = learn u32_says c.u32_at.ensures c.peer_acked-1.given.1 in peer-acked-read)) in peer-acked-took)))).here c.peer_read-1.given.0.0 c.peer_read-1.given.0.1.0 = took _ _ u32 (number-lawful 4) ((let by : Bytes (c.args.row.now) = typed (c.args.row.now) c.shared_slice_known-1.given in by)) ((let peer-read-read : read_at u32 (c.args.row.now) ((field-yes (start).so ((let peer-acked-took : Took u32 (c.args.row.now) (c.args.at) c.peer_acked-1.given.0.0 c.peer_acked-1.given.0.1.0 = took _ _ u32 (number-lawful 4) ((let by : Bytes (c.args.row.now) = typed (c.args.row.now) c.shared_slice_known-1.given in by)) ((let peer-acked-read : read_at u32 (c.args.row.now) (c.args.at) ≡ takes c.peer_acked-1.given.0.0 c.peer_acked-1.given.0.1.0 = learn u32_says c.u32_at.ensures c.peer_acked-1.given.1 in peer-acked-read)) in peer-acked-took)))).here ≡ takes c.peer_read-1.given.0.0 c.peer_read-1.given.0.1.0 = learn u32_says c.u32_at-2.ensures c.peer_read-1.given.1 in peer-read-read)) in peer-read-took)))).so ((let read-marked-took : Took u32 (c.args.row.now) ((field-yes ((field-yes (start).so ((let peer-acked-took : Took u32 (c.args.row.now) (c.args.at) c.peer_acked-1.given.0.0 c.peer_acked-1.given.0.1.0 = took _ _ u32 (number-lawful 4) ((let by : Bytes (c.args.row.now) = typed (c.args.row.now) c.shared_slice_known-1.given in by)) ((let peer-acked-read : read_at u32 (c.args.row.now) (c.args.at) ≡ takes c.peer_acked-1.given.0.0 c.peer_acked-1.given.0.1.0 = learn u32_says c.u32_at.ensures c.peer_acked-1.given.1 in peer-acked-read)) in peer-acked-took)))).so ((let peer-read-took : Took u32 (c.args.row.now) ((field-yes (start).so ((let peer-acked-took : Took u32 (c.args.row.now) (c.args.at) c.peer_acked-1.given.0.0 c.peer_acked-1.given.0.1.0 = took _ _ u32 (number-lawful 4) ((let by : Bytes (c.args.row.now) = typed (c.args.row.now) c.shared_slice_known-1.given in by)) ((let peer-acked-read : read_at u32 (c.args.row.now) (c.args.at) ≡ takes c.peer_acked-1.given.0.0 c.peer_acked-1.given.0.1.0 = learn u32_says c.u32_at.ensures c.peer_acked-1.given.1 in peer-acked-read)) in peer-acked-took)))).here c.peer_read-1.given.0.0 c.peer_read-1.given.0.1.0 = took _ _ u32 (number-lawful 4) ((let by : Bytes (c.args.row.now) = typed (c.args.row.now) c.shared_slice_known-1.given in by)) ((let peer-read-read : read_at u32 (c.args.row.now) ((field-yes (start).so ((let peer-acked-took : Took u32 (c.args.row.now) (c.args.at) c.peer_acked-1.given.0.0 c.peer_acked-1.given.0.1.0 = took _ _ u32 (number-lawful 4) ((let by : Bytes (c.args.row.now) = typed (c.args.row.now) c.shared_slice_known-1.given in by)) ((let peer-acked-read : read_at u32 (c.args.row.now) (c.args.at) ≡ takes c.peer_acked-1.given.0.0 c.peer_acked-1.given.0.1.0 = learn u32_says c.u32_at.ensures c.peer_acked-1.given.1 in peer-acked-read)) in peer-acked-took)))).here ≡ takes c.peer_read-1.given.0.0 c.peer_read-1.given.0.1.0 = learn u32_says c.u32_at-2.ensures c.peer_read-1.given.1 in peer-read-read)) in peer-read-took)))).here c.read_marked-1.given.0.0 c.read_marked-1.given.0.1.0 = took _ _ u32 (number-lawful 4) ((let by : Bytes (c.args.row.now) = typed (c.args.row.now) c.shared_slice_known-1.given in by)) ((let read-marked-read : read_at u32 (c.args.row.now) ((field-yes ((field-yes (start).so ((let peer-acked-took : Took u32 (c.args.row.now) (c.args.at) c.peer_acked-1.given.0.0 c.peer_acked-1.given.0.1.0 = took _ _ u32 (number-lawful 4) ((let by : Bytes (c.args.row.now) = typed (c.args.row.now) c.shared_slice_known-1.given in by)) ((let peer-acked-read : read_at u32 (c.args.row.now) (c.args.at) ≡ takes c.peer_acked-1.given.0.0 c.peer_acked-1.given.0.1.0 = learn u32_says c.u32_at.ensures c.peer_acked-1.given.1 in peer-acked-read)) in peer-acked-took)))).so ((let peer-read-took : Took u32 (c.args.row.now) ((field-yes (start).so ((let peer-acked-took : Took u32 (c.args.row.now) (c.args.at) c.peer_acked-1.given.0.0 c.peer_acked-1.given.0.1.0 = took _ _ u32 (number-lawful 4) ((let by : Bytes (c.args.row.now) = typed (c.args.row.now) c.shared_slice_known-1.given in by)) ((let peer-acked-read : read_at u32 (c.args.row.now) (c.args.at) ≡ takes c.peer_acked-1.given.0.0 c.peer_acked-1.given.0.1.0 = learn u32_says c.u32_at.ensures c.peer_acked-1.given.1 in peer-acked-read)) in peer-acked-took)))).here c.peer_read-1.given.0.0 c.peer_read-1.given.0.1.0 = took _ _ u32 (number-lawful 4) ((let by : Bytes (c.args.row.now) = typed (c.args.row.now) c.shared_slice_known-1.given in by)) ((let peer-read-read : read_at u32 (c.args.row.now) ((field-yes (start).so ((let peer-acked-took : Took u32 (c.args.row.now) (c.args.at) c.peer_acked-1.given.0.0 c.peer_acked-1.given.0.1.0 = took _ _ u32 (number-lawful 4) ((let by : Bytes (c.args.row.now) = typed (c.args.row.now) c.shared_slice_known-1.given in by)) ((let peer-acked-read : read_at u32 (c.args.row.now) (c.args.at) ≡ takes c.peer_acked-1.given.0.0 c.peer_acked-1.given.0.1.0 = learn u32_says c.u32_at.ensures c.peer_acked-1.given.1 in peer-acked-read)) in peer-acked-took)))).here ≡ takes c.peer_read-1.given.0.0 c.peer_read-1.given.0.1.0 = learn u32_says c.u32_at-2.ensures c.peer_read-1.given.1 in peer-read-read)) in peer-read-took)))).here ≡ takes c.read_marked-1.given.0.0 c.read_marked-1.given.0.1.0 = learn u32_says c.u32_at-3.ensures c.read_marked-1.given.1 in read-marked-read)) in read-marked-took)))).here c.contiguous-1.given.0.0 c.contiguous-1.given.0.1.0 = took _ _ u32 (number-lawful 4) ((let by : Bytes (c.args.row.now) = typed (c.args.row.now) c.shared_slice_known-1.given in by)) ((let contiguous-read : read_at u32 (c.args.row.now) ((field-yes ((field-yes ((field-yes (start).so ((let peer-acked-took : Took u32 (c.args.row.now) (c.args.at) c.peer_acked-1.given.0.0 c.peer_acked-1.given.0.1.0 = took _ _ u32 (number-lawful 4) ((let by : Bytes (c.args.row.now) = typed (c.args.row.now) c.shared_slice_known-1.given in by)) ((let peer-acked-read : read_at u32 (c.args.row.now) (c.args.at) ≡ takes c.peer_acked-1.given.0.0 c.peer_acked-1.given.0.1.0 = learn u32_says c.u32_at.ensures c.peer_acked-1.given.1 in peer-acked-read)) in peer-acked-took)))).so ((let peer-read-took : Took u32 (c.args.row.now) ((field-yes (start).so ((let peer-acked-took : Took u32 (c.args.row.now) (c.args.at) c.peer_acked-1.given.0.0 c.peer_acked-1.given.0.1.0 = took _ _ u32 (number-lawful 4) ((let by : Bytes (c.args.row.now) = typed (c.args.row.now) c.shared_slice_known-1.given in by)) ((let peer-acked-read : read_at u32 (c.args.row.now) (c.args.at) ≡ takes c.peer_acked-1.given.0.0 c.peer_acked-1.given.0.1.0 = learn u32_says c.u32_at.ensures c.peer_acked-1.given.1 in peer-acked-read)) in peer-acked-took)))).here c.peer_read-1.given.0.0 c.peer_read-1.given.0.1.0 = took _ _ u32 (number-lawful 4) ((let by : Bytes (c.args.row.now) = typed (c.args.row.now) c.shared_slice_known-1.given in by)) ((let peer-read-read : read_at u32 (c.args.row.now) ((field-yes (start).so ((let peer-acked-took : Took u32 (c.args.row.now) (c.args.at) c.peer_acked-1.given.0.0 c.peer_acked-1.given.0.1.0 = took _ _ u32 (number-lawful 4) ((let by : Bytes (c.args.row.now) = typed (c.args.row.now) c.shared_slice_known-1.given in by)) ((let peer-acked-read : read_at u32 (c.args.row.now) (c.args.at) ≡ takes c.peer_acked-1.given.0.0 c.peer_acked-1.given.0.1.0 = learn u32_says c.u32_at.ensures c.peer_acked-1.given.1 in peer-acked-read)) in peer-acked-took)))).here ≡ takes c.peer_read-1.given.0.0 c.peer_read-1.given.0.1.0 = learn u32_says c.u32_at-2.ensures c.peer_read-1.given.1 in peer-read-read)) in peer-read-took)))).so ((let read-marked-took : Took u32 (c.args.row.now) ((field-yes ((field-yes (start).so ((let peer-acked-took : Took u32 (c.args.row.now) (c.args.at) c.peer_acked-1.given.0.0 c.peer_acked-1.given.0.1.0 = took _ _ u32 (number-lawful 4) ((let by : Bytes (c.args.row.now) = typed (c.args.row.now) c.shared_slice_known-1.given in by)) ((let peer-acked-read : read_at u32 (c.args.row.now) (c.args.at) ≡ takes c.peer_acked-1.given.0.0 c.peer_acked-1.given.0.1.0 = learn u32_says c.u32_at.ensures c.peer_acked-1.given.1 in peer-acked-read)) in peer-acked-took)))).so ((let peer-read-took : Took u32 (c.args.row.now) ((field-yes (start).so ((let peer-acked-took : Took u32 (c.args.row.now) (c.args.at) c.peer_acked-1.given.0.0 c.peer_acked-1.given.0.1.0 = took _ _ u32 (number-lawful 4) ((let by : Bytes (c.args.row.now) = typed (c.args.row.now) c.shared_slice_known-1.given in by)) ((let peer-acked-read : read_at u32 (c.args.row.now) (c.args.at) ≡ takes c.peer_acked-1.given.0.0 c.peer_acked-1.given.0.1.0 = learn u32_says c.u32_at.ensures c.peer_acked-1.given.1 in peer-acked-read)) in peer-acked-took)))).here c.peer_read-1.given.0.0 c.peer_read-1.given.0.1.0 = took _ _ u32 (number-lawful 4) ((let by : Bytes (c.args.row.now) = typed (c.args.row.now) c.shared_slice_known-1.given in by)) ((let peer-read-read : read_at u32 (c.args.row.now) ((field-yes (start).so ((let peer-acked-took : Took u32 (c.args.row.now) (c.args.at) c.peer_acked-1.given.0.0 c.peer_acked-1.given.0.1.0 = took _ _ u32 (number-lawful 4) ((let by : Bytes (c.args.row.now) = typed (c.args.row.now) c.shared_slice_known-1.given in by)) ((let peer-acked-read : read_at u32 (c.args.row.now) (c.args.at) ≡ takes c.peer_acked-1.given.0.0 c.peer_acked-1.given.0.1.0 = learn u32_says c.u32_at.ensures c.peer_acked-1.given.1 in peer-acked-read)) in peer-acked-took)))).here ≡ takes c.peer_read-1.given.0.0 c.peer_read-1.given.0.1.0 = learn u32_says c.u32_at-2.ensures c.peer_read-1.given.1 in peer-read-read)) in peer-read-took)))).here c.read_marked-1.given.0.0 c.read_marked-1.given.0.1.0 = took _ _ u32 (number-lawful 4) ((let by : Bytes (c.args.row.now) = typed (c.args.row.now) c.shared_slice_known-1.given in by)) ((let read-marked-read : read_at u32 (c.args.row.now) ((field-yes ((field-yes (start).so ((let peer-acked-took : Took u32 (c.args.row.now) (c.args.at) c.peer_acked-1.given.0.0 c.peer_acked-1.given.0.1.0 = took _ _ u32 (number-lawful 4) ((let by : Bytes (c.args.row.now) = typed (c.args.row.now) c.shared_slice_known-1.given in by)) ((let peer-acked-read : read_at u32 (c.args.row.now) (c.args.at) ≡ takes c.peer_acked-1.given.0.0 c.peer_acked-1.given.0.1.0 = learn u32_says c.u32_at.ensures c.peer_acked-1.given.1 in peer-acked-read)) in peer-acked-took)))).so ((let peer-read-took : Took u32 (c.args.row.now) ((field-yes (start).so ((let peer-acked-took : Took u32 (c.args.row.now) (c.args.at) c.peer_acked-1.given.0.0 c.peer_acked-1.given.0.1.0 = took _ _ u32 (number-lawful 4) ((let by : Bytes (c.args.row.now) = typed (c.args.row.now) c.shared_slice_known-1.given in by)) ((let peer-acked-read : read_at u32 (c.args.row.now) (c.args.at) ≡ takes c.peer_acked-1.given.0.0 c.peer_acked-1.given.0.1.0 = learn u32_says c.u32_at.ensures c.peer_acked-1.given.1 in peer-acked-read)) in peer-acked-took)))).here c.peer_read-1.given.0.0 c.peer_read-1.given.0.1.0 = took _ _ u32 (number-lawful 4) ((let by : Bytes (c.args.row.now) = typed (c.args.row.now) c.shared_slice_known-1.given in by)) ((let peer-read-read : read_at u32 (c.args.row.now) ((field-yes (start).so ((let peer-acked-took : Took u32 (c.args.row.now) (c.args.at) c.peer_acked-1.given.0.0 c.peer_acked-1.given.0.1.0 = took _ _ u32 (number-lawful 4) ((let by : Bytes (c.args.row.now) = typed (c.args.row.now) c.shared_slice_known-1.given in by)) ((let peer-acked-read : read_at u32 (c.args.row.now) (c.args.at) ≡ takes c.peer_acked-1.given.0.0 c.peer_acked-1.given.0.1.0 = learn u32_says c.u32_at.ensures c.peer_acked-1.given.1 in peer-acked-read)) in peer-acked-took)))).here ≡ takes c.peer_read-1.given.0.0 c.peer_read-1.given.0.1.0 = learn u32_says c.u32_at-2.ensures c.peer_read-1.given.1 in peer-read-read)) in peer-read-took)))).here ≡ takes c.read_marked-1.given.0.0 c.read_marked-1.given.0.1.0 = learn u32_says c.u32_at-3.ensures c.read_marked-1.given.1 in read-marked-read)) in read-marked-took)))).here ≡ takes c.contiguous-1.given.0.0 c.contiguous-1.given.0.1.0 = learn u32_says c.u32_at-4.ensures c.contiguous-1.given.1 in contiguous-read)) in contiguous-took)))).here (list_in (group range) (c.args.row.now) c.above_field-1.given.0.0) c.above_field-1.given.0.0.next = list-took (group range) range-lawful (c.args.row.now) ((let by : Bytes (c.args.row.now) = typed (c.args.row.now) c.shared_slice_known-1.given in by)) _ c.ranges_at-above_field.ensures c.above_field-1.given.1 in above-took)).inside in unacked-starts))
-    (omega (arith, (let peer-acked-next : c.peer_acked-1.given.0.1.0 ≡ c.args.at + length (u32.print c.peer_acked-1.given.0.0) = took-next _ _ u32 (number-lawful 4) ((let by : Bytes (c.args.row.now) = typed (c.args.row.now) c.shared_slice_known-1.given in by)) ((let peer-acked-read : read_at u32 (c.args.row.now) (c.args.at) ≡ takes c.peer_acked-1.given.0.0 c.peer_acked-1.given.0.1.0 = learn u32_says c.u32_at.ensures c.peer_acked-1.given.1 in peer-acked-read)) (not-past _ _ u32 refl ((let peer-acked-read : read_at u32 (c.args.row.now) (c.args.at) ≡ takes c.peer_acked-1.given.0.0 c.peer_acked-1.given.0.1.0 = learn u32_says c.u32_at.ensures c.peer_acked-1.given.1 in peer-acked-read))) in peer-acked-next), (let peer-read-next : c.peer_read-1.given.0.1.0 ≡ ((field-yes (start).so ((let peer-acked-took : Took u32 (c.args.row.now) (c.args.at) c.peer_acked-1.given.0.0 c.peer_acked-1.given.0.1.0 = took _ _ u32 (number-lawful 4) ((let by : Bytes (c.args.row.now) = typed (c.args.row.now) c.shared_slice_known-1.given in by)) ((let peer-acked-read : read_at u32 (c.args.row.now) (c.args.at) ≡ takes c.peer_acked-1.given.0.0 c.peer_acked-1.given.0.1.0 = learn u32_says c.u32_at.ensures c.peer_acked-1.given.1 in peer-acked-read)) in peer-acked-took)))).here + length (u32.print c.peer_read-1.given.0.0) = took-next _ _ u32 (number-lawful 4) ((let by : Bytes (c.args.row.now) = typed (c.args.row.now) c.shared_slice_known-1.given in by)) ((let peer-read-read : read_at u32 (c.args.row.now) ((field-yes (start).so ((let peer-acked-took : Took u32 (c.args.row.now) (c.args.at) c.peer_acked-1.given.0.0 c.peer_acked-1.given.0.1.0 = took _ _ u32 (number-lawful 4) ((let by : Bytes (c.args.row.now) = typed (c.args.row.now) c.shared_slice_known-1.given in by)) ((let peer-acked-read : read_at u32 (c.args.row.now) (c.args.at) ≡ takes c.peer_acked-1.given.0.0 c.peer_acked-1.given.0.1.0 = learn u32_says c.u32_at.ensures c.peer_acked-1.given.1 in peer-acked-read)) in peer-acked-took)))).here ≡ takes c.peer_read-1.given.0.0 c.peer_read-1.given.0.1.0 = learn u32_says c.u32_at-2.ensures c.peer_read-1.given.1 in peer-read-read)) ((let peer-acked-took : Took u32 (c.args.row.now) (c.args.at) c.peer_acked-1.given.0.0 c.peer_acked-1.given.0.1.0 = took _ _ u32 (number-lawful 4) ((let by : Bytes (c.args.row.now) = typed (c.args.row.now) c.shared_slice_known-1.given in by)) ((let peer-acked-read : read_at u32 (c.args.row.now) (c.args.at) ≡ takes c.peer_acked-1.given.0.0 c.peer_acked-1.given.0.1.0 = learn u32_says c.u32_at.ensures c.peer_acked-1.given.1 in peer-acked-read)) in peer-acked-took)).inside in peer-read-next), (let read-marked-next : c.read_marked-1.given.0.1.0 ≡ ((field-yes ((field-yes (start).so ((let peer-acked-took : Took u32 (c.args.row.now) (c.args.at) c.peer_acked-1.given.0.0 c.peer_acked-1.given.0.1.0 = took _ _ u32 (number-lawful 4) ((let by : Bytes (c.args.row.now) = typed (c.args.row.now) c.shared_slice_known-1.given in by)) ((let peer-acked-read : read_at u32 (c.args.row.now) (c.args.at) ≡ takes c.peer_acked-1.given.0.0 c.peer_acked-1.given.0.1.0 = learn u32_says c.u32_at.ensures c.peer_acked-1.given.1 in peer-acked-read)) in peer-acked-took)))).so ((let peer-read-took : Took u32 (c.args.row.now) ((field-yes (start).so ((let peer-acked-took : Took u32 (c.args.row.now) (c.args.at) c.peer_acked-1.given.0.0 c.peer_acked-1.given.0.1.0 = took _ _ u32 (number-lawful 4) ((let by : Bytes (c.args.row.now) = typed (c.args.row.now) c.shared_slice_known-1.given in by)) ((let peer-acked-read : read_at u32 (c.args.row.now) (c.args.at) ≡ takes c.peer_acked-1.given.0.0 c.peer_acked-1.given.0.1.0 = learn u32_says c.u32_at.ensures c.peer_acked-1.given.1 in peer-acked-read)) in peer-acked-took)))).here c.peer_read-1.given.0.0 c.peer_read-1.given.0.1.0 = took _ _ u32 (number-lawful 4) ((let by : Bytes (c.args.row.now) = typed (c.args.row.now) c.shared_slice_known-1.given in by)) ((let peer-read-read : read_at u32 (c.args.row.now) ((field-yes (start).so ((let peer-acked-took : Took u32 (c.args.row.now) (c.args.at) c.peer_acked-1.given.0.0 c.peer_acked-1.given.0.1.0 = took _ _ u32 (number-lawful 4) ((let by : Bytes (c.args.row.now) = typed (c.args.row.now) c.shared_slice_known-1.given in by)) ((let peer-acked-read : read_at u32 (c.args.row.now) (c.args.at) ≡ takes c.peer_acked-1.given.0.0 c.peer_acked-1.given.0.1.0 = learn u32_says c.u32_at.ensures c.peer_acked-1.given.1 in peer-acked-read)) in peer-acked-took)))).here ≡ takes c.peer_read-1.given.0.0 c.peer_read-1.given.0.1.0 = learn u32_says c.u32_at-2.ensures c.peer_read-1.given.1 in peer-read-read)) in peer-read-took)))).here + length (u32.print c.read_marked-1.given.0.0) = took-next _ _ u32 (number-lawful 4) ((let by : Bytes (c.args.row.now) = typed (c.args.row.now) c.shared_slice_known-1.given in by)) ((let read-marked-read : read_at u32 (c.args.row.now) ((field-yes ((field-yes (start).so ((let peer-acked-took : Took u32 (c.args.row.now) (c.args.at) c.peer_acked-1.given.0.0 c.peer_acked-1.given.0.1.0 = took _ _ u32 (number-lawful 4) ((let by : Bytes (c.args.row.now) = typed (c.args.row.now) c.shared_slice_known-1.given in by)) ((let peer-acked-read : read_at u32 (c.args.row.now) (c.args.at) ≡ takes c.peer_acked-1.given.0.0 c.peer_acked-1.given.0.1.0 = learn u32_says c.u32_at.ensures c.peer_acked-1.given.1 in peer-acked-read)) in peer-acked-took)))).so ((let peer-read-took : Took u32 (c.args.row.now) ((field-yes (start).so ((let peer-acked-took : Took u32 (c.args.row.now) (c.args.at) c.peer_acked-1.given.0.0 c.peer_acked-1.given.0.1.0 = took _ _ u32 (number-lawful 4) ((let by : Bytes (c.args.row.now) = typed (c.args.row.now) c.shared_slice_known-1.given in by)) ((let peer-acked-read : read_at u32 (c.args.row.now) (c.args.at) ≡ takes c.peer_acked-1.given.0.0 c.peer_acked-1.given.0.1.0 = learn u32_says c.u32_at.ensures c.peer_acked-1.given.1 in peer-acked-read)) in peer-acked-took)))).here c.peer_read-1.given.0.0 c.peer_read-1.given.0.1.0 = took _ _ u32 (number-lawful 4) ((let by : Bytes (c.args.row.now) = typed (c.args.row.now) c.shared_slice_known-1.given in by)) ((let peer-read-read : read_at u32 (c.args.row.now) ((field-yes (start).so ((let peer-acked-took : Took u32 (c.args.row.now) (c.args.at) c.peer_acked-1.given.0.0 c.peer_acked-1.given.0.1.0 = took _ _ u32 (number-lawful 4) ((let by : Bytes (c.args.row.now) = typed (c.args.row.now) c.shared_slice_known-1.given in by)) ((let peer-acked-read : read_at u32 (c.args.row.now) (c.args.at) ≡ takes c.peer_acked-1.given.0.0 c.peer_acked-1.given.0.1.0 = learn u32_says c.u32_at.ensures c.peer_acked-1.given.1 in peer-acked-read)) in peer-acked-took)))).here ≡ takes c.peer_read-1.given.0.0 c.peer_read-1.given.0.1.0 = learn u32_says c.u32_at-2.ensures c.peer_read-1.given.1 in peer-read-read)) in peer-read-took)))).here ≡ takes c.read_marked-1.given.0.0 c.read_marked-1.given.0.1.0 = learn u32_says c.u32_at-3.ensures c.read_marked-1.given.1 in read-marked-read)) ((let peer-read-took : Took u32 (c.args.row.now) ((field-yes (start).so ((let peer-acked-took : Took u32 (c.args.row.now) (c.args.at) c.peer_acked-1.given.0.0 c.peer_acked-1.given.0.1.0 = took _ _ u32 (number-lawful 4) ((let by : Bytes (c.args.row.now) = typed (c.args.row.now) c.shared_slice_known-1.given in by)) ((let peer-acked-read : read_at u32 (c.args.row.now) (c.args.at) ≡ takes c.peer_acked-1.given.0.0 c.peer_acked-1.given.0.1.0 = learn u32_says c.u32_at.ensures c.peer_acked-1.given.1 in peer-acked-read)) in peer-acked-took)))).here c.peer_read-1.given.0.0 c.peer_read-1.given.0.1.0 = took _ _ u32 (number-lawful 4) ((let by : Bytes (c.args.row.now) = typed (c.args.row.now) c.shared_slice_known-1.given in by)) ((let peer-read-read : read_at u32 (c.args.row.now) ((field-yes (start).so ((let peer-acked-took : Took u32 (c.args.row.now) (c.args.at) c.peer_acked-1.given.0.0 c.peer_acked-1.given.0.1.0 = took _ _ u32 (number-lawful 4) ((let by : Bytes (c.args.row.now) = typed (c.args.row.now) c.shared_slice_known-1.given in by)) ((let peer-acked-read : read_at u32 (c.args.row.now) (c.args.at) ≡ takes c.peer_acked-1.given.0.0 c.peer_acked-1.given.0.1.0 = learn u32_says c.u32_at.ensures c.peer_acked-1.given.1 in peer-acked-read)) in peer-acked-took)))).here ≡ takes c.peer_read-1.given.0.0 c.peer_read-1.given.0.1.0 = learn u32_says c.u32_at-2.ensures c.peer_read-1.given.1 in peer-read-read)) in peer-read-took)).inside in read-marked-next), (let contiguous-next : c.contiguous-1.given.0.1.0 ≡ ((field-yes ((field-yes ((field-yes (start).so ((let peer-acked-took : Took u32 (c.args.row.now) (c.args.at) c.peer_acked-1.given.0.0 c.peer_acked-1.given.0.1.0 = took _ _ u32 (number-lawful 4) ((let by : Bytes (c.args.row.now) = typed (c.args.row.now) c.shared_slice_known-1.given in by)) ((let peer-acked-read : read_at u32 (c.args.row.now) (c.args.at) ≡ takes c.peer_acked-1.given.0.0 c.peer_acked-1.given.0.1.0 = learn u32_says c.u32_at.ensures c.peer_acked-1.given.1 in peer-acked-read)) in peer-acked-took)))).so ((let peer-read-took : Took u32 (c.args.row.now) ((field-yes (start).so ((let peer-acked-took : Took u32 (c.args.row.now) (c.args.at) c.peer_acked-1.given.0.0 c.peer_acked-1.given.0.1.0 = took _ _ u32 (number-lawful 4) ((let by : Bytes (c.args.row.now) = typed (c.args.row.now) c.shared_slice_known-1.given in by)) ((let peer-acked-read : read_at u32 (c.args.row.now) (c.args.at) ≡ takes c.peer_acked-1.given.0.0 c.peer_acked-1.given.0.1.0 = learn u32_says c.u32_at.ensures c.peer_acked-1.given.1 in peer-acked-read)) in peer-acked-took)))).here c.peer_read-1.given.0.0 c.peer_read-1.given.0.1.0 = took _ _ u32 (number-lawful 4) ((let by : Bytes (c.args.row.now) = typed (c.args.row.now) c.shared_slice_known-1.given in by)) ((let peer-read-read : read_at u32 (c.args.row.now) ((field-yes (start).so ((let peer-acked-took : Took u32 (c.args.row.now) (c.args.at) c.peer_acked-1.given.0.0 c.peer_acked-1.given.0.1.0 = took _ _ u32 (number-lawful 4) ((let by : Bytes (c.args.row.now) = typed (c.args.row.now) c.shared_slice_known-1.given in by)) ((let peer-acked-read : read_at u32 (c.args.row.now) (c.args.at) ≡ takes c.peer_acked-1.given.0.0 c.peer_acked-1.given.0.1.0 = learn u32_says c.u32_at.ensures c.peer_acked-1.given.1 in peer-acked-read)) in peer-acked-took)))).here ≡ takes c.peer_read-1.given.0.0 c.peer_read-1.given.0.1.0 = learn u32_says c.u32_at-2.ensures c.peer_read-1.given.1 in peer-read-read)) in peer-read-took)))).so ((let read-marked-took : Took u32 (c.args.row.now) ((field-yes ((field-yes (start).so ((let peer-acked-took : Took u32 (c.args.row.now) (c.args.at) c.peer_acked-1.given.0.0 c.peer_acked-1.given.0.1.0 = took _ _ u32 (number-lawful 4) ((let by : Bytes (c.args.row.now) = typed (c.args.row.now) c.shared_slice_known-1.given in by)) ((let peer-acked-read : read_at u32 (c.args.row.now) (c.args.at) ≡ takes c.peer_acked-1.given.0.0 c.peer_acked-1.given.0.1.0 = learn u32_says c.u32_at.ensures c.peer_acked-1.given.1 in peer-acked-read)) in peer-acked-took)))).so ((let peer-read-took : Took u32 (c.args.row.now) ((field-yes (start).so ((let peer-acked-took : Took u32 (c.args.row.now) (c.args.at) c.peer_acked-1.given.0.0 c.peer_acked-1.given.0.1.0 = took _ _ u32 (number-lawful 4) ((let by : Bytes (c.args.row.now) = typed (c.args.row.now) c.shared_slice_known-1.given in by)) ((let peer-acked-read : read_at u32 (c.args.row.now) (c.args.at) ≡ takes c.peer_acked-1.given.0.0 c.peer_acked-1.given.0.1.0 = learn u32_says c.u32_at.ensures c.peer_acked-1.given.1 in peer-acked-read)) in peer-acked-took)))).here c.peer_read-1.given.0.0 c.peer_read-1.given.0.1.0 = took _ _ u32 (number-lawful 4) ((let by : Bytes (c.args.row.now) = typed (c.args.row.now) c.shared_slice_known-1.given in by)) ((let peer-read-read : read_at u32 (c.args.row.now) ((field-yes (start).so ((let peer-acked-took : Took u32 (c.args.row.now) (c.args.at) c.peer_acked-1.given.0.0 c.peer_acked-1.given.0.1.0 = took _ _ u32 (number-lawful 4) ((let by : Bytes (c.args.row.now) = typed (c.args.row.now) c.shared_slice_known-1.given in by)) ((let peer-acked-read : read_at u32 (c.args.row.now) (c.args.at) ≡ takes c.peer_acked-1.given.0.0 c.peer_acked-1.given.0.1.0 = learn u32_says c.u32_at.ensures c.peer_acked-1.given.1 in peer-acked-read)) in peer-acked-took)))).here ≡ takes c.peer_read-1.given.0.0 c.peer_read-1.given.0.1.0 = learn u32_says c.u32_at-2.ensures c.peer_read-1.given.1 in peer-read-read)) in peer-read-took)))).here c.read_marked-1.given.0.0 c.read_marked-1.given.0.1.0 = took _ _ u32 (number-lawful 4) ((let by : Bytes (c.args.row.now) = typed (c.args.row.now) c.shared_slice_known-1.given in by)) ((let read-marked-read : read_at u32 (c.args.row.now) ((field-yes ((field-yes (start).so ((let peer-acked-took : Took u32 (c.args.row.now) (c.args.at) c.peer_acked-1.given.0.0 c.peer_acked-1.given.0.1.0 = took _ _ u32 (number-lawful 4) ((let by : Bytes (c.args.row.now) = typed (c.args.row.now) c.shared_slice_known-1.given in by)) ((let peer-acked-read : read_at u32 (c.args.row.now) (c.args.at) ≡ takes c.peer_acked-1.given.0.0 c.peer_acked-1.given.0.1.0 = learn u32_says c.u32_at.ensures c.peer_acked-1.given.1 in peer-acked-read)) in peer-acked-took)))).so ((let peer-read-took : Took u32 (c.args.row.now) ((field-yes (start).so ((let peer-acked-took : Took u32 (c.args.row.now) (c.args.at) c.peer_acked-1.given.0.0 c.peer_acked-1.given.0.1.0 = took _ _ u32 (number-lawful 4) ((let by : Bytes (c.args.row.now) = typed (c.args.row.now) c.shared_slice_known-1.given in by)) ((let peer-acked-read : read_at u32 (c.args.row.now) (c.args.at) ≡ takes c.peer_acked-1.given.0.0 c.peer_acked-1.given.0.1.0 = learn u32_says c.u32_at.ensures c.peer_acked-1.given.1 in peer-acked-read)) in peer-acked-took)))).here c.peer_read-1.given.0.0 c.peer_read-1.given.0.1.0 = took _ _ u32 (number-lawful 4) ((let by : Bytes (c.args.row.now) = typed (c.args.row.now) c.shared_slice_known-1.given in by)) ((let peer-read-read : read_at u32 (c.args.row.now) ((field-yes (start).so ((let peer-acked-took : Took u32 (c.args.row.now) (c.args.at) c.peer_acked-1.given.0.0 c.peer_acked-1.given.0.1.0 = took _ _ u32 (number-lawful 4) ((let by : Bytes (c.args.row.now) = typed (c.args.row.now) c.shared_slice_known-1.given in by)) ((let peer-acked-read : read_at u32 (c.args.row.now) (c.args.at) ≡ takes c.peer_acked-1.given.0.0 c.peer_acked-1.given.0.1.0 = learn u32_says c.u32_at.ensures c.peer_acked-1.given.1 in peer-acked-read)) in peer-acked-took)))).here ≡ takes c.peer_read-1.given.0.0 c.peer_read-1.given.0.1.0 = learn u32_says c.u32_at-2.ensures c.peer_read-1.given.1 in peer-read-read)) in peer-read-took)))).here ≡ takes c.read_marked-1.given.0.0 c.read_marked-1.given.0.1.0 = learn u32_says c.u32_at-3.ensures c.read_marked-1.given.1 in read-marked-read)) in read-marked-took)))).here + length (u32.print c.contiguous-1.given.0.0) = took-next _ _ u32 (number-lawful 4) ((let by : Bytes (c.args.row.now) = typed (c.args.row.now) c.shared_slice_known-1.given in by)) ((let contiguous-read : read_at u32 (c.args.row.now) ((field-yes ((field-yes ((field-yes (start).so ((let peer-acked-took : Took u32 (c.args.row.now) (c.args.at) c.peer_acked-1.given.0.0 c.peer_acked-1.given.0.1.0 = took _ _ u32 (number-lawful 4) ((let by : Bytes (c.args.row.now) = typed (c.args.row.now) c.shared_slice_known-1.given in by)) ((let peer-acked-read : read_at u32 (c.args.row.now) (c.args.at) ≡ takes c.peer_acked-1.given.0.0 c.peer_acked-1.given.0.1.0 = learn u32_says c.u32_at.ensures c.peer_acked-1.given.1 in peer-acked-read)) in peer-acked-took)))).so ((let peer-read-took : Took u32 (c.args.row.now) ((field-yes (start).so ((let peer-acked-took : Took u32 (c.args.row.now) (c.args.at) c.peer_acked-1.given.0.0 c.peer_acked-1.given.0.1.0 = took _ _ u32 (number-lawful 4) ((let by : Bytes (c.args.row.now) = typed (c.args.row.now) c.shared_slice_known-1.given in by)) ((let peer-acked-read : read_at u32 (c.args.row.now) (c.args.at) ≡ takes c.peer_acked-1.given.0.0 c.peer_acked-1.given.0.1.0 = learn u32_says c.u32_at.ensures c.peer_acked-1.given.1 in peer-acked-read)) in peer-acked-took)))).here c.peer_read-1.given.0.0 c.peer_read-1.given.0.1.0 = took _ _ u32 (number-lawful 4) ((let by : Bytes (c.args.row.now) = typed (c.args.row.now) c.shared_slice_known-1.given in by)) ((let peer-read-read : read_at u32 (c.args.row.now) ((field-yes (start).so ((let peer-acked-took : Took u32 (c.args.row.now) (c.args.at) c.peer_acked-1.given.0.0 c.peer_acked-1.given.0.1.0 = took _ _ u32 (number-lawful 4) ((let by : Bytes (c.args.row.now) = typed (c.args.row.now) c.shared_slice_known-1.given in by)) ((let peer-acked-read : read_at u32 (c.args.row.now) (c.args.at) ≡ takes c.peer_acked-1.given.0.0 c.peer_acked-1.given.0.1.0 = learn u32_says c.u32_at.ensures c.peer_acked-1.given.1 in peer-acked-read)) in peer-acked-took)))).here ≡ takes c.peer_read-1.given.0.0 c.peer_read-1.given.0.1.0 = learn u32_says c.u32_at-2.ensures c.peer_read-1.given.1 in peer-read-read)) in peer-read-took)))).so ((let read-marked-took : Took u32 (c.args.row.now) ((field-yes ((field-yes (start).so ((let peer-acked-took : Took u32 (c.args.row.now) (c.args.at) c.peer_acked-1.given.0.0 c.peer_acked-1.given.0.1.0 = took _ _ u32 (number-lawful 4) ((let by : Bytes (c.args.row.now) = typed (c.args.row.now) c.shared_slice_known-1.given in by)) ((let peer-acked-read : read_at u32 (c.args.row.now) (c.args.at) ≡ takes c.peer_acked-1.given.0.0 c.peer_acked-1.given.0.1.0 = learn u32_says c.u32_at.ensures c.peer_acked-1.given.1 in peer-acked-read)) in peer-acked-took)))).so ((let peer-read-took : Took u32 (c.args.row.now) ((field-yes (start).so ((let peer-acked-took : Took u32 (c.args.row.now) (c.args.at) c.peer_acked-1.given.0.0 c.peer_acked-1.given.0.1.0 = took _ _ u32 (number-lawful 4) ((let by : Bytes (c.args.row.now) = typed (c.args.row.now) c.shared_slice_known-1.given in by)) ((let peer-acked-read : read_at u32 (c.args.row.now) (c.args.at) ≡ takes c.peer_acked-1.given.0.0 c.peer_acked-1.given.0.1.0 = learn u32_says c.u32_at.ensures c.peer_acked-1.given.1 in peer-acked-read)) in peer-acked-took)))).here c.peer_read-1.given.0.0 c.peer_read-1.given.0.1.0 = took _ _ u32 (number-lawful 4) ((let by : Bytes (c.args.row.now) = typed (c.args.row.now) c.shared_slice_known-1.given in by)) ((let peer-read-read : read_at u32 (c.args.row.now) ((field-yes (start).so ((let peer-acked-took : Took u32 (c.args.row.now) (c.args.at) c.peer_acked-1.given.0.0 c.peer_acked-1.given.0.1.0 = took _ _ u32 (number-lawful 4) ((let by : Bytes (c.args.row.now) = typed (c.args.row.now) c.shared_slice_known-1.given in by)) ((let peer-acked-read : read_at u32 (c.args.row.now) (c.args.at) ≡ takes c.peer_acked-1.given.0.0 c.peer_acked-1.given.0.1.0 = learn u32_says c.u32_at.ensures c.peer_acked-1.given.1 in peer-acked-read)) in peer-acked-took)))).here ≡ takes c.peer_read-1.given.0.0 c.peer_read-1.given.0.1.0 = learn u32_says c.u32_at-2.ensures c.peer_read-1.given.1 in peer-read-read)) in peer-read-took)))).here c.read_marked-1.given.0.0 c.read_marked-1.given.0.1.0 = took _ _ u32 (number-lawful 4) ((let by : Bytes (c.args.row.now) = typed (c.args.row.now) c.shared_slice_known-1.given in by)) ((let read-marked-read : read_at u32 (c.args.row.now) ((field-yes ((field-yes (start).so ((let peer-acked-took : Took u32 (c.args.row.now) (c.args.at) c.peer_acked-1.given.0.0 c.peer_acked-1.given.0.1.0 = took _ _ u32 (number-lawful 4) ((let by : Bytes (c.args.row.now) = typed (c.args.row.now) c.shared_slice_known-1.given in by)) ((let peer-acked-read : read_at u32 (c.args.row.now) (c.args.at) ≡ takes c.peer_acked-1.given.0.0 c.peer_acked-1.given.0.1.0 = learn u32_says c.u32_at.ensures c.peer_acked-1.given.1 in peer-acked-read)) in peer-acked-took)))).so ((let peer-read-took : Took u32 (c.args.row.now) ((field-yes (start).so ((let peer-acked-took : Took u32 (c.args.row.now) (c.args.at) c.peer_acked-1.given.0.0 c.peer_acked-1.given.0.1.0 = took _ _ u32 (number-lawful 4) ((let by : Bytes (c.args.row.now) = typed (c.args.row.now) c.shared_slice_known-1.given in by)) ((let peer-acked-read : read_at u32 (c.args.row.now) (c.args.at) ≡ takes c.peer_acked-1.given.0.0 c.peer_acked-1.given.0.1.0 = learn u32_says c.u32_at.ensures c.peer_acked-1.given.1 in peer-acked-read)) in peer-acked-took)))).here c.peer_read-1.given.0.0 c.peer_read-1.given.0.1.0 = took _ _ u32 (number-lawful 4) ((let by : Bytes (c.args.row.now) = typed (c.args.row.now) c.shared_slice_known-1.given in by)) ((let peer-read-read : read_at u32 (c.args.row.now) ((field-yes (start).so ((let peer-acked-took : Took u32 (c.args.row.now) (c.args.at) c.peer_acked-1.given.0.0 c.peer_acked-1.given.0.1.0 = took _ _ u32 (number-lawful 4) ((let by : Bytes (c.args.row.now) = typed (c.args.row.now) c.shared_slice_known-1.given in by)) ((let peer-acked-read : read_at u32 (c.args.row.now) (c.args.at) ≡ takes c.peer_acked-1.given.0.0 c.peer_acked-1.given.0.1.0 = learn u32_says c.u32_at.ensures c.peer_acked-1.given.1 in peer-acked-read)) in peer-acked-took)))).here ≡ takes c.peer_read-1.given.0.0 c.peer_read-1.given.0.1.0 = learn u32_says c.u32_at-2.ensures c.peer_read-1.given.1 in peer-read-read)) in peer-read-took)))).here ≡ takes c.read_marked-1.given.0.0 c.read_marked-1.given.0.1.0 = learn u32_says c.u32_at-3.ensures c.read_marked-1.given.1 in read-marked-read)) in read-marked-took)))).here ≡ takes c.contiguous-1.given.0.0 c.contiguous-1.given.0.1.0 = learn u32_says c.u32_at-4.ensures c.contiguous-1.given.1 in contiguous-read)) ((let read-marked-took : Took u32 (c.args.row.now) ((field-yes ((field-yes (start).so ((let peer-acked-took : Took u32 (c.args.row.now) (c.args.at) c.peer_acked-1.given.0.0 c.peer_acked-1.given.0.1.0 = took _ _ u32 (number-lawful 4) ((let by : Bytes (c.args.row.now) = typed (c.args.row.now) c.shared_slice_known-1.given in by)) ((let peer-acked-read : read_at u32 (c.args.row.now) (c.args.at) ≡ takes c.peer_acked-1.given.0.0 c.peer_acked-1.given.0.1.0 = learn u32_says c.u32_at.ensures c.peer_acked-1.given.1 in peer-acked-read)) in peer-acked-took)))).so ((let peer-read-took : Took u32 (c.args.row.now) ((field-yes (start).so ((let peer-acked-took : Took u32 (c.args.row.now) (c.args.at) c.peer_acked-1.given.0.0 c.peer_acked-1.given.0.1.0 = took _ _ u32 (number-lawful 4) ((let by : Bytes (c.args.row.now) = typed (c.args.row.now) c.shared_slice_known-1.given in by)) ((let peer-acked-read : read_at u32 (c.args.row.now) (c.args.at) ≡ takes c.peer_acked-1.given.0.0 c.peer_acked-1.given.0.1.0 = learn u32_says c.u32_at.ensures c.peer_acked-1.given.1 in peer-acked-read)) in peer-acked-took)))).here c.peer_read-1.given.0.0 c.peer_read-1.given.0.1.0 = took _ _ u32 (number-lawful 4) ((let by : Bytes (c.args.row.now) = typed (c.args.row.now) c.shared_slice_known-1.given in by)) ((let peer-read-read : read_at u32 (c.args.row.now) ((field-yes (start).so ((let peer-acked-took : Took u32 (c.args.row.now) (c.args.at) c.peer_acked-1.given.0.0 c.peer_acked-1.given.0.1.0 = took _ _ u32 (number-lawful 4) ((let by : Bytes (c.args.row.now) = typed (c.args.row.now) c.shared_slice_known-1.given in by)) ((let peer-acked-read : read_at u32 (c.args.row.now) (c.args.at) ≡ takes c.peer_acked-1.given.0.0 c.peer_acked-1.given.0.1.0 = learn u32_says c.u32_at.ensures c.peer_acked-1.given.1 in peer-acked-read)) in peer-acked-took)))).here ≡ takes c.peer_read-1.given.0.0 c.peer_read-1.given.0.1.0 = learn u32_says c.u32_at-2.ensures c.peer_read-1.given.1 in peer-read-read)) in peer-read-took)))).here c.read_marked-1.given.0.0 c.read_marked-1.given.0.1.0 = took _ _ u32 (number-lawful 4) ((let by : Bytes (c.args.row.now) = typed (c.args.row.now) c.shared_slice_known-1.given in by)) ((let read-marked-read : read_at u32 (c.args.row.now) ((field-yes ((field-yes (start).so ((let peer-acked-took : Took u32 (c.args.row.now) (c.args.at) c.peer_acked-1.given.0.0 c.peer_acked-1.given.0.1.0 = took _ _ u32 (number-lawful 4) ((let by : Bytes (c.args.row.now) = typed (c.args.row.now) c.shared_slice_known-1.given in by)) ((let peer-acked-read : read_at u32 (c.args.row.now) (c.args.at) ≡ takes c.peer_acked-1.given.0.0 c.peer_acked-1.given.0.1.0 = learn u32_says c.u32_at.ensures c.peer_acked-1.given.1 in peer-acked-read)) in peer-acked-took)))).so ((let peer-read-took : Took u32 (c.args.row.now) ((field-yes (start).so ((let peer-acked-took : Took u32 (c.args.row.now) (c.args.at) c.peer_acked-1.given.0.0 c.peer_acked-1.given.0.1.0 = took _ _ u32 (number-lawful 4) ((let by : Bytes (c.args.row.now) = typed (c.args.row.now) c.shared_slice_known-1.given in by)) ((let peer-acked-read : read_at u32 (c.args.row.now) (c.args.at) ≡ takes c.peer_acked-1.given.0.0 c.peer_acked-1.given.0.1.0 = learn u32_says c.u32_at.ensures c.peer_acked-1.given.1 in peer-acked-read)) in peer-acked-took)))).here c.peer_read-1.given.0.0 c.peer_read-1.given.0.1.0 = took _ _ u32 (number-lawful 4) ((let by : Bytes (c.args.row.now) = typed (c.args.row.now) c.shared_slice_known-1.given in by)) ((let peer-read-read : read_at u32 (c.args.row.now) ((field-yes (start).so ((let peer-acked-took : Took u32 (c.args.row.now) (c.args.at) c.peer_acked-1.given.0.0 c.peer_acked-1.given.0.1.0 = took _ _ u32 (number-lawful 4) ((let by : Bytes (c.args.row.now) = typed (c.args.row.now) c.shared_slice_known-1.given in by)) ((let peer-acked-read : read_at u32 (c.args.row.now) (c.args.at) ≡ takes c.peer_acked-1.given.0.0 c.peer_acked-1.given.0.1.0 = learn u32_says c.u32_at.ensures c.peer_acked-1.given.1 in peer-acked-read)) in peer-acked-took)))).here ≡ takes c.peer_read-1.given.0.0 c.peer_read-1.given.0.1.0 = learn u32_says c.u32_at-2.ensures c.peer_read-1.given.1 in peer-read-read)) in peer-read-took)))).here ≡ takes c.read_marked-1.given.0.0 c.read_marked-1.given.0.1.0 = learn u32_says c.u32_at-3.ensures c.read_marked-1.given.1 in read-marked-read)) in read-marked-took)).inside in contiguous-next), (let above-next : c.above_field-1.given.0.0.next ≡ ((field-yes ((field-yes ((field-yes ((field-yes (start).so ((let peer-acked-took : Took u32 (c.args.row.now) (c.args.at) c.peer_acked-1.given.0.0 c.peer_acked-1.given.0.1.0 = took _ _ u32 (number-lawful 4) ((let by : Bytes (c.args.row.now) = typed (c.args.row.now) c.shared_slice_known-1.given in by)) ((let peer-acked-read : read_at u32 (c.args.row.now) (c.args.at) ≡ takes c.peer_acked-1.given.0.0 c.peer_acked-1.given.0.1.0 = learn u32_says c.u32_at.ensures c.peer_acked-1.given.1 in peer-acked-read)) in peer-acked-took)))).so ((let peer-read-took : Took u32 (c.args.row.now) ((field-yes (start).so ((let peer-acked-took : Took u32 (c.args.row.now) (c.args.at) c.peer_acked-1.given.0.0 c.peer_acked-1.given.0.1.0 = took _ _ u32 (number-lawful 4) ((let by : Bytes (c.args.row.now) = typed (c.args.row.now) c.shared_slice_known-1.given in by)) ((let peer-acked-read : read_at u32 (c.args.row.now) (c.args.at) ≡ takes c.peer_acked-1.given.0.0 c.peer_acked-1.given.0.1.0 = learn u32_says c.u32_at.ensures c.peer_acked-1.given.1 in peer-acked-read)) in peer-acked-took)))).here c.peer_read-1.given.0.0 c.peer_read-1.given.0.1.0 = took _ _ u32 (number-lawful 4) ((let by : Bytes (c.args.row.now) = typed (c.args.row.now) c.shared_slice_known-1.given in by)) ((let peer-read-read : read_at u32 (c.args.row.now) ((field-yes (start).so ((let peer-acked-took : Took u32 (c.args.row.now) (c.args.at) c.peer_acked-1.given.0.0 c.peer_acked-1.given.0.1.0 = took _ _ u32 (number-lawful 4) ((let by : Bytes (c.args.row.now) = typed (c.args.row.now) c.shared_slice_known-1.given in by)) ((let peer-acked-read : read_at u32 (c.args.row.now) (c.args.at) ≡ takes c.peer_acked-1.given.0.0 c.peer_acked-1.given.0.1.0 = learn u32_says c.u32_at.ensures c.peer_acked-1.given.1 in peer-acked-read)) in peer-acked-took)))).here ≡ takes c.peer_read-1.given.0.0 c.peer_read-1.given.0.1.0 = learn u32_says c.u32_at-2.ensures c.peer_read-1.given.1 in peer-read-read)) in peer-read-took)))).so ((let read-marked-took : Took u32 (c.args.row.now) ((field-yes ((field-yes (start).so ((let peer-acked-took : Took u32 (c.args.row.now) (c.args.at) c.peer_acked-1.given.0.0 c.peer_acked-1.given.0.1.0 = took _ _ u32 (number-lawful 4) ((let by : Bytes (c.args.row.now) = typed (c.args.row.now) c.shared_slice_known-1.given in by)) ((let peer-acked-read : read_at u32 (c.args.row.now) (c.args.at) ≡ takes c.peer_acked-1.given.0.0 c.peer_acked-1.given.0.1.0 = learn u32_says c.u32_at.ensures c.peer_acked-1.given.1 in peer-acked-read)) in peer-acked-took)))).so ((let peer-read-took : Took u32 (c.args.row.now) ((field-yes (start).so ((let peer-acked-took : Took u32 (c.args.row.now) (c.args.at) c.peer_acked-1.given.0.0 c.peer_acked-1.given.0.1.0 = took _ _ u32 (number-lawful 4) ((let by : Bytes (c.args.row.now) = typed (c.args.row.now) c.shared_slice_known-1.given in by)) ((let peer-acked-read : read_at u32 (c.args.row.now) (c.args.at) ≡ takes c.peer_acked-1.given.0.0 c.peer_acked-1.given.0.1.0 = learn u32_says c.u32_at.ensures c.peer_acked-1.given.1 in peer-acked-read)) in peer-acked-took)))).here c.peer_read-1.given.0.0 c.peer_read-1.given.0.1.0 = took _ _ u32 (number-lawful 4) ((let by : Bytes (c.args.row.now) = typed (c.args.row.now) c.shared_slice_known-1.given in by)) ((let peer-read-read : read_at u32 (c.args.row.now) ((field-yes (start).so ((let peer-acked-took : Took u32 (c.args.row.now) (c.args.at) c.peer_acked-1.given.0.0 c.peer_acked-1.given.0.1.0 = took _ _ u32 (number-lawful 4) ((let by : Bytes (c.args.row.now) = typed (c.args.row.now) c.shared_slice_known-1.given in by)) ((let peer-acked-read : read_at u32 (c.args.row.now) (c.args.at) ≡ takes c.peer_acked-1.given.0.0 c.peer_acked-1.given.0.1.0 = learn u32_says c.u32_at.ensures c.peer_acked-1.given.1 in peer-acked-read)) in peer-acked-took)))).here ≡ takes c.peer_read-1.given.0.0 c.peer_read-1.given.0.1.0 = learn u32_says c.u32_at-2.ensures c.peer_read-1.given.1 in peer-read-read)) in peer-read-took)))).here c.read_marked-1.given.0.0 c.read_marked-1.given.0.1.0 = took _ _ u32 (number-lawful 4) ((let by : Bytes (c.args.row.now) = typed (c.args.row.now) c.shared_slice_known-1.given in by)) ((let read-marked-read : read_at u32 (c.args.row.now) ((field-yes ((field-yes (start).so ((let peer-acked-took : Took u32 (c.args.row.now) (c.args.at) c.peer_acked-1.given.0.0 c.peer_acked-1.given.0.1.0 = took _ _ u32 (number-lawful 4) ((let by : Bytes (c.args.row.now) = typed (c.args.row.now) c.shared_slice_known-1.given in by)) ((let peer-acked-read : read_at u32 (c.args.row.now) (c.args.at) ≡ takes c.peer_acked-1.given.0.0 c.peer_acked-1.given.0.1.0 = learn u32_says c.u32_at.ensures c.peer_acked-1.given.1 in peer-acked-read)) in peer-acked-took)))).so ((let peer-read-took : Took u32 (c.args.row.now) ((field-yes (start).so ((let peer-acked-took : Took u32 (c.args.row.now) (c.args.at) c.peer_acked-1.given.0.0 c.peer_acked-1.given.0.1.0 = took _ _ u32 (number-lawful 4) ((let by : Bytes (c.args.row.now) = typed (c.args.row.now) c.shared_slice_known-1.given in by)) ((let peer-acked-read : read_at u32 (c.args.row.now) (c.args.at) ≡ takes c.peer_acked-1.given.0.0 c.peer_acked-1.given.0.1.0 = learn u32_says c.u32_at.ensures c.peer_acked-1.given.1 in peer-acked-read)) in peer-acked-took)))).here c.peer_read-1.given.0.0 c.peer_read-1.given.0.1.0 = took _ _ u32 (number-lawful 4) ((let by : Bytes (c.args.row.now) = typed (c.args.row.now) c.shared_slice_known-1.given in by)) ((let peer-read-read : read_at u32 (c.args.row.now) ((field-yes (start).so ((let peer-acked-took : Took u32 (c.args.row.now) (c.args.at) c.peer_acked-1.given.0.0 c.peer_acked-1.given.0.1.0 = took _ _ u32 (number-lawful 4) ((let by : Bytes (c.args.row.now) = typed (c.args.row.now) c.shared_slice_known-1.given in by)) ((let peer-acked-read : read_at u32 (c.args.row.now) (c.args.at) ≡ takes c.peer_acked-1.given.0.0 c.peer_acked-1.given.0.1.0 = learn u32_says c.u32_at.ensures c.peer_acked-1.given.1 in peer-acked-read)) in peer-acked-took)))).here ≡ takes c.peer_read-1.given.0.0 c.peer_read-1.given.0.1.0 = learn u32_says c.u32_at-2.ensures c.peer_read-1.given.1 in peer-read-read)) in peer-read-took)))).here ≡ takes c.read_marked-1.given.0.0 c.read_marked-1.given.0.1.0 = learn u32_says c.u32_at-3.ensures c.read_marked-1.given.1 in read-marked-read)) in read-marked-took)))).so ((let contiguous-took : Took u32 (c.args.row.now) ((field-yes ((field-yes ((field-yes (start).so ((let peer-acked-took : Took u32 (c.args.row.now) (c.args.at) c.peer_acked-1.given.0.0 c.peer_acked-1.given.0.1.0 = took _ _ u32 (number-lawful 4) ((let by : Bytes (c.args.row.now) = typed (c.args.row.now) c.shared_slice_known-1.given in by)) ((let peer-acked-read : read_at u32 (c.args.row.now) (c.args.at) ≡ takes c.peer_acked-1.given.0.0 c.peer_acked-1.given.0.1.0 = learn u32_says c.u32_at.ensures c.peer_acked-1.given.1 in peer-acked-read)) in peer-acked-took)))).so ((let peer-read-took : Took u32 (c.args.row.now) ((field-yes (start).so ((let peer-acked-took : Took u32 (c.args.row.now) (c.args.at) c.peer_acked-1.given.0.0 c.peer_acked-1.given.0.1.0 = took _ _ u32 (number-lawful 4) ((let by : Bytes (c.args.row.now) = typed (c.args.row.now) c.shared_slice_known-1.given in by)) ((let peer-acked-read : read_at u32 (c.args.row.now) (c.args.at) ≡ takes c.peer_acked-1.given.0.0 c.peer_acked-1.given.0.1.0 = learn u32_says c.u32_at.ensures c.peer_acked-1.given.1 in peer-acked-read)) in peer-acked-took)))).here c.peer_read-1.given.0.0 c.peer_read-1.given.0.1.0 = took _ _ u32 (number-lawful 4) ((let by : Bytes (c.args.row.now) = typed (c.args.row.now) c.shared_slice_known-1.given in by)) ((let peer-read-read : read_at u32 (c.args.row.now) ((field-yes (start).so ((let peer-acked-took : Took u32 (c.args.row.now) (c.args.at) c.peer_acked-1.given.0.0 c.peer_acked-1.given.0.1.0 = took _ _ u32 (number-lawful 4) ((let by : Bytes (c.args.row.now) = typed (c.args.row.now) c.shared_slice_known-1.given in by)) ((let peer-acked-read : read_at u32 (c.args.row.now) (c.args.at) ≡ takes c.peer_acked-1.given.0.0 c.peer_acked-1.given.0.1.0 = learn u32_says c.u32_at.ensures c.peer_acked-1.given.1 in peer-acked-read)) in peer-acked-took)))).here ≡ takes c.peer_read-1.given.0.0 c.peer_read-1.given.0.1.0 = learn u32_says c.u32_at-2.ensures c.peer_read-1.given.1 in peer-read-read)) in peer-read-took)))).so ((let read-marked-took : Took u32 (c.args.row.now) ((field-yes ((field-yes (start).so ((let peer-acked-took : Took u32 (c.args.row.now) (c.args.at) c.peer_acked-1.given.0.0 c.peer_acked-1.given.0.1.0 = took _ _ u32 (number-lawful 4) ((let by : Bytes (c.args.row.now) = typed (c.args.row.now) c.shared_slice_known-1.given in by)) ((let peer-acked-read : read_at u32 (c.args.row.now) (c.args.at) ≡ takes c.peer_acked-1.given.0.0 c.peer_acked-1.given.0.1.0 = learn u32_says c.u32_at.ensures c.peer_acked-1.given.1 in peer-acked-read)) in peer-acked-took)))).so ((let peer-read-took : Took u32 (c.args.row.now) ((field-yes (start).so ((let peer-acked-took : Took u32 (c.args.row.now) (c.args.at) c.peer_acked-1.given.0.0 c.peer_acked-1.given.0.1.0 = took _ _ u32 (number-lawful 4) ((let by : Bytes (c.args.row.now) = typed (c.args.row.now) c.shared_slice_known-1.given in by)) ((let peer-acked-read : read_at u32 (c.args.row.now) (c.args.at) ≡ takes c.peer_acked-1.given.0.0 c.peer_acked-1.given.0.1.0 = learn u32_says c.u32_at.ensures c.peer_acked-1.given.1 in peer-acked-read)) in peer-acked-took)))).here c.peer_read-1.given.0.0 c.peer_read-1.given.0.1.0 = took _ _ u32 (number-lawful 4) ((let by : Bytes (c.args.row.now) = typed (c.args.row.now) c.shared_slice_known-1.given in by)) ((let peer-read-read : read_at u32 (c.args.row.now) ((field-yes (start).so ((let peer-acked-took : Took u32 (c.args.row.now) (c.args.at) c.peer_acked-1.given.0.0 c.peer_acked-1.given.0.1.0 = took _ _ u32 (number-lawful 4) ((let by : Bytes (c.args.row.now) = typed (c.args.row.now) c.shared_slice_known-1.given in by)) ((let peer-acked-read : read_at u32 (c.args.row.now) (c.args.at) ≡ takes c.peer_acked-1.given.0.0 c.peer_acked-1.given.0.1.0 = learn u32_says c.u32_at.ensures c.peer_acked-1.given.1 in peer-acked-read)) in peer-acked-took)))).here ≡ takes c.peer_read-1.given.0.0 c.peer_read-1.given.0.1.0 = learn u32_says c.u32_at-2.ensures c.peer_read-1.given.1 in peer-read-read)) in peer-read-took)))).here c.read_marked-1.given.0.0 c.read_marked-1.given.0.1.0 = took _ _ u32 (number-lawful 4) ((let by : Bytes (c.args.row.now) = typed (c.args.row.now) c.shared_slice_known-1.given in by)) ((let read-marked-read : read_at u32 (c.args.row.now) ((field-yes ((field-yes (start).so ((let peer-acked-took : Took u32 (c.args.row.now) (c.args.at) c.peer_acked-1.given.0.0 c.peer_acked-1.given.0.1.0 = took _ _ u32 (number-lawful 4) ((let by : Bytes (c.args.row.now) = typed (c.args.row.now) c.shared_slice_known-1.given in by)) ((let peer-acked-read : read_at u32 (c.args.row.now) (c.args.at) ≡ takes c.peer_acked-1.given.0.0 c.peer_acked-1.given.0.1.0 = learn u32_says c.u32_at.ensures c.peer_acked-1.given.1 in peer-acked-read)) in peer-acked-took)))).so ((let peer-read-took : Took u32 (c.args.row.now) ((field-yes (start).so ((let peer-acked-took : Took u32 (c.args.row.now) (c.args.at) c.peer_acked-1.given.0.0 c.peer_acked-1.given.0.1.0 = took _ _ u32 (number-lawful 4) ((let by : Bytes (c.args.row.now) = typed (c.args.row.now) c.shared_slice_known-1.given in by)) ((let peer-acked-read : read_at u32 (c.args.row.now) (c.args.at) ≡ takes c.peer_acked-1.given.0.0 c.peer_acked-1.given.0.1.0 = learn u32_says c.u32_at.ensures c.peer_acked-1.given.1 in peer-acked-read)) in peer-acked-took)))).here c.peer_read-1.given.0.0 c.peer_read-1.given.0.1.0 = took _ _ u32 (number-lawful 4) ((let by : Bytes (c.args.row.now) = typed (c.args.row.now) c.shared_slice_known-1.given in by)) ((let peer-read-read : read_at u32 (c.args.row.now) ((field-yes (start).so ((let peer-acked-took : Took u32 (c.args.row.now) (c.args.at) c.peer_acked-1.given.0.0 c.peer_acked-1.given.0.1.0 = took _ _ u32 (number-lawful 4) ((let by : Bytes (c.args.row.now) = typed (c.args.row.now) c.shared_slice_known-1.given in by)) ((let peer-acked-read : read_at u32 (c.args.row.now) (c.args.at) ≡ takes c.peer_acked-1.given.0.0 c.peer_acked-1.given.0.1.0 = learn u32_says c.u32_at.ensures c.peer_acked-1.given.1 in peer-acked-read)) in peer-acked-took)))).here ≡ takes c.peer_read-1.given.0.0 c.peer_read-1.given.0.1.0 = learn u32_says c.u32_at-2.ensures c.peer_read-1.given.1 in peer-read-read)) in peer-read-took)))).here ≡ takes c.read_marked-1.given.0.0 c.read_marked-1.given.0.1.0 = learn u32_says c.u32_at-3.ensures c.read_marked-1.given.1 in read-marked-read)) in read-marked-took)))).here c.contiguous-1.given.0.0 c.contiguous-1.given.0.1.0 = took _ _ u32 (number-lawful 4) ((let by : Bytes (c.args.row.now) = typed (c.args.row.now) c.shared_slice_known-1.given in by)) ((let contiguous-read : read_at u32 (c.args.row.now) ((field-yes ((field-yes ((field-yes (start).so ((let peer-acked-took : Took u32 (c.args.row.now) (c.args.at) c.peer_acked-1.given.0.0 c.peer_acked-1.given.0.1.0 = took _ _ u32 (number-lawful 4) ((let by : Bytes (c.args.row.now) = typed (c.args.row.now) c.shared_slice_known-1.given in by)) ((let peer-acked-read : read_at u32 (c.args.row.now) (c.args.at) ≡ takes c.peer_acked-1.given.0.0 c.peer_acked-1.given.0.1.0 = learn u32_says c.u32_at.ensures c.peer_acked-1.given.1 in peer-acked-read)) in peer-acked-took)))).so ((let peer-read-took : Took u32 (c.args.row.now) ((field-yes (start).so ((let peer-acked-took : Took u32 (c.args.row.now) (c.args.at) c.peer_acked-1.given.0.0 c.peer_acked-1.given.0.1.0 = took _ _ u32 (number-lawful 4) ((let by : Bytes (c.args.row.now) = typed (c.args.row.now) c.shared_slice_known-1.given in by)) ((let peer-acked-read : read_at u32 (c.args.row.now) (c.args.at) ≡ takes c.peer_acked-1.given.0.0 c.peer_acked-1.given.0.1.0 = learn u32_says c.u32_at.ensures c.peer_acked-1.given.1 in peer-acked-read)) in peer-acked-took)))).here c.peer_read-1.given.0.0 c.peer_read-1.given.0.1.0 = took _ _ u32 (number-lawful 4) ((let by : Bytes (c.args.row.now) = typed (c.args.row.now) c.shared_slice_known-1.given in by)) ((let peer-read-read : read_at u32 (c.args.row.now) ((field-yes (start).so ((let peer-acked-took : Took u32 (c.args.row.now) (c.args.at) c.peer_acked-1.given.0.0 c.peer_acked-1.given.0.1.0 = took _ _ u32 (number-lawful 4) ((let by : Bytes (c.args.row.now) = typed (c.args.row.now) c.shared_slice_known-1.given in by)) ((let peer-acked-read : read_at u32 (c.args.row.now) (c.args.at) ≡ takes c.peer_acked-1.given.0.0 c.peer_acked-1.given.0.1.0 = learn u32_says c.u32_at.ensures c.peer_acked-1.given.1 in peer-acked-read)) in peer-acked-took)))).here ≡ takes c.peer_read-1.given.0.0 c.peer_read-1.given.0.1.0 = learn u32_says c.u32_at-2.ensures c.peer_read-1.given.1 in peer-read-read)) in peer-read-took)))).so ((let read-marked-took : Took u32 (c.args.row.now) ((field-yes ((field-yes (start).so ((let peer-acked-took : Took u32 (c.args.row.now) (c.args.at) c.peer_acked-1.given.0.0 c.peer_acked-1.given.0.1.0 = took _ _ u32 (number-lawful 4) ((let by : Bytes (c.args.row.now) = typed (c.args.row.now) c.shared_slice_known-1.given in by)) ((let peer-acked-read : read_at u32 (c.args.row.now) (c.args.at) ≡ takes c.peer_acked-1.given.0.0 c.peer_acked-1.given.0.1.0 = learn u32_says c.u32_at.ensures c.peer_acked-1.given.1 in peer-acked-read)) in peer-acked-took)))).so ((let peer-read-took : Took u32 (c.args.row.now) ((field-yes (start).so ((let peer-acked-took : Took u32 (c.args.row.now) (c.args.at) c.peer_acked-1.given.0.0 c.peer_acked-1.given.0.1.0 = took _ _ u32 (number-lawful 4) ((let by : Bytes (c.args.row.now) = typed (c.args.row.now) c.shared_slice_known-1.given in by)) ((let peer-acked-read : read_at u32 (c.args.row.now) (c.args.at) ≡ takes c.peer_acked-1.given.0.0 c.peer_acked-1.given.0.1.0 = learn u32_says c.u32_at.ensures c.peer_acked-1.given.1 in peer-acked-read)) in peer-acked-took)))).here c.peer_read-1.given.0.0 c.peer_read-1.given.0.1.0 = took _ _ u32 (number-lawful 4) ((let by : Bytes (c.args.row.now) = typed (c.args.row.now) c.shared_slice_known-1.given in by)) ((let peer-read-read : read_at u32 (c.args.row.now) ((field-yes (start).so ((let peer-acked-took : Took u32 (c.args.row.now) (c.args.at) c.peer_acked-1.given.0.0 c.peer_acked-1.given.0.1.0 = took _ _ u32 (number-lawful 4) ((let by : Bytes (c.args.row.now) = typed (c.args.row.now) c.shared_slice_known-1.given in by)) ((let peer-acked-read : read_at u32 (c.args.row.now) (c.args.at) ≡ takes c.peer_acked-1.given.0.0 c.peer_acked-1.given.0.1.0 = learn u32_says c.u32_at.ensures c.peer_acked-1.given.1 in peer-acked-read)) in peer-acked-took)))).here ≡ takes c.peer_read-1.given.0.0 c.peer_read-1.given.0.1.0 = learn u32_says c.u32_at-2.ensures c.peer_read-1.given.1 in peer-read-read)) in peer-read-took)))).here c.read_marked-1.given.0.0 c.read_marked-1.given.0.1.0 = took _ _ u32 (number-lawful 4) ((let by : Bytes (c.args.row.now) = typed (c.args.row.now) c.shared_slice_known-1.given in by)) ((let read-marked-read : read_at u32 (c.args.row.now) ((field-yes ((field-yes (start).so ((let peer-acked-took : Took u32 (c.args.row.now) (c.args.at) c.peer_acked-1.given.0.0 c.peer_acked-1.given.0.1.0 = took _ _ u32 (number-lawful 4) ((let by : Bytes (c.args.row.now) = typed (c.args.row.now) c.shared_slice_known-1.given in by)) ((let peer-acked-read : read_at u32 (c.args.row.now) (c.args.at) ≡ takes c.peer_acked-1.given.0.0 c.peer_acked-1.given.0.1.0 = learn u32_says c.u32_at.ensures c.peer_acked-1.given.1 in peer-acked-read)) in peer-acked-took)))).so ((let peer-read-took : Took u32 (c.args.row.now) ((field-yes (start).so ((let peer-acked-took : Took u32 (c.args.row.now) (c.args.at) c.peer_acked-1.given.0.0 c.peer_acked-1.given.0.1.0 = took _ _ u32 (number-lawful 4) ((let by : Bytes (c.args.row.now) = typed (c.args.row.now) c.shared_slice_known-1.given in by)) ((let peer-acked-read : read_at u32 (c.args.row.now) (c.args.at) ≡ takes c.peer_acked-1.given.0.0 c.peer_acked-1.given.0.1.0 = learn u32_says c.u32_at.ensures c.peer_acked-1.given.1 in peer-acked-read)) in peer-acked-took)))).here c.peer_read-1.given.0.0 c.peer_read-1.given.0.1.0 = took _ _ u32 (number-lawful 4) ((let by : Bytes (c.args.row.now) = typed (c.args.row.now) c.shared_slice_known-1.given in by)) ((let peer-read-read : read_at u32 (c.args.row.now) ((field-yes (start).so ((let peer-acked-took : Took u32 (c.args.row.now) (c.args.at) c.peer_acked-1.given.0.0 c.peer_acked-1.given.0.1.0 = took _ _ u32 (number-lawful 4) ((let by : Bytes (c.args.row.now) = typed (c.args.row.now) c.shared_slice_known-1.given in by)) ((let peer-acked-read : read_at u32 (c.args.row.now) (c.args.at) ≡ takes c.peer_acked-1.given.0.0 c.peer_acked-1.given.0.1.0 = learn u32_says c.u32_at.ensures c.peer_acked-1.given.1 in peer-acked-read)) in peer-acked-took)))).here ≡ takes c.peer_read-1.given.0.0 c.peer_read-1.given.0.1.0 = learn u32_says c.u32_at-2.ensures c.peer_read-1.given.1 in peer-read-read)) in peer-read-took)))).here ≡ takes c.read_marked-1.given.0.0 c.read_marked-1.given.0.1.0 = learn u32_says c.u32_at-3.ensures c.read_marked-1.given.1 in read-marked-read)) in read-marked-took)))).here ≡ takes c.contiguous-1.given.0.0 c.contiguous-1.given.0.1.0 = learn u32_says c.u32_at-4.ensures c.contiguous-1.given.1 in contiguous-read)) in contiguous-took)))).here + length ((list (group range)).print (list_in (group range) (c.args.row.now) c.above_field-1.given.0.0)) = list-next (group range) range-lawful (c.args.row.now) ((let by : Bytes (c.args.row.now) = typed (c.args.row.now) c.shared_slice_known-1.given in by)) _ c.ranges_at-above_field.ensures c.above_field-1.given.1 ((let contiguous-took : Took u32 (c.args.row.now) ((field-yes ((field-yes ((field-yes (start).so ((let peer-acked-took : Took u32 (c.args.row.now) (c.args.at) c.peer_acked-1.given.0.0 c.peer_acked-1.given.0.1.0 = took _ _ u32 (number-lawful 4) ((let by : Bytes (c.args.row.now) = typed (c.args.row.now) c.shared_slice_known-1.given in by)) ((let peer-acked-read : read_at u32 (c.args.row.now) (c.args.at) ≡ takes c.peer_acked-1.given.0.0 c.peer_acked-1.given.0.1.0 = learn u32_says c.u32_at.ensures c.peer_acked-1.given.1 in peer-acked-read)) in peer-acked-took)))).so ((let peer-read-took : Took u32 (c.args.row.now) ((field-yes (start).so ((let peer-acked-took : Took u32 (c.args.row.now) (c.args.at) c.peer_acked-1.given.0.0 c.peer_acked-1.given.0.1.0 = took _ _ u32 (number-lawful 4) ((let by : Bytes (c.args.row.now) = typed (c.args.row.now) c.shared_slice_known-1.given in by)) ((let peer-acked-read : read_at u32 (c.args.row.now) (c.args.at) ≡ takes c.peer_acked-1.given.0.0 c.peer_acked-1.given.0.1.0 = learn u32_says c.u32_at.ensures c.peer_acked-1.given.1 in peer-acked-read)) in peer-acked-took)))).here c.peer_read-1.given.0.0 c.peer_read-1.given.0.1.0 = took _ _ u32 (number-lawful 4) ((let by : Bytes (c.args.row.now) = typed (c.args.row.now) c.shared_slice_known-1.given in by)) ((let peer-read-read : read_at u32 (c.args.row.now) ((field-yes (start).so ((let peer-acked-took : Took u32 (c.args.row.now) (c.args.at) c.peer_acked-1.given.0.0 c.peer_acked-1.given.0.1.0 = took _ _ u32 (number-lawful 4) ((let by : Bytes (c.args.row.now) = typed (c.args.row.now) c.shared_slice_known-1.given in by)) ((let peer-acked-read : read_at u32 (c.args.row.now) (c.args.at) ≡ takes c.peer_acked-1.given.0.0 c.peer_acked-1.given.0.1.0 = learn u32_says c.u32_at.ensures c.peer_acked-1.given.1 in peer-acked-read)) in peer-acked-took)))).here ≡ takes c.peer_read-1.given.0.0 c.peer_read-1.given.0.1.0 = learn u32_says c.u32_at-2.ensures c.peer_read-1.given.1 in peer-read-read)) in peer-read-took)))).so ((let read-marked-took : Took u32 (c.args.row.now) ((field-yes ((field-yes (start).so ((let peer-acked-took : Took u32 (c.args.row.now) (c.args.at) c.peer_acked-1.given.0.0 c.peer_acked-1.given.0.1.0 = took _ _ u32 (number-lawful 4) ((let by : Bytes (c.args.row.now) = typed (c.args.row.now) c.shared_slice_known-1.given in by)) ((let peer-acked-read : read_at u32 (c.args.row.now) (c.args.at) ≡ takes c.peer_acked-1.given.0.0 c.peer_acked-1.given.0.1.0 = learn u32_says c.u32_at.ensures c.peer_acked-1.given.1 in peer-acked-read)) in peer-acked-took)))).so ((let peer-read-took : Took u32 (c.args.row.now) ((field-yes (start).so ((let peer-acked-took : Took u32 (c.args.row.now) (c.args.at) c.peer_acked-1.given.0.0 c.peer_acked-1.given.0.1.0 = took _ _ u32 (number-lawful 4) ((let by : Bytes (c.args.row.now) = typed (c.args.row.now) c.shared_slice_known-1.given in by)) ((let peer-acked-read : read_at u32 (c.args.row.now) (c.args.at) ≡ takes c.peer_acked-1.given.0.0 c.peer_acked-1.given.0.1.0 = learn u32_says c.u32_at.ensures c.peer_acked-1.given.1 in peer-acked-read)) in peer-acked-took)))).here c.peer_read-1.given.0.0 c.peer_read-1.given.0.1.0 = took _ _ u32 (number-lawful 4) ((let by : Bytes (c.args.row.now) = typed (c.args.row.now) c.shared_slice_known-1.given in by)) ((let peer-read-read : read_at u32 (c.args.row.now) ((field-yes (start).so ((let peer-acked-took : Took u32 (c.args.row.now) (c.args.at) c.peer_acked-1.given.0.0 c.peer_acked-1.given.0.1.0 = took _ _ u32 (number-lawful 4) ((let by : Bytes (c.args.row.now) = typed (c.args.row.now) c.shared_slice_known-1.given in by)) ((let peer-acked-read : read_at u32 (c.args.row.now) (c.args.at) ≡ takes c.peer_acked-1.given.0.0 c.peer_acked-1.given.0.1.0 = learn u32_says c.u32_at.ensures c.peer_acked-1.given.1 in peer-acked-read)) in peer-acked-took)))).here ≡ takes c.peer_read-1.given.0.0 c.peer_read-1.given.0.1.0 = learn u32_says c.u32_at-2.ensures c.peer_read-1.given.1 in peer-read-read)) in peer-read-took)))).here c.read_marked-1.given.0.0 c.read_marked-1.given.0.1.0 = took _ _ u32 (number-lawful 4) ((let by : Bytes (c.args.row.now) = typed (c.args.row.now) c.shared_slice_known-1.given in by)) ((let read-marked-read : read_at u32 (c.args.row.now) ((field-yes ((field-yes (start).so ((let peer-acked-took : Took u32 (c.args.row.now) (c.args.at) c.peer_acked-1.given.0.0 c.peer_acked-1.given.0.1.0 = took _ _ u32 (number-lawful 4) ((let by : Bytes (c.args.row.now) = typed (c.args.row.now) c.shared_slice_known-1.given in by)) ((let peer-acked-read : read_at u32 (c.args.row.now) (c.args.at) ≡ takes c.peer_acked-1.given.0.0 c.peer_acked-1.given.0.1.0 = learn u32_says c.u32_at.ensures c.peer_acked-1.given.1 in peer-acked-read)) in peer-acked-took)))).so ((let peer-read-took : Took u32 (c.args.row.now) ((field-yes (start).so ((let peer-acked-took : Took u32 (c.args.row.now) (c.args.at) c.peer_acked-1.given.0.0 c.peer_acked-1.given.0.1.0 = took _ _ u32 (number-lawful 4) ((let by : Bytes (c.args.row.now) = typed (c.args.row.now) c.shared_slice_known-1.given in by)) ((let peer-acked-read : read_at u32 (c.args.row.now) (c.args.at) ≡ takes c.peer_acked-1.given.0.0 c.peer_acked-1.given.0.1.0 = learn u32_says c.u32_at.ensures c.peer_acked-1.given.1 in peer-acked-read)) in peer-acked-took)))).here c.peer_read-1.given.0.0 c.peer_read-1.given.0.1.0 = took _ _ u32 (number-lawful 4) ((let by : Bytes (c.args.row.now) = typed (c.args.row.now) c.shared_slice_known-1.given in by)) ((let peer-read-read : read_at u32 (c.args.row.now) ((field-yes (start).so ((let peer-acked-took : Took u32 (c.args.row.now) (c.args.at) c.peer_acked-1.given.0.0 c.peer_acked-1.given.0.1.0 = took _ _ u32 (number-lawful 4) ((let by : Bytes (c.args.row.now) = typed (c.args.row.now) c.shared_slice_known-1.given in by)) ((let peer-acked-read : read_at u32 (c.args.row.now) (c.args.at) ≡ takes c.peer_acked-1.given.0.0 c.peer_acked-1.given.0.1.0 = learn u32_says c.u32_at.ensures c.peer_acked-1.given.1 in peer-acked-read)) in peer-acked-took)))).here ≡ takes c.peer_read-1.given.0.0 c.peer_read-1.given.0.1.0 = learn u32_says c.u32_at-2.ensures c.peer_read-1.given.1 in peer-read-read)) in peer-read-took)))).here ≡ takes c.read_marked-1.given.0.0 c.read_marked-1.given.0.1.0 = learn u32_says c.u32_at-3.ensures c.read_marked-1.given.1 in read-marked-read)) in read-marked-took)))).here c.contiguous-1.given.0.0 c.contiguous-1.given.0.1.0 = took _ _ u32 (number-lawful 4) ((let by : Bytes (c.args.row.now) = typed (c.args.row.now) c.shared_slice_known-1.given in by)) ((let contiguous-read : read_at u32 (c.args.row.now) ((field-yes ((field-yes ((field-yes (start).so ((let peer-acked-took : Took u32 (c.args.row.now) (c.args.at) c.peer_acked-1.given.0.0 c.peer_acked-1.given.0.1.0 = took _ _ u32 (number-lawful 4) ((let by : Bytes (c.args.row.now) = typed (c.args.row.now) c.shared_slice_known-1.given in by)) ((let peer-acked-read : read_at u32 (c.args.row.now) (c.args.at) ≡ takes c.peer_acked-1.given.0.0 c.peer_acked-1.given.0.1.0 = learn u32_says c.u32_at.ensures c.peer_acked-1.given.1 in peer-acked-read)) in peer-acked-took)))).so ((let peer-read-took : Took u32 (c.args.row.now) ((field-yes (start).so ((let peer-acked-took : Took u32 (c.args.row.now) (c.args.at) c.peer_acked-1.given.0.0 c.peer_acked-1.given.0.1.0 = took _ _ u32 (number-lawful 4) ((let by : Bytes (c.args.row.now) = typed (c.args.row.now) c.shared_slice_known-1.given in by)) ((let peer-acked-read : read_at u32 (c.args.row.now) (c.args.at) ≡ takes c.peer_acked-1.given.0.0 c.peer_acked-1.given.0.1.0 = learn u32_says c.u32_at.ensures c.peer_acked-1.given.1 in peer-acked-read)) in peer-acked-took)))).here c.peer_read-1.given.0.0 c.peer_read-1.given.0.1.0 = took _ _ u32 (number-lawful 4) ((let by : Bytes (c.args.row.now) = typed (c.args.row.now) c.shared_slice_known-1.given in by)) ((let peer-read-read : read_at u32 (c.args.row.now) ((field-yes (start).so ((let peer-acked-took : Took u32 (c.args.row.now) (c.args.at) c.peer_acked-1.given.0.0 c.peer_acked-1.given.0.1.0 = took _ _ u32 (number-lawful 4) ((let by : Bytes (c.args.row.now) = typed (c.args.row.now) c.shared_slice_known-1.given in by)) ((let peer-acked-read : read_at u32 (c.args.row.now) (c.args.at) ≡ takes c.peer_acked-1.given.0.0 c.peer_acked-1.given.0.1.0 = learn u32_says c.u32_at.ensures c.peer_acked-1.given.1 in peer-acked-read)) in peer-acked-took)))).here ≡ takes c.peer_read-1.given.0.0 c.peer_read-1.given.0.1.0 = learn u32_says c.u32_at-2.ensures c.peer_read-1.given.1 in peer-read-read)) in peer-read-took)))).so ((let read-marked-took : Took u32 (c.args.row.now) ((field-yes ((field-yes (start).so ((let peer-acked-took : Took u32 (c.args.row.now) (c.args.at) c.peer_acked-1.given.0.0 c.peer_acked-1.given.0.1.0 = took _ _ u32 (number-lawful 4) ((let by : Bytes (c.args.row.now) = typed (c.args.row.now) c.shared_slice_known-1.given in by)) ((let peer-acked-read : read_at u32 (c.args.row.now) (c.args.at) ≡ takes c.peer_acked-1.given.0.0 c.peer_acked-1.given.0.1.0 = learn u32_says c.u32_at.ensures c.peer_acked-1.given.1 in peer-acked-read)) in peer-acked-took)))).so ((let peer-read-took : Took u32 (c.args.row.now) ((field-yes (start).so ((let peer-acked-took : Took u32 (c.args.row.now) (c.args.at) c.peer_acked-1.given.0.0 c.peer_acked-1.given.0.1.0 = took _ _ u32 (number-lawful 4) ((let by : Bytes (c.args.row.now) = typed (c.args.row.now) c.shared_slice_known-1.given in by)) ((let peer-acked-read : read_at u32 (c.args.row.now) (c.args.at) ≡ takes c.peer_acked-1.given.0.0 c.peer_acked-1.given.0.1.0 = learn u32_says c.u32_at.ensures c.peer_acked-1.given.1 in peer-acked-read)) in peer-acked-took)))).here c.peer_read-1.given.0.0 c.peer_read-1.given.0.1.0 = took _ _ u32 (number-lawful 4) ((let by : Bytes (c.args.row.now) = typed (c.args.row.now) c.shared_slice_known-1.given in by)) ((let peer-read-read : read_at u32 (c.args.row.now) ((field-yes (start).so ((let peer-acked-took : Took u32 (c.args.row.now) (c.args.at) c.peer_acked-1.given.0.0 c.peer_acked-1.given.0.1.0 = took _ _ u32 (number-lawful 4) ((let by : Bytes (c.args.row.now) = typed (c.args.row.now) c.shared_slice_known-1.given in by)) ((let peer-acked-read : read_at u32 (c.args.row.now) (c.args.at) ≡ takes c.peer_acked-1.given.0.0 c.peer_acked-1.given.0.1.0 = learn u32_says c.u32_at.ensures c.peer_acked-1.given.1 in peer-acked-read)) in peer-acked-took)))).here ≡ takes c.peer_read-1.given.0.0 c.peer_read-1.given.0.1.0 = learn u32_says c.u32_at-2.ensures c.peer_read-1.given.1 in peer-read-read)) in peer-read-took)))).here c.read_marked-1.given.0.0 c.read_marked-1.given.0.1.0 = took _ _ u32 (number-lawful 4) ((let by : Bytes (c.args.row.now) = typed (c.args.row.now) c.shared_slice_known-1.given in by)) ((let read-marked-read : read_at u32 (c.args.row.now) ((field-yes ((field-yes (start).so ((let peer-acked-took : Took u32 (c.args.row.now) (c.args.at) c.peer_acked-1.given.0.0 c.peer_acked-1.given.0.1.0 = took _ _ u32 (number-lawful 4) ((let by : Bytes (c.args.row.now) = typed (c.args.row.now) c.shared_slice_known-1.given in by)) ((let peer-acked-read : read_at u32 (c.args.row.now) (c.args.at) ≡ takes c.peer_acked-1.given.0.0 c.peer_acked-1.given.0.1.0 = learn u32_says c.u32_at.ensures c.peer_acked-1.given.1 in peer-acked-read)) in peer-acked-took)))).so ((let peer-read-took : Took u32 (c.args.row.now) ((field-yes (start).so ((let peer-acked-took : Took u32 (c.args.row.now) (c.args.at) c.peer_acked-1.given.0.0 c.peer_acked-1.given.0.1.0 = took _ _ u32 (number-lawful 4) ((let by : Bytes (c.args.row.now) = typed (c.args.row.now) c.shared_slice_known-1.given in by)) ((let peer-acked-read : read_at u32 (c.args.row.now) (c.args.at) ≡ takes c.peer_acked-1.given.0.0 c.peer_acked-1.given.0.1.0 = learn u32_says c.u32_at.ensures c.peer_acked-1.given.1 in peer-acked-read)) in peer-acked-took)))).here c.peer_read-1.given.0.0 c.peer_read-1.given.0.1.0 = took _ _ u32 (number-lawful 4) ((let by : Bytes (c.args.row.now) = typed (c.args.row.now) c.shared_slice_known-1.given in by)) ((let peer-read-read : read_at u32 (c.args.row.now) ((field-yes (start).so ((let peer-acked-took : Took u32 (c.args.row.now) (c.args.at) c.peer_acked-1.given.0.0 c.peer_acked-1.given.0.1.0 = took _ _ u32 (number-lawful 4) ((let by : Bytes (c.args.row.now) = typed (c.args.row.now) c.shared_slice_known-1.given in by)) ((let peer-acked-read : read_at u32 (c.args.row.now) (c.args.at) ≡ takes c.peer_acked-1.given.0.0 c.peer_acked-1.given.0.1.0 = learn u32_says c.u32_at.ensures c.peer_acked-1.given.1 in peer-acked-read)) in peer-acked-took)))).here ≡ takes c.peer_read-1.given.0.0 c.peer_read-1.given.0.1.0 = learn u32_says c.u32_at-2.ensures c.peer_read-1.given.1 in peer-read-read)) in peer-read-took)))).here ≡ takes c.read_marked-1.given.0.0 c.read_marked-1.given.0.1.0 = learn u32_says c.u32_at-3.ensures c.read_marked-1.given.1 in read-marked-read)) in read-marked-took)))).here ≡ takes c.contiguous-1.given.0.0 c.contiguous-1.given.0.1.0 = learn u32_says c.u32_at-4.ensures c.contiguous-1.given.1 in contiguous-read)) in contiguous-took)).inside in above-next)))
-    ((let expired-starts : c.expired_field-1.given.0.0 ≡ list_at (group range) ((field-yes ((field-yes ((field-yes ((field-yes ((field-yes ((field-yes (start).so ((let peer-acked-took : Took u32 (c.args.row.now) (c.args.at) c.peer_acked-1.given.0.0 c.peer_acked-1.given.0.1.0 = took _ _ u32 (number-lawful 4) ((let by : Bytes (c.args.row.now) = typed (c.args.row.now) c.shared_slice_known-1.given in by)) ((let peer-acked-read : read_at u32 (c.args.row.now) (c.args.at) ≡ takes c.peer_acked-1.given.0.0 c.peer_acked-1.given.0.1.0 = learn u32_says c.u32_at.ensures c.peer_acked-1.given.1 in peer-acked-read)) in peer-acked-took)))).so ((let peer-read-took : Took u32 (c.args.row.now) ((field-yes (start).so ((let peer-acked-took : Took u32 (c.args.row.now) (c.args.at) c.peer_acked-1.given.0.0 c.peer_acked-1.given.0.1.0 = took _ _ u32 (number-lawful 4) ((let by : Bytes (c.args.row.now) = typed (c.args.row.now) c.shared_slice_known-1.given in by)) ((let peer-acked-read : read_at u32 (c.args.row.now) (c.args.at) ≡ takes c.peer_acked-1.given.0.0 c.peer_acked-1.given.0.1.0 = learn u32_says c.u32_at.ensures c.peer_acked-1.given.1 in peer-acked-read)) in peer-acked-took)))).here c.peer_read-1.given.0.0 c.peer_read-1.given.0.1.0 = took _ _ u32 (number-lawful 4) ((let by : Bytes (c.args.row.now) = typed (c.args.row.now) c.shared_slice_known-1.given in by)) ((let peer-read-read : read_at u32 (c.args.row.now) ((field-yes (start).so ((let peer-acked-took : Took u32 (c.args.row.now) (c.args.at) c.peer_acked-1.given.0.0 c.peer_acked-1.given.0.1.0 = took _ _ u32 (number-lawful 4) ((let by : Bytes (c.args.row.now) = typed (c.args.row.now) c.shared_slice_known-1.given in by)) ((let peer-acked-read : read_at u32 (c.args.row.now) (c.args.at) ≡ takes c.peer_acked-1.given.0.0 c.peer_acked-1.given.0.1.0 = learn u32_says c.u32_at.ensures c.peer_acked-1.given.1 in peer-acked-read)) in peer-acked-took)))).here ≡ takes c.peer_read-1.given.0.0 c.peer_read-1.given.0.1.0 = learn u32_says c.u32_at-2.ensures c.peer_read-1.given.1 in peer-read-read)) in peer-read-took)))).so ((let read-marked-took : Took u32 (c.args.row.now) ((field-yes ((field-yes (start).so ((let peer-acked-took : Took u32 (c.args.row.now) (c.args.at) c.peer_acked-1.given.0.0 c.peer_acked-1.given.0.1.0 = took _ _ u32 (number-lawful 4) ((let by : Bytes (c.args.row.now) = typed (c.args.row.now) c.shared_slice_known-1.given in by)) ((let peer-acked-read : read_at u32 (c.args.row.now) (c.args.at) ≡ takes c.peer_acked-1.given.0.0 c.peer_acked-1.given.0.1.0 = learn u32_says c.u32_at.ensures c.peer_acked-1.given.1 in peer-acked-read)) in peer-acked-took)))).so ((let peer-read-took : Took u32 (c.args.row.now) ((field-yes (start).so ((let peer-acked-took : Took u32 (c.args.row.now) (c.args.at) c.peer_acked-1.given.0.0 c.peer_acked-1.given.0.1.0 = took _ _ u32 (number-lawful 4) ((let by : Bytes (c.args.row.now) = typed (c.args.row.now) c.shared_slice_known-1.given in by)) ((let peer-acked-read : read_at u32 (c.args.row.now) (c.args.at) ≡ takes c.peer_acked-1.given.0.0 c.peer_acked-1.given.0.1.0 = learn u32_says c.u32_at.ensures c.peer_acked-1.given.1 in peer-acked-read)) in peer-acked-took)))).here c.peer_read-1.given.0.0 c.peer_read-1.given.0.1.0 = took _ _ u32 (number-lawful 4) ((let by : Bytes (c.args.row.now) = typed (c.args.row.now) c.shared_slice_known-1.given in by)) ((let peer-read-read : read_at u32 (c.args.row.now) ((field-yes (start).so ((let peer-acked-took : Took u32 (c.args.row.now) (c.args.at) c.peer_acked-1.given.0.0 c.peer_acked-1.given.0.1.0 = took _ _ u32 (number-lawful 4) ((let by : Bytes (c.args.row.now) = typed (c.args.row.now) c.shared_slice_known-1.given in by)) ((let peer-acked-read : read_at u32 (c.args.row.now) (c.args.at) ≡ takes c.peer_acked-1.given.0.0 c.peer_acked-1.given.0.1.0 = learn u32_says c.u32_at.ensures c.peer_acked-1.given.1 in peer-acked-read)) in peer-acked-took)))).here ≡ takes c.peer_read-1.given.0.0 c.peer_read-1.given.0.1.0 = learn u32_says c.u32_at-2.ensures c.peer_read-1.given.1 in peer-read-read)) in peer-read-took)))).here c.read_marked-1.given.0.0 c.read_marked-1.given.0.1.0 = took _ _ u32 (number-lawful 4) ((let by : Bytes (c.args.row.now) = typed (c.args.row.now) c.shared_slice_known-1.given in by)) ((let read-marked-read : read_at u32 (c.args.row.now) ((field-yes ((field-yes (start).so ((let peer-acked-took : Took u32 (c.args.row.now) (c.args.at) c.peer_acked-1.given.0.0 c.peer_acked-1.given.0.1.0 = took _ _ u32 (number-lawful 4) ((let by : Bytes (c.args.row.now) = typed (c.args.row.now) c.shared_slice_known-1.given in by)) ((let peer-acked-read : read_at u32 (c.args.row.now) (c.args.at) ≡ takes c.peer_acked-1.given.0.0 c.peer_acked-1.given.0.1.0 = learn u32_says c.u32_at.ensures c.peer_acked-1.given.1 in peer-acked-read)) in peer-acked-took)))).so ((let peer-read-took : Took u32 (c.args.row.now) ((field-yes (start).so ((let peer-acked-took : Took u32 (c.args.row.now) (c.args.at) c.peer_acked-1.given.0.0 c.peer_acked-1.given.0.1.0 = took _ _ u32 (number-lawful 4) ((let by : Bytes (c.args.row.now) = typed (c.args.row.now) c.shared_slice_known-1.given in by)) ((let peer-acked-read : read_at u32 (c.args.row.now) (c.args.at) ≡ takes c.peer_acked-1.given.0.0 c.peer_acked-1.given.0.1.0 = learn u32_says c.u32_at.ensures c.peer_acked-1.given.1 in peer-acked-read)) in peer-acked-took)))).here c.peer_read-1.given.0.0 c.peer_read-1.given.0.1.0 = took _ _ u32 (number-lawful 4) ((let by : Bytes (c.args.row.now) = typed (c.args.row.now) c.shared_slice_known-1.given in by)) ((let peer-read-read : read_at u32 (c.args.row.now) ((field-yes (start).so ((let peer-acked-took : Took u32 (c.args.row.now) (c.args.at) c.peer_acked-1.given.0.0 c.peer_acked-1.given.0.1.0 = took _ _ u32 (number-lawful 4) ((let by : Bytes (c.args.row.now) = typed (c.args.row.now) c.shared_slice_known-1.given in by)) ((let peer-acked-read : read_at u32 (c.args.row.now) (c.args.at) ≡ takes c.peer_acked-1.given.0.0 c.peer_acked-1.given.0.1.0 = learn u32_says c.u32_at.ensures c.peer_acked-1.given.1 in peer-acked-read)) in peer-acked-took)))).here ≡ takes c.peer_read-1.given.0.0 c.peer_read-1.given.0.1.0 = learn u32_says c.u32_at-2.ensures c.peer_read-1.given.1 in peer-read-read)) in peer-read-took)))).here ≡ takes c.read_marked-1.given.0.0 c.read_marked-1.given.0.1.0 = learn u32_says c.u32_at-3.ensures c.read_marked-1.given.1 in read-marked-read)) in read-marked-took)))).so ((let contiguous-took : Took u32 (c.args.row.now) ((field-yes ((field-yes ((field-yes (start).so ((let peer-acked-took : Took u32 (c.args.row.now) (c.args.at) c.peer_acked-1.given.0.0 c.peer_acked-1.given.0.1.0 = took _ _ u32 (number-lawful 4) ((let by : Bytes (c.args.row.now) = typed (c.args.row.now) c.shared_slice_known-1.given in by)) ((let peer-acked-read : read_at u32 (c.args.row.now) (c.args.at) ≡ takes c.peer_acked-1.given.0.0 c.peer_acked-1.given.0.1.0 = learn u32_says c.u32_at.ensures c.peer_acked-1.given.1 in peer-acked-read)) in peer-acked-took)))).so ((let peer-read-took : Took u32 (c.args.row.now) ((field-yes (start).so ((let peer-acked-took : Took u32 (c.args.row.now) (c.args.at) c.peer_acked-1.given.0.0 c.peer_acked-1.given.0.1.0 = took _ _ u32 (number-lawful 4) ((let by : Bytes (c.args.row.now) = typed (c.args.row.now) c.shared_slice_known-1.given in by)) ((let peer-acked-read : read_at u32 (c.args.row.now) (c.args.at) ≡ takes c.peer_acked-1.given.0.0 c.peer_acked-1.given.0.1.0 = learn u32_says c.u32_at.ensures c.peer_acked-1.given.1 in peer-acked-read)) in peer-acked-took)))).here c.peer_read-1.given.0.0 c.peer_read-1.given.0.1.0 = took _ _ u32 (number-lawful 4) ((let by : Bytes (c.args.row.now) = typed (c.args.row.now) c.shared_slice_known-1.given in by)) ((let peer-read-read : read_at u32 (c.args.row.now) ((field-yes (start).so ((let peer-acked-took : Took u32 (c.args.row.now) (c.args.at) c.peer_acked-1.given.0.0 c.peer_acked-1.given.0.1.0 = took _ _ u32 (number-lawful 4) ((let by : Bytes (c.args.row.now) = typed (c.args.row.now) c.shared_slice_known-1.given in by)) ((let peer-acked-read : read_at u32 (c.args.row.now) (c.args.at) ≡ takes c.peer_acked-1.given.0.0 c.peer_acked-1.given.0.1.0 = learn u32_says c.u32_at.ensures c.peer_acked-1.given.1 in peer-acked-read)) in peer-acked-took)))).here ≡ takes c.peer_read-1.given.0.0 c.peer_read-1.given.0.1.0 = learn u32_says c.u32_at-2.ensures c.peer_read-1.given.1 in peer-read-read)) in peer-read-took)))).so ((let read-marked-took : Took u32 (c.args.row.now) ((field-yes ((field-yes (start).so ((let peer-acked-took : Took u32 (c.args.row.now) (c.args.at) c.peer_acked-1.given.0.0 c.peer_acked-1.given.0.1.0 = took _ _ u32 (number-lawful 4) ((let by : Bytes (c.args.row.now) = typed (c.args.row.now) c.shared_slice_known-1.given in by)) ((let peer-acked-read : read_at u32 (c.args.row.now) (c.args.at) ≡ takes c.peer_acked-1.given.0.0 c.peer_acked-1.given.0.1.0 = learn u32_says c.u32_at.ensures c.peer_acked-1.given.1 in peer-acked-read)) in peer-acked-took)))).so ((let peer-read-took : Took u32 (c.args.row.now) ((field-yes (start).so ((let peer-acked-took : Took u32 (c.args.row.now) (c.args.at) c.peer_acked-1.given.0.0 c.peer_acked-1.given.0.1.0 = took _ _ u32 (number-lawful 4) ((let by : Bytes (c.args.row.now) = typed (c.args.row.now) c.shared_slice_known-1.given in by)) ((let peer-acked-read : read_at u32 (c.args.row.now) (c.args.at) ≡ takes c.peer_acked-1.given.0.0 c.peer_acked-1.given.0.1.0 = learn u32_says c.u32_at.ensures c.peer_acked-1.given.1 in peer-acked-read)) in peer-acked-took)))).here c.peer_read-1.given.0.0 c.peer_read-1.given.0.1.0 = took _ _ u32 (number-lawful 4) ((let by : Bytes (c.args.row.now) = typed (c.args.row.now) c.shared_slice_known-1.given in by)) ((let peer-read-read : read_at u32 (c.args.row.now) ((field-yes (start).so ((let peer-acked-took : Took u32 (c.args.row.now) (c.args.at) c.peer_acked-1.given.0.0 c.peer_acked-1.given.0.1.0 = took _ _ u32 (number-lawful 4) ((let by : Bytes (c.args.row.now) = typed (c.args.row.now) c.shared_slice_known-1.given in by)) ((let peer-acked-read : read_at u32 (c.args.row.now) (c.args.at) ≡ takes c.peer_acked-1.given.0.0 c.peer_acked-1.given.0.1.0 = learn u32_says c.u32_at.ensures c.peer_acked-1.given.1 in peer-acked-read)) in peer-acked-took)))).here ≡ takes c.peer_read-1.given.0.0 c.peer_read-1.given.0.1.0 = learn u32_says c.u32_at-2.ensures c.peer_read-1.given.1 in peer-read-read)) in peer-read-took)))).here c.read_marked-1.given.0.0 c.read_marked-1.given.0.1.0 = took _ _ u32 (number-lawful 4) ((let by : Bytes (c.args.row.now) = typed (c.args.row.now) c.shared_slice_known-1.given in by)) ((let read-marked-read : read_at u32 (c.args.row.now) ((field-yes ((field-yes (start).so ((let peer-acked-took : Took u32 (c.args.row.now) (c.args.at) c.peer_acked-1.given.0.0 c.peer_acked-1.given.0.1.0 = took _ _ u32 (number-lawful 4) ((let by : Bytes (c.args.row.now) = typed (c.args.row.now) c.shared_slice_known-1.given in by)) ((let peer-acked-read : read_at u32 (c.args.row.now) (c.args.at) ≡ takes c.peer_acked-1.given.0.0 c.peer_acked-1.given.0.1.0 = learn u32_says c.u32_at.ensures c.peer_acked-1.given.1 in peer-acked-read)) in peer-acked-took)))).so ((let peer-read-took : Took u32 (c.args.row.now) ((field-yes (start).so ((let peer-acked-took : Took u32 (c.args.row.now) (c.args.at) c.peer_acked-1.given.0.0 c.peer_acked-1.given.0.1.0 = took _ _ u32 (number-lawful 4) ((let by : Bytes (c.args.row.now) = typed (c.args.row.now) c.shared_slice_known-1.given in by)) ((let peer-acked-read : read_at u32 (c.args.row.now) (c.args.at) ≡ takes c.peer_acked-1.given.0.0 c.peer_acked-1.given.0.1.0 = learn u32_says c.u32_at.ensures c.peer_acked-1.given.1 in peer-acked-read)) in peer-acked-took)))).here c.peer_read-1.given.0.0 c.peer_read-1.given.0.1.0 = took _ _ u32 (number-lawful 4) ((let by : Bytes (c.args.row.now) = typed (c.args.row.now) c.shared_slice_known-1.given in by)) ((let peer-read-read : read_at u32 (c.args.row.now) ((field-yes (start).so ((let peer-acked-took : Took u32 (c.args.row.now) (c.args.at) c.peer_acked-1.given.0.0 c.peer_acked-1.given.0.1.0 = took _ _ u32 (number-lawful 4) ((let by : Bytes (c.args.row.now) = typed (c.args.row.now) c.shared_slice_known-1.given in by)) ((let peer-acked-read : read_at u32 (c.args.row.now) (c.args.at) ≡ takes c.peer_acked-1.given.0.0 c.peer_acked-1.given.0.1.0 = learn u32_says c.u32_at.ensures c.peer_acked-1.given.1 in peer-acked-read)) in peer-acked-took)))).here ≡ takes c.peer_read-1.given.0.0 c.peer_read-1.given.0.1.0 = learn u32_says c.u32_at-2.ensures c.peer_read-1.given.1 in peer-read-read)) in peer-read-took)))).here ≡ takes c.read_marked-1.given.0.0 c.read_marked-1.given.0.1.0 = learn u32_says c.u32_at-3.ensures c.read_marked-1.given.1 in read-marked-read)) in read-marked-took)))).here c.contiguous-1.given.0.0 c.contiguous-1.given.0.1.0 = took _ _ u32 (number-lawful 4) ((let by : Bytes (c.args.row.now) = typed (c.args.row.now) c.shared_slice_known-1.given in by)) ((let contiguous-read : read_at u32 (c.args.row.now) ((field-yes ((field-yes ((field-yes (start).so ((let peer-acked-took : Took u32 (c.args.row.now) (c.args.at) c.peer_acked-1.given.0.0 c.peer_acked-1.given.0.1.0 = took _ _ u32 (number-lawful 4) ((let by : Bytes (c.args.row.now) = typed (c.args.row.now) c.shared_slice_known-1.given in by)) ((let peer-acked-read : read_at u32 (c.args.row.now) (c.args.at) ≡ takes c.peer_acked-1.given.0.0 c.peer_acked-1.given.0.1.0 = learn u32_says c.u32_at.ensures c.peer_acked-1.given.1 in peer-acked-read)) in peer-acked-took)))).so ((let peer-read-took : Took u32 (c.args.row.now) ((field-yes (start).so ((let peer-acked-took : Took u32 (c.args.row.now) (c.args.at) c.peer_acked-1.given.0.0 c.peer_acked-1.given.0.1.0 = took _ _ u32 (number-lawful 4) ((let by : Bytes (c.args.row.now) = typed (c.args.row.now) c.shared_slice_known-1.given in by)) ((let peer-acked-read : read_at u32 (c.args.row.now) (c.args.at) ≡ takes c.peer_acked-1.given.0.0 c.peer_acked-1.given.0.1.0 = learn u32_says c.u32_at.ensures c.peer_acked-1.given.1 in peer-acked-read)) in peer-acked-took)))).here c.peer_read-1.given.0.0 c.peer_read-1.given.0.1.0 = took _ _ u32 (number-lawful 4) ((let by : Bytes (c.args.row.now) = typed (c.args.row.now) c.shared_slice_known-1.given in by)) ((let peer-read-read : read_at u32 (c.args.row.now) ((field-yes (start).so ((let peer-acked-took : Took u32 (c.args.row.now) (c.args.at) c.peer_acked-1.given.0.0 c.peer_acked-1.given.0.1.0 = took _ _ u32 (number-lawful 4) ((let by : Bytes (c.args.row.now) = typed (c.args.row.now) c.shared_slice_known-1.given in by)) ((let peer-acked-read : read_at u32 (c.args.row.now) (c.args.at) ≡ takes c.peer_acked-1.given.0.0 c.peer_acked-1.given.0.1.0 = learn u32_says c.u32_at.ensures c.peer_acked-1.given.1 in peer-acked-read)) in peer-acked-took)))).here ≡ takes c.peer_read-1.given.0.0 c.peer_read-1.given.0.1.0 = learn u32_says c.u32_at-2.ensures c.peer_read-1.given.1 in peer-read-read)) in peer-read-took)))).so ((let read-marked-took : Took u32 (c.args.row.now) ((field-yes ((field-yes (start).so ((let peer-acked-took : Took u32 (c.args.row.now) (c.args.at) c.peer_acked-1.given.0.0 c.peer_acked-1.given.0.1.0 = took _ _ u32 (number-lawful 4) ((let by : Bytes (c.args.row.now) = typed (c.args.row.now) c.shared_slice_known-1.given in by)) ((let peer-acked-read : read_at u32 (c.args.row.now) (c.args.at) ≡ takes c.peer_acked-1.given.0.0 c.peer_acked-1.given.0.1.0 = learn u32_says c.u32_at.ensures c.peer_acked-1.given.1 in peer-acked-read)) in peer-acked-took)))).so ((let peer-read-took : Took u32 (c.args.row.now) ((field-yes (start).so ((let peer-acked-took : Took u32 (c.args.row.now) (c.args.at) c.peer_acked-1.given.0.0 c.peer_acked-1.given.0.1.0 = took _ _ u32 (number-lawful 4) ((let by : Bytes (c.args.row.now) = typed (c.args.row.now) c.shared_slice_known-1.given in by)) ((let peer-acked-read : read_at u32 (c.args.row.now) (c.args.at) ≡ takes c.peer_acked-1.given.0.0 c.peer_acked-1.given.0.1.0 = learn u32_says c.u32_at.ensures c.peer_acked-1.given.1 in peer-acked-read)) in peer-acked-took)))).here c.peer_read-1.given.0.0 c.peer_read-1.given.0.1.0 = took _ _ u32 (number-lawful 4) ((let by : Bytes (c.args.row.now) = typed (c.args.row.now) c.shared_slice_known-1.given in by)) ((let peer-read-read : read_at u32 (c.args.row.now) ((field-yes (start).so ((let peer-acked-took : Took u32 (c.args.row.now) (c.args.at) c.peer_acked-1.given.0.0 c.peer_acked-1.given.0.1.0 = took _ _ u32 (number-lawful 4) ((let by : Bytes (c.args.row.now) = typed (c.args.row.now) c.shared_slice_known-1.given in by)) ((let peer-acked-read : read_at u32 (c.args.row.now) (c.args.at) ≡ takes c.peer_acked-1.given.0.0 c.peer_acked-1.given.0.1.0 = learn u32_says c.u32_at.ensures c.peer_acked-1.given.1 in peer-acked-read)) in peer-acked-took)))).here ≡ takes c.peer_read-1.given.0.0 c.peer_read-1.given.0.1.0 = learn u32_says c.u32_at-2.ensures c.peer_read-1.given.1 in peer-read-read)) in peer-read-took)))).here c.read_marked-1.given.0.0 c.read_marked-1.given.0.1.0 = took _ _ u32 (number-lawful 4) ((let by : Bytes (c.args.row.now) = typed (c.args.row.now) c.shared_slice_known-1.given in by)) ((let read-marked-read : read_at u32 (c.args.row.now) ((field-yes ((field-yes (start).so ((let peer-acked-took : Took u32 (c.args.row.now) (c.args.at) c.peer_acked-1.given.0.0 c.peer_acked-1.given.0.1.0 = took _ _ u32 (number-lawful 4) ((let by : Bytes (c.args.row.now) = typed (c.args.row.now) c.shared_slice_known-1.given in by)) ((let peer-acked-read : read_at u32 (c.args.row.now) (c.args.at) ≡ takes c.peer_acked-1.given.0.0 c.peer_acked-1.given.0.1.0 = learn u32_says c.u32_at.ensures c.peer_acked-1.given.1 in peer-acked-read)) in peer-acked-took)))).so ((let peer-read-took : Took u32 (c.args.row.now) ((field-yes (start).so ((let peer-acked-took : Took u32 (c.args.row.now) (c.args.at) c.peer_acked-1.given.0.0 c.peer_acked-1.given.0.1.0 = took _ _ u32 (number-lawful 4) ((let by : Bytes (c.args.row.now) = typed (c.args.row.now) c.shared_slice_known-1.given in by)) ((let peer-acked-read : read_at u32 (c.args.row.now) (c.args.at) ≡ takes c.peer_acked-1.given.0.0 c.peer_acked-1.given.0.1.0 = learn u32_says c.u32_at.ensures c.peer_acked-1.given.1 in peer-acked-read)) in peer-acked-took)))).here c.peer_read-1.given.0.0 c.peer_read-1.given.0.1.0 = took _ _ u32 (number-lawful 4) ((let by : Bytes (c.args.row.now) = typed (c.args.row.now) c.shared_slice_known-1.given in by)) ((let peer-read-read : read_at u32 (c.args.row.now) ((field-yes (start).so ((let peer-acked-took : Took u32 (c.args.row.now) (c.args.at) c.peer_acked-1.given.0.0 c.peer_acked-1.given.0.1.0 = took _ _ u32 (number-lawful 4) ((let by : Bytes (c.args.row.now) = typed (c.args.row.now) c.shared_slice_known-1.given in by)) ((let peer-acked-read : read_at u32 (c.args.row.now) (c.args.at) ≡ takes c.peer_acked-1.given.0.0 c.peer_acked-1.given.0.1.0 = learn u32_says c.u32_at.ensures c.peer_acked-1.given.1 in peer-acked-read)) in peer-acked-took)))).here ≡ takes c.peer_read-1.given.0.0 c.peer_read-1.given.0.1.0 = learn u32_says c.u32_at-2.ensures c.peer_read-1.given.1 in peer-read-read)) in peer-read-took)))).here ≡ takes c.read_marked-1.given.0.0 c.read_marked-1.given.0.1.0 = learn u32_says c.u32_at-3.ensures c.read_marked-1.given.1 in read-marked-read)) in read-marked-took)))).here ≡ takes c.contiguous-1.given.0.0 c.contiguous-1.given.0.1.0 = learn u32_says c.u32_at-4.ensures c.contiguous-1.given.1 in contiguous-read)) in contiguous-took)))).so ((let above-took : Took (list (group range)) (c.args.row.now) ((field-yes ((field-yes ((field-yes ((field-yes (start).so ((let peer-acked-took : Took u32 (c.args.row.now) (c.args.at) c.peer_acked-1.given.0.0 c.peer_acked-1.given.0.1.0 = took _ _ u32 (number-lawful 4) ((let by : Bytes (c.args.row.now) = typed (c.args.row.now) c.shared_slice_known-1.given in by)) ((let peer-acked-read : read_at u32 (c.args.row.now) (c.args.at) ≡ takes c.peer_acked-1.given.0.0 c.peer_acked-1.given.0.1.0 = learn u32_says c.u32_at.ensures c.peer_acked-1.given.1 in peer-acked-read)) in peer-acked-took)))).so ((let peer-read-took : Took u32 (c.args.row.now) ((field-yes (start).so ((let peer-acked-took : Took u32 (c.args.row.now) (c.args.at) c.peer_acked-1.given.0.0 c.peer_acked-1.given.0.1.0 = took _ _ u32 (number-lawful 4) ((let by : Bytes (c.args.row.now) = typed (c.args.row.now) c.shared_slice_known-1.given in by)) ((let peer-acked-read : read_at u32 (c.args.row.now) (c.args.at) ≡ takes c.peer_acked-1.given.0.0 c.peer_acked-1.given.0.1.0 = learn u32_says c.u32_at.ensures c.peer_acked-1.given.1 in peer-acked-read)) in peer-acked-took)))).here c.peer_read-1.given.0.0 c.peer_read-1.given.0.1.0 = took _ _ u32 (number-lawful 4) ((let by : Bytes (c.args.row.now) = typed (c.args.row.now) c.shared_slice_known-1.given in by)) ((let peer-read-read : read_at u32 (c.args.row.now) ((field-yes (start).so ((let peer-acked-took : Took u32 (c.args.row.now) (c.args.at) c.peer_acked-1.given.0.0 c.peer_acked-1.given.0.1.0 = took _ _ u32 (number-lawful 4) ((let by : Bytes (c.args.row.now) = typed (c.args.row.now) c.shared_slice_known-1.given in by)) ((let peer-acked-read : read_at u32 (c.args.row.now) (c.args.at) ≡ takes c.peer_acked-1.given.0.0 c.peer_acked-1.given.0.1.0 = learn u32_says c.u32_at.ensures c.peer_acked-1.given.1 in peer-acked-read)) in peer-acked-took)))).here ≡ takes c.peer_read-1.given.0.0 c.peer_read-1.given.0.1.0 = learn u32_says c.u32_at-2.ensures c.peer_read-1.given.1 in peer-read-read)) in peer-read-took)))).so ((let read-marked-took : Took u32 (c.args.row.now) ((field-yes ((field-yes (start).so ((let peer-acked-took : Took u32 (c.args.row.now) (c.args.at) c.peer_acked-1.given.0.0 c.peer_acked-1.given.0.1.0 = took _ _ u32 (number-lawful 4) ((let by : Bytes (c.args.row.now) = typed (c.args.row.now) c.shared_slice_known-1.given in by)) ((let peer-acked-read : read_at u32 (c.args.row.now) (c.args.at) ≡ takes c.peer_acked-1.given.0.0 c.peer_acked-1.given.0.1.0 = learn u32_says c.u32_at.ensures c.peer_acked-1.given.1 in peer-acked-read)) in peer-acked-took)))).so ((let peer-read-took : Took u32 (c.args.row.now) ((field-yes (start).so ((let peer-acked-took : Took u32 (c.args.row.now) (c.args.at) c.peer_acked-1.given.0.0 c.peer_acked-1.given.0.1.0 = took _ _ u32 (number-lawful 4) ((let by : Bytes (c.args.row.now) = typed (c.args.row.now) c.shared_slice_known-1.given in by)) ((let peer-acked-read : read_at u32 (c.args.row.now) (c.args.at) ≡ takes c.peer_acked-1.given.0.0 c.peer_acked-1.given.0.1.0 = learn u32_says c.u32_at.ensures c.peer_acked-1.given.1 in peer-acked-read)) in peer-acked-took)))).here c.peer_read-1.given.0.0 c.peer_read-1.given.0.1.0 = took _ _ u32 (number-lawful 4) ((let by : Bytes (c.args.row.now) = typed (c.args.row.now) c.shared_slice_known-1.given in by)) ((let peer-read-read : read_at u32 (c.args.row.now) ((field-yes (start).so ((let peer-acked-took : Took u32 (c.args.row.now) (c.args.at) c.peer_acked-1.given.0.0 c.peer_acked-1.given.0.1.0 = took _ _ u32 (number-lawful 4) ((let by : Bytes (c.args.row.now) = typed (c.args.row.now) c.shared_slice_known-1.given in by)) ((let peer-acked-read : read_at u32 (c.args.row.now) (c.args.at) ≡ takes c.peer_acked-1.given.0.0 c.peer_acked-1.given.0.1.0 = learn u32_says c.u32_at.ensures c.peer_acked-1.given.1 in peer-acked-read)) in peer-acked-took)))).here ≡ takes c.peer_read-1.given.0.0 c.peer_read-1.given.0.1.0 = learn u32_says c.u32_at-2.ensures c.peer_read-1.given.1 in peer-read-read)) in peer-read-took)))).here c.read_marked-1.given.0.0 c.read_marked-1.given.0.1.0 = took _ _ u32 (number-lawful 4) ((let by : Bytes (c.args.row.now) = typed (c.args.row.now) c.shared_slice_known-1.given in by)) ((let read-marked-read : read_at u32 (c.args.row.now) ((field-yes ((field-yes (start).so ((let peer-acked-took : Took u32 (c.args.row.now) (c.args.at) c.peer_acked-1.given.0.0 c.peer_acked-1.given.0.1.0 = took _ _ u32 (number-lawful 4) ((let by : Bytes (c.args.row.now) = typed (c.args.row.now) c.shared_slice_known-1.given in by)) ((let peer-acked-read : read_at u32 (c.args.row.now) (c.args.at) ≡ takes c.peer_acked-1.given.0.0 c.peer_acked-1.given.0.1.0 = learn u32_says c.u32_at.ensures c.peer_acked-1.given.1 in peer-acked-read)) in peer-acked-took)))).so ((let peer-read-took : Took u32 (c.args.row.now) ((field-yes (start).so ((let peer-acked-took : Took u32 (c.args.row.now) (c.args.at) c.peer_acked-1.given.0.0 c.peer_acked-1.given.0.1.0 = took _ _ u32 (number-lawful 4) ((let by : Bytes (c.args.row.now) = typed (c.args.row.now) c.shared_slice_known-1.given in by)) ((let peer-acked-read : read_at u32 (c.args.row.now) (c.args.at) ≡ takes c.peer_acked-1.given.0.0 c.peer_acked-1.given.0.1.0 = learn u32_says c.u32_at.ensures c.peer_acked-1.given.1 in peer-acked-read)) in peer-acked-took)))).here c.peer_read-1.given.0.0 c.peer_read-1.given.0.1.0 = took _ _ u32 (number-lawful 4) ((let by : Bytes (c.args.row.now) = typed (c.args.row.now) c.shared_slice_known-1.given in by)) ((let peer-read-read : read_at u32 (c.args.row.now) ((field-yes (start).so ((let peer-acked-took : Took u32 (c.args.row.now) (c.args.at) c.peer_acked-1.given.0.0 c.peer_acked-1.given.0.1.0 = took _ _ u32 (number-lawful 4) ((let by : Bytes (c.args.row.now) = typed (c.args.row.now) c.shared_slice_known-1.given in by)) ((let peer-acked-read : read_at u32 (c.args.row.now) (c.args.at) ≡ takes c.peer_acked-1.given.0.0 c.peer_acked-1.given.0.1.0 = learn u32_says c.u32_at.ensures c.peer_acked-1.given.1 in peer-acked-read)) in peer-acked-took)))).here ≡ takes c.peer_read-1.given.0.0 c.peer_read-1.given.0.1.0 = learn u32_says c.u32_at-2.ensures c.peer_read-1.given.1 in peer-read-read)) in peer-read-took)))).here ≡ takes c.read_marked-1.given.0.0 c.read_marked-1.given.0.1.0 = learn u32_says c.u32_at-3.ensures c.read_marked-1.given.1 in read-marked-read)) in read-marked-took)))).so ((let contiguous-took : Took u32 (c.args.row.now) ((field-yes ((field-yes ((field-yes (start).so ((let peer-acked-took : Took u32 (c.args.row.now) (c.args.at) c.peer_acked-1.given.0.0 c.peer_acked-1.given.0.1.0 = took _ _ u32 (number-lawful 4) ((let by : Bytes (c.args.row.now) = typed (c.args.row.now) c.shared_slice_known-1.given in by)) ((let peer-acked-read : read_at u32 (c.args.row.now) (c.args.at) ≡ takes c.peer_acked-1.given.0.0 c.peer_acked-1.given.0.1.0 = learn u32_says c.u32_at.ensures c.peer_acked-1.given.1 in peer-acked-read)) in peer-acked-took)))).so ((let peer-read-took : Took u32 (c.args.row.now) ((field-yes (start).so ((let peer-acked-took : Took u32 (c.args.row.now) (c.args.at) c.peer_acked-1.given.0.0 c.peer_acked-1.given.0.1.0 = took _ _ u32 (number-lawful 4) ((let by : Bytes (c.args.row.now) = typed (c.args.row.now) c.shared_slice_known-1.given in by)) ((let peer-acked-read : read_at u32 (c.args.row.now) (c.args.at) ≡ takes c.peer_acked-1.given.0.0 c.peer_acked-1.given.0.1.0 = learn u32_says c.u32_at.ensures c.peer_acked-1.given.1 in peer-acked-read)) in peer-acked-took)))).here c.peer_read-1.given.0.0 c.peer_read-1.given.0.1.0 = took _ _ u32 (number-lawful 4) ((let by : Bytes (c.args.row.now) = typed (c.args.row.now) c.shared_slice_known-1.given in by)) ((let peer-read-read : read_at u32 (c.args.row.now) ((field-yes (start).so ((let peer-acked-took : Took u32 (c.args.row.now) (c.args.at) c.peer_acked-1.given.0.0 c.peer_acked-1.given.0.1.0 = took _ _ u32 (number-lawful 4) ((let by : Bytes (c.args.row.now) = typed (c.args.row.now) c.shared_slice_known-1.given in by)) ((let peer-acked-read : read_at u32 (c.args.row.now) (c.args.at) ≡ takes c.peer_acked-1.given.0.0 c.peer_acked-1.given.0.1.0 = learn u32_says c.u32_at.ensures c.peer_acked-1.given.1 in peer-acked-read)) in peer-acked-took)))).here ≡ takes c.peer_read-1.given.0.0 c.peer_read-1.given.0.1.0 = learn u32_says c.u32_at-2.ensures c.peer_read-1.given.1 in peer-read-read)) in peer-read-took)))).so ((let read-marked-took : Took u32 (c.args.row.now) ((field-yes ((field-yes (start).so ((let peer-acked-took : Took u32 (c.args.row.now) (c.args.at) c.peer_acked-1.given.0.0 c.peer_acked-1.given.0.1.0 = took _ _ u32 (number-lawful 4) ((let by : Bytes (c.args.row.now) = typed (c.args.row.now) c.shared_slice_known-1.given in by)) ((let peer-acked-read : read_at u32 (c.args.row.now) (c.args.at) ≡ takes c.peer_acked-1.given.0.0 c.peer_acked-1.given.0.1.0 = learn u32_says c.u32_at.ensures c.peer_acked-1.given.1 in peer-acked-read)) in peer-acked-took)))).so ((let peer-read-took : Took u32 (c.args.row.now) ((field-yes (start).so ((let peer-acked-took : Took u32 (c.args.row.now) (c.args.at) c.peer_acked-1.given.0.0 c.peer_acked-1.given.0.1.0 = took _ _ u32 (number-lawful 4) ((let by : Bytes (c.args.row.now) = typed (c.args.row.now) c.shared_slice_known-1.given in by)) ((let peer-acked-read : read_at u32 (c.args.row.now) (c.args.at) ≡ takes c.peer_acked-1.given.0.0 c.peer_acked-1.given.0.1.0 = learn u32_says c.u32_at.ensures c.peer_acked-1.given.1 in peer-acked-read)) in peer-acked-took)))).here c.peer_read-1.given.0.0 c.peer_read-1.given.0.1.0 = took _ _ u32 (number-lawful 4) ((let by : Bytes (c.args.row.now) = typed (c.args.row.now) c.shared_slice_known-1.given in by)) ((let peer-read-read : read_at u32 (c.args.row.now) ((field-yes (start).so ((let peer-acked-took : Took u32 (c.args.row.now) (c.args.at) c.peer_acked-1.given.0.0 c.peer_acked-1.given.0.1.0 = took _ _ u32 (number-lawful 4) ((let by : Bytes (c.args.row.now) = typed (c.args.row.now) c.shared_slice_known-1.given in by)) ((let peer-acked-read : read_at u32 (c.args.row.now) (c.args.at) ≡ takes c.peer_acked-1.given.0.0 c.peer_acked-1.given.0.1.0 = learn u32_says c.u32_at.ensures c.peer_acked-1.given.1 in peer-acked-read)) in peer-acked-took)))).here ≡ takes c.peer_read-1.given.0.0 c.peer_read-1.given.0.1.0 = learn u32_says c.u32_at-2.ensures c.peer_read-1.given.1 in peer-read-read)) in peer-read-took)))).here c.read_marked-1.given.0.0 c.read_marked-1.given.0.1.0 = took _ _ u32 (number-lawful 4) ((let by : Bytes (c.args.row.now) = typed (c.args.row.now) c.shared_slice_known-1.given in by)) ((let read-marked-read : read_at u32 (c.args.row.now) ((field-yes ((field-yes (start).so ((let peer-acked-took : Took u32 (c.args.row.now) (c.args.at) c.peer_acked-1.given.0.0 c.peer_acked-1.given.0.1.0 = took _ _ u32 (number-lawful 4) ((let by : Bytes (c.args.row.now) = typed (c.args.row.now) c.shared_slice_known-1.given in by)) ((let peer-acked-read : read_at u32 (c.args.row.now) (c.args.at) ≡ takes c.peer_acked-1.given.0.0 c.peer_acked-1.given.0.1.0 = learn u32_says c.u32_at.ensures c.peer_acked-1.given.1 in peer-acked-read)) in peer-acked-took)))).so ((let peer-read-took : Took u32 (c.args.row.now) ((field-yes (start).so ((let peer-acked-took : Took u32 (c.args.row.now) (c.args.at) c.peer_acked-1.given.0.0 c.peer_acked-1.given.0.1.0 = took _ _ u32 (number-lawful 4) ((let by : Bytes (c.args.row.now) = typed (c.args.row.now) c.shared_slice_known-1.given in by)) ((let peer-acked-read : read_at u32 (c.args.row.now) (c.args.at) ≡ takes c.peer_acked-1.given.0.0 c.peer_acked-1.given.0.1.0 = learn u32_says c.u32_at.ensures c.peer_acked-1.given.1 in peer-acked-read)) in peer-acked-took)))).here c.peer_read-1.given.0.0 c.peer_read-1.given.0.1.0 = took _ _ u32 (number-lawful 4) ((let by : Bytes (c.args.row.now) = typed (c.args.row.now) c.shared_slice_known-1.given in by)) ((let peer-read-read : read_at u32 (c.args.row.now) ((field-yes (start).so ((let peer-acked-took : Took u32 (c.args.row.now) (c.args.at) c.peer_acked-1.given.0.0 c.peer_acked-1.given.0.1.0 = took _ _ u32 (number-lawful 4) ((let by : Bytes (c.args.row.now) = typed (c.args.row.now) c.shared_slice_known-1.given in by)) ((let peer-acked-read : read_at u32 (c.args.row.now) (c.args.at) ≡ takes c.peer_acked-1.given.0.0 c.peer_acked-1.given.0.1.0 = learn u32_says c.u32_at.ensures c.peer_acked-1.given.1 in peer-acked-read)) in peer-acked-took)))).here ≡ takes c.peer_read-1.given.0.0 c.peer_read-1.given.0.1.0 = learn u32_says c.u32_at-2.ensures c.peer_read-1.given.1 in peer-read-read)) in peer-read-took)))).here ≡ takes c.read_marked-1.given.0.0 c.read_marked-1.given.0.1.0 = learn u32_says c.u32_at-3.ensures c.read_marked-1.given.1 in read-marked-read)) in read-marked-took)))).here c.contiguous-1.given.0.0 c.contiguous-1.given.0.1.0 = took _ _ u32 (number-lawful 4) ((let by : Bytes (c.args.row.now) = typed (c.args.row.now) c.shared_slice_known-1.given in by)) ((let contiguous-read : read_at u32 (c.args.row.now) ((field-yes ((field-yes ((field-yes (start).so ((let peer-acked-took : Took u32 (c.args.row.now) (c.args.at) c.peer_acked-1.given.0.0 c.peer_acked-1.given.0.1.0 = took _ _ u32 (number-lawful 4) ((let by : Bytes (c.args.row.now) = typed (c.args.row.now) c.shared_slice_known-1.given in by)) ((let peer-acked-read : read_at u32 (c.args.row.now) (c.args.at) ≡ takes c.peer_acked-1.given.0.0 c.peer_acked-1.given.0.1.0 = learn u32_says c.u32_at.ensures c.peer_acked-1.given.1 in peer-acked-read)) in peer-acked-took)))).so ((let peer-read-took : Took u32 (c.args.row.now) ((field-yes (start).so ((let peer-acked-took : Took u32 (c.args.row.now) (c.args.at) c.peer_acked-1.given.0.0 c.peer_acked-1.given.0.1.0 = took _ _ u32 (number-lawful 4) ((let by : Bytes (c.args.row.now) = typed (c.args.row.now) c.shared_slice_known-1.given in by)) ((let peer-acked-read : read_at u32 (c.args.row.now) (c.args.at) ≡ takes c.peer_acked-1.given.0.0 c.peer_acked-1.given.0.1.0 = learn u32_says c.u32_at.ensures c.peer_acked-1.given.1 in peer-acked-read)) in peer-acked-took)))).here c.peer_read-1.given.0.0 c.peer_read-1.given.0.1.0 = took _ _ u32 (number-lawful 4) ((let by : Bytes (c.args.row.now) = typed (c.args.row.now) c.shared_slice_known-1.given in by)) ((let peer-read-read : read_at u32 (c.args.row.now) ((field-yes (start).so ((let peer-acked-took : Took u32 (c.args.row.now) (c.args.at) c.peer_acked-1.given.0.0 c.peer_acked-1.given.0.1.0 = took _ _ u32 (number-lawful 4) ((let by : Bytes (c.args.row.now) = typed (c.args.row.now) c.shared_slice_known-1.given in by)) ((let peer-acked-read : read_at u32 (c.args.row.now) (c.args.at) ≡ takes c.peer_acked-1.given.0.0 c.peer_acked-1.given.0.1.0 = learn u32_says c.u32_at.ensures c.peer_acked-1.given.1 in peer-acked-read)) in peer-acked-took)))).here ≡ takes c.peer_read-1.given.0.0 c.peer_read-1.given.0.1.0 = learn u32_says c.u32_at-2.ensures c.peer_read-1.given.1 in peer-read-read)) in peer-read-took)))).so ((let read-marked-took : Took u32 (c.args.row.now) ((field-yes ((field-yes (start).so ((let peer-acked-took : Took u32 (c.args.row.now) (c.args.at) c.peer_acked-1.given.0.0 c.peer_acked-1.given.0.1.0 = took _ _ u32 (number-lawful 4) ((let by : Bytes (c.args.row.now) = typed (c.args.row.now) c.shared_slice_known-1.given in by)) ((let peer-acked-read : read_at u32 (c.args.row.now) (c.args.at) ≡ takes c.peer_acked-1.given.0.0 c.peer_acked-1.given.0.1.0 = learn u32_says c.u32_at.ensures c.peer_acked-1.given.1 in peer-acked-read)) in peer-acked-took)))).so ((let peer-read-took : Took u32 (c.args.row.now) ((field-yes (start).so ((let peer-acked-took : Took u32 (c.args.row.now) (c.args.at) c.peer_acked-1.given.0.0 c.peer_acked-1.given.0.1.0 = took _ _ u32 (number-lawful 4) ((let by : Bytes (c.args.row.now) = typed (c.args.row.now) c.shared_slice_known-1.given in by)) ((let peer-acked-read : read_at u32 (c.args.row.now) (c.args.at) ≡ takes c.peer_acked-1.given.0.0 c.peer_acked-1.given.0.1.0 = learn u32_says c.u32_at.ensures c.peer_acked-1.given.1 in peer-acked-read)) in peer-acked-took)))).here c.peer_read-1.given.0.0 c.peer_read-1.given.0.1.0 = took _ _ u32 (number-lawful 4) ((let by : Bytes (c.args.row.now) = typed (c.args.row.now) c.shared_slice_known-1.given in by)) ((let peer-read-read : read_at u32 (c.args.row.now) ((field-yes (start).so ((let peer-acked-took : Took u32 (c.args.row.now) (c.args.at) c.peer_acked-1.given.0.0 c.peer_acked-1.given.0.1.0 = took _ _ u32 (number-lawful 4) ((let by : Bytes (c.args.row.now) = typed (c.args.row.now) c.shared_slice_known-1.given in by)) ((let peer-acked-read : read_at u32 (c.args.row.now) (c.args.at) ≡ takes c.peer_acked-1.given.0.0 c.peer_acked-1.given.0.1.0 = learn u32_says c.u32_at.ensures c.peer_acked-1.given.1 in peer-acked-read)) in peer-acked-took)))).here ≡ takes c.peer_read-1.given.0.0 c.peer_read-1.given.0.1.0 = learn u32_says c.u32_at-2.ensures c.peer_read-1.given.1 in peer-read-read)) in peer-read-took)))).here c.read_marked-1.given.0.0 c.read_marked-1.given.0.1.0 = took _ _ u32 (number-lawful 4) ((let by : Bytes (c.args.row.now) = typed (c.args.row.now) c.shared_slice_known-1.given in by)) ((let read-marked-read : read_at u32 (c.args.row.now) ((field-yes ((field-yes (start).so ((let peer-acked-took : Took u32 (c.args.row.now) (c.args.at) c.peer_acked-1.given.0.0 c.peer_acked-1.given.0.1.0 = took _ _ u32 (number-lawful 4) ((let by : Bytes (c.args.row.now) = typed (c.args.row.now) c.shared_slice_known-1.given in by)) ((let peer-acked-read : read_at u32 (c.args.row.now) (c.args.at) ≡ takes c.peer_acked-1.given.0.0 c.peer_acked-1.given.0.1.0 = learn u32_says c.u32_at.ensures c.peer_acked-1.given.1 in peer-acked-read)) in peer-acked-took)))).so ((let peer-read-took : Took u32 (c.args.row.now) ((field-yes (start).so ((let peer-acked-took : Took u32 (c.args.row.now) (c.args.at) c.peer_acked-1.given.0.0 c.peer_acked-1.given.0.1.0 = took _ _ u32 (number-lawful 4) ((let by : Bytes (c.args.row.now) = typed (c.args.row.now) c.shared_slice_known-1.given in by)) ((let peer-acked-read : read_at u32 (c.args.row.now) (c.args.at) ≡ takes c.peer_acked-1.given.0.0 c.peer_acked-1.given.0.1.0 = learn u32_says c.u32_at.ensures c.peer_acked-1.given.1 in peer-acked-read)) in peer-acked-took)))).here c.peer_read-1.given.0.0 c.peer_read-1.given.0.1.0 = took _ _ u32 (number-lawful 4) ((let by : Bytes (c.args.row.now) = typed (c.args.row.now) c.shared_slice_known-1.given in by)) ((let peer-read-read : read_at u32 (c.args.row.now) ((field-yes (start).so ((let peer-acked-took : Took u32 (c.args.row.now) (c.args.at) c.peer_acked-1.given.0.0 c.peer_acked-1.given.0.1.0 = took _ _ u32 (number-lawful 4) ((let by : Bytes (c.args.row.now) = typed (c.args.row.now) c.shared_slice_known-1.given in by)) ((let peer-acked-read : read_at u32 (c.args.row.now) (c.args.at) ≡ takes c.peer_acked-1.given.0.0 c.peer_acked-1.given.0.1.0 = learn u32_says c.u32_at.ensures c.peer_acked-1.given.1 in peer-acked-read)) in peer-acked-took)))).here ≡ takes c.peer_read-1.given.0.0 c.peer_read-1.given.0.1.0 = learn u32_says c.u32_at-2.ensures c.peer_read-1.given.1 in peer-read-read)) in peer-read-took)))).here ≡ takes c.read_marked-1.given.0.0 c.read_marked-1.given.0.1.0 = learn u32_says c.u32_at-3.ensures c.read_marked-1.given.1 in read-marked-read)) in read-marked-took)))).here ≡ takes c.contiguous-1.given.0.0 c.contiguous-1.given.0.1.0 = learn u32_says c.u32_at-4.ensures c.contiguous-1.given.1 in contiguous-read)) in contiguous-took)))).here (list_in (group range) (c.args.row.now) c.above_field-1.given.0.0) c.above_field-1.given.0.0.next = list-took (group range) range-lawful (c.args.row.now) ((let by : Bytes (c.args.row.now) = typed (c.args.row.now) c.shared_slice_known-1.given in by)) _ c.ranges_at-above_field.ensures c.above_field-1.given.1 in above-took)))).so ((let unacked-took : Took (list u32) (c.args.row.now) ((field-yes ((field-yes ((field-yes ((field-yes ((field-yes (start).so ((let peer-acked-took : Took u32 (c.args.row.now) (c.args.at) c.peer_acked-1.given.0.0 c.peer_acked-1.given.0.1.0 = took _ _ u32 (number-lawful 4) ((let by : Bytes (c.args.row.now) = typed (c.args.row.now) c.shared_slice_known-1.given in by)) ((let peer-acked-read : read_at u32 (c.args.row.now) (c.args.at) ≡ takes c.peer_acked-1.given.0.0 c.peer_acked-1.given.0.1.0 = learn u32_says c.u32_at.ensures c.peer_acked-1.given.1 in peer-acked-read)) in peer-acked-took)))).so ((let peer-read-took : Took u32 (c.args.row.now) ((field-yes (start).so ((let peer-acked-took : Took u32 (c.args.row.now) (c.args.at) c.peer_acked-1.given.0.0 c.peer_acked-1.given.0.1.0 = took _ _ u32 (number-lawful 4) ((let by : Bytes (c.args.row.now) = typed (c.args.row.now) c.shared_slice_known-1.given in by)) ((let peer-acked-read : read_at u32 (c.args.row.now) (c.args.at) ≡ takes c.peer_acked-1.given.0.0 c.peer_acked-1.given.0.1.0 = learn u32_says c.u32_at.ensures c.peer_acked-1.given.1 in peer-acked-read)) in peer-acked-took)))).here c.peer_read-1.given.0.0 c.peer_read-1.given.0.1.0 = took _ _ u32 (number-lawful 4) ((let by : Bytes (c.args.row.now) = typed (c.args.row.now) c.shared_slice_known-1.given in by)) ((let peer-read-read : read_at u32 (c.args.row.now) ((field-yes (start).so ((let peer-acked-took : Took u32 (c.args.row.now) (c.args.at) c.peer_acked-1.given.0.0 c.peer_acked-1.given.0.1.0 = took _ _ u32 (number-lawful 4) ((let by : Bytes (c.args.row.now) = typed (c.args.row.now) c.shared_slice_known-1.given in by)) ((let peer-acked-read : read_at u32 (c.args.row.now) (c.args.at) ≡ takes c.peer_acked-1.given.0.0 c.peer_acked-1.given.0.1.0 = learn u32_says c.u32_at.ensures c.peer_acked-1.given.1 in peer-acked-read)) in peer-acked-took)))).here ≡ takes c.peer_read-1.given.0.0 c.peer_read-1.given.0.1.0 = learn u32_says c.u32_at-2.ensures c.peer_read-1.given.1 in peer-read-read)) in peer-read-took)))).so ((let read-marked-took : Took u32 (c.args.row.now) ((field-yes ((field-yes (start).so ((let peer-acked-took : Took u32 (c.args.row.now) (c.args.at) c.peer_acked-1.given.0.0 c.peer_acked-1.given.0.1.0 = took _ _ u32 (number-lawful 4) ((let by : Bytes (c.args.row.now) = typed (c.args.row.now) c.shared_slice_known-1.given in by)) ((let peer-acked-read : read_at u32 (c.args.row.now) (c.args.at) ≡ takes c.peer_acked-1.given.0.0 c.peer_acked-1.given.0.1.0 = learn u32_says c.u32_at.ensures c.peer_acked-1.given.1 in peer-acked-read)) in peer-acked-took)))).so ((let peer-read-took : Took u32 (c.args.row.now) ((field-yes (start).so ((let peer-acked-took : Took u32 (c.args.row.now) (c.args.at) c.peer_acked-1.given.0.0 c.peer_acked-1.given.0.1.0 = took _ _ u32 (number-lawful 4) ((let by : Bytes (c.args.row.now) = typed (c.args.row.now) c.shared_slice_known-1.given in by)) ((let peer-acked-read : read_at u32 (c.args.row.now) (c.args.at) ≡ takes c.peer_acked-1.given.0.0 c.peer_acked-1.given.0.1.0 = learn u32_says c.u32_at.ensures c.peer_acked-1.given.1 in peer-acked-read)) in peer-acked-took)))).here c.peer_read-1.given.0.0 c.peer_read-1.given.0.1.0 = took _ _ u32 (number-lawful 4) ((let by : Bytes (c.args.row.now) = typed (c.args.row.now) c.shared_slice_known-1.given in by)) ((let peer-read-read : read_at u32 (c.args.row.now) ((field-yes (start).so ((let peer-acked-took : Took u32 (c.args.row.now) (c.args.at) c.peer_acked-1.given.0.0 c.peer_acked-1.given.0.1.0 = took _ _ u32 (number-lawful 4) ((let by : Bytes (c.args.row.now) = typed (c.args.row.now) c.shared_slice_known-1.given in by)) ((let peer-acked-read : read_at u32 (c.args.row.now) (c.args.at) ≡ takes c.peer_acked-1.given.0.0 c.peer_acked-1.given.0.1.0 = learn u32_says c.u32_at.ensures c.peer_acked-1.given.1 in peer-acked-read)) in peer-acked-took)))).here ≡ takes c.peer_read-1.given.0.0 c.peer_read-1.given.0.1.0 = learn u32_says c.u32_at-2.ensures c.peer_read-1.given.1 in peer-read-read)) in peer-read-took)))).here c.read_marked-1.given.0.0 c.read_marked-1.given.0.1.0 = took _ _ u32 (number-lawful 4) ((let by : Bytes (c.args.row.now) = typed (c.args.row.now) c.shared_slice_known-1.given in by)) ((let read-marked-read : read_at u32 (c.args.row.now) ((field-yes ((field-yes (start).so ((let peer-acked-took : Took u32 (c.args.row.now) (c.args.at) c.peer_acked-1.given.0.0 c.peer_acked-1.given.0.1.0 = took _ _ u32 (number-lawful 4) ((let by : Bytes (c.args.row.now) = typed (c.args.row.now) c.shared_slice_known-1.given in by)) ((let peer-acked-read : read_at u32 (c.args.row.now) (c.args.at) ≡ takes c.peer_acked-1.given.0.0 c.peer_acked-1.given.0.1.0 = learn u32_says c.u32_at.ensures c.peer_acked-1.given.1 in peer-acked-read)) in peer-acked-took)))).so ((let peer-read-took : Took u32 (c.args.row.now) ((field-yes (start).so ((let peer-acked-took : Took u32 (c.args.row.now) (c.args.at) c.peer_acked-1.given.0.0 c.peer_acked-1.given.0.1.0 = took _ _ u32 (number-lawful 4) ((let by : Bytes (c.args.row.now) = typed (c.args.row.now) c.shared_slice_known-1.given in by)) ((let peer-acked-read : read_at u32 (c.args.row.now) (c.args.at) ≡ takes c.peer_acked-1.given.0.0 c.peer_acked-1.given.0.1.0 = learn u32_says c.u32_at.ensures c.peer_acked-1.given.1 in peer-acked-read)) in peer-acked-took)))).here c.peer_read-1.given.0.0 c.peer_read-1.given.0.1.0 = took _ _ u32 (number-lawful 4) ((let by : Bytes (c.args.row.now) = typed (c.args.row.now) c.shared_slice_known-1.given in by)) ((let peer-read-read : read_at u32 (c.args.row.now) ((field-yes (start).so ((let peer-acked-took : Took u32 (c.args.row.now) (c.args.at) c.peer_acked-1.given.0.0 c.peer_acked-1.given.0.1.0 = took _ _ u32 (number-lawful 4) ((let by : Bytes (c.args.row.now) = typed (c.args.row.now) c.shared_slice_known-1.given in by)) ((let peer-acked-read : read_at u32 (c.args.row.now) (c.args.at) ≡ takes c.peer_acked-1.given.0.0 c.peer_acked-1.given.0.1.0 = learn u32_says c.u32_at.ensures c.peer_acked-1.given.1 in peer-acked-read)) in peer-acked-took)))).here ≡ takes c.peer_read-1.given.0.0 c.peer_read-1.given.0.1.0 = learn u32_says c.u32_at-2.ensures c.peer_read-1.given.1 in peer-read-read)) in peer-read-took)))).here ≡ takes c.read_marked-1.given.0.0 c.read_marked-1.given.0.1.0 = learn u32_says c.u32_at-3.ensures c.read_marked-1.given.1 in read-marked-read)) in read-marked-took)))).so ((let contiguous-took : Took u32 (c.args.row.now) ((field-yes ((field-yes ((field-yes (start).so ((let peer-acked-took : Took u32 (c.args.row.now) (c.args.at) c.peer_acked-1.given.0.0 c.peer_acked-1.given.0.1.0 = took _ _ u32 (number-lawful 4) ((let by : Bytes (c.args.row.now) = typed (c.args.row.now) c.shared_slice_known-1.given in by)) ((let peer-acked-read : read_at u32 (c.args.row.now) (c.args.at) ≡ takes c.peer_acked-1.given.0.0 c.peer_acked-1.given.0.1.0 = learn u32_says c.u32_at.ensures c.peer_acked-1.given.1 in peer-acked-read)) in peer-acked-took)))).so ((let peer-read-took : Took u32 (c.args.row.now) ((field-yes (start).so ((let peer-acked-took : Took u32 (c.args.row.now) (c.args.at) c.peer_acked-1.given.0.0 c.peer_acked-1.given.0.1.0 = took _ _ u32 (number-lawful 4) ((let by : Bytes (c.args.row.now) = typed (c.args.row.now) c.shared_slice_known-1.given in by)) ((let peer-acked-read : read_at u32 (c.args.row.now) (c.args.at) ≡ takes c.peer_acked-1.given.0.0 c.peer_acked-1.given.0.1.0 = learn u32_says c.u32_at.ensures c.peer_acked-1.given.1 in peer-acked-read)) in peer-acked-took)))).here c.peer_read-1.given.0.0 c.peer_read-1.given.0.1.0 = took _ _ u32 (number-lawful 4) ((let by : Bytes (c.args.row.now) = typed (c.args.row.now) c.shared_slice_known-1.given in by)) ((let peer-read-read : read_at u32 (c.args.row.now) ((field-yes (start).so ((let peer-acked-took : Took u32 (c.args.row.now) (c.args.at) c.peer_acked-1.given.0.0 c.peer_acked-1.given.0.1.0 = took _ _ u32 (number-lawful 4) ((let by : Bytes (c.args.row.now) = typed (c.args.row.now) c.shared_slice_known-1.given in by)) ((let peer-acked-read : read_at u32 (c.args.row.now) (c.args.at) ≡ takes c.peer_acked-1.given.0.0 c.peer_acked-1.given.0.1.0 = learn u32_says c.u32_at.ensures c.peer_acked-1.given.1 in peer-acked-read)) in peer-acked-took)))).here ≡ takes c.peer_read-1.given.0.0 c.peer_read-1.given.0.1.0 = learn u32_says c.u32_at-2.ensures c.peer_read-1.given.1 in peer-read-read)) in peer-read-took)))).so ((let read-marked-took : Took u32 (c.args.row.now) ((field-yes ((field-yes (start).so ((let peer-acked-took : Took u32 (c.args.row.now) (c.args.at) c.peer_acked-1.given.0.0 c.peer_acked-1.given.0.1.0 = took _ _ u32 (number-lawful 4) ((let by : Bytes (c.args.row.now) = typed (c.args.row.now) c.shared_slice_known-1.given in by)) ((let peer-acked-read : read_at u32 (c.args.row.now) (c.args.at) ≡ takes c.peer_acked-1.given.0.0 c.peer_acked-1.given.0.1.0 = learn u32_says c.u32_at.ensures c.peer_acked-1.given.1 in peer-acked-read)) in peer-acked-took)))).so ((let peer-read-took : Took u32 (c.args.row.now) ((field-yes (start).so ((let peer-acked-took : Took u32 (c.args.row.now) (c.args.at) c.peer_acked-1.given.0.0 c.peer_acked-1.given.0.1.0 = took _ _ u32 (number-lawful 4) ((let by : Bytes (c.args.row.now) = typed (c.args.row.now) c.shared_slice_known-1.given in by)) ((let peer-acked-read : read_at u32 (c.args.row.now) (c.args.at) ≡ takes c.peer_acked-1.given.0.0 c.peer_acked-1.given.0.1.0 = learn u32_says c.u32_at.ensures c.peer_acked-1.given.1 in peer-acked-read)) in peer-acked-took)))).here c.peer_read-1.given.0.0 c.peer_read-1.given.0.1.0 = took _ _ u32 (number-lawful 4) ((let by : Bytes (c.args.row.now) = typed (c.args.row.now) c.shared_slice_known-1.given in by)) ((let peer-read-read : read_at u32 (c.args.row.now) ((field-yes (start).so ((let peer-acked-took : Took u32 (c.args.row.now) (c.args.at) c.peer_acked-1.given.0.0 c.peer_acked-1.given.0.1.0 = took _ _ u32 (number-lawful 4) ((let by : Bytes (c.args.row.now) = typed (c.args.row.now) c.shared_slice_known-1.given in by)) ((let peer-acked-read : read_at u32 (c.args.row.now) (c.args.at) ≡ takes c.peer_acked-1.given.0.0 c.peer_acked-1.given.0.1.0 = learn u32_says c.u32_at.ensures c.peer_acked-1.given.1 in peer-acked-read)) in peer-acked-took)))).here ≡ takes c.peer_read-1.given.0.0 c.peer_read-1.given.0.1.0 = learn u32_says c.u32_at-2.ensures c.peer_read-1.given.1 in peer-read-read)) in peer-read-took)))).here c.read_marked-1.given.0.0 c.read_marked-1.given.0.1.0 = took _ _ u32 (number-lawful 4) ((let by : Bytes (c.args.row.now) = typed (c.args.row.now) c.shared_slice_known-1.given in by)) ((let read-marked-read : read_at u32 (c.args.row.now) ((field-yes ((field-yes (start).so ((let peer-acked-took : Took u32 (c.args.row.now) (c.args.at) c.peer_acked-1.given.0.0 c.peer_acked-1.given.0.1.0 = took _ _ u32 (number-lawful 4) ((let by : Bytes (c.args.row.now) = typed (c.args.row.now) c.shared_slice_known-1.given in by)) ((let peer-acked-read : read_at u32 (c.args.row.now) (c.args.at) ≡ takes c.peer_acked-1.given.0.0 c.peer_acked-1.given.0.1.0 = learn u32_says c.u32_at.ensures c.peer_acked-1.given.1 in peer-acked-read)) in peer-acked-took)))).so ((let peer-read-took : Took u32 (c.args.row.now) ((field-yes (start).so ((let peer-acked-took : Took u32 (c.args.row.now) (c.args.at) c.peer_acked-1.given.0.0 c.peer_acked-1.given.0.1.0 = took _ _ u32 (number-lawful 4) ((let by : Bytes (c.args.row.now) = typed (c.args.row.now) c.shared_slice_known-1.given in by)) ((let peer-acked-read : read_at u32 (c.args.row.now) (c.args.at) ≡ takes c.peer_acked-1.given.0.0 c.peer_acked-1.given.0.1.0 = learn u32_says c.u32_at.ensures c.peer_acked-1.given.1 in peer-acked-read)) in peer-acked-took)))).here c.peer_read-1.given.0.0 c.peer_read-1.given.0.1.0 = took _ _ u32 (number-lawful 4) ((let by : Bytes (c.args.row.now) = typed (c.args.row.now) c.shared_slice_known-1.given in by)) ((let peer-read-read : read_at u32 (c.args.row.now) ((field-yes (start).so ((let peer-acked-took : Took u32 (c.args.row.now) (c.args.at) c.peer_acked-1.given.0.0 c.peer_acked-1.given.0.1.0 = took _ _ u32 (number-lawful 4) ((let by : Bytes (c.args.row.now) = typed (c.args.row.now) c.shared_slice_known-1.given in by)) ((let peer-acked-read : read_at u32 (c.args.row.now) (c.args.at) ≡ takes c.peer_acked-1.given.0.0 c.peer_acked-1.given.0.1.0 = learn u32_says c.u32_at.ensures c.peer_acked-1.given.1 in peer-acked-read)) in peer-acked-took)))).here ≡ takes c.peer_read-1.given.0.0 c.peer_read-1.given.0.1.0 = learn u32_says c.u32_at-2.ensures c.peer_read-1.given.1 in peer-read-read)) in peer-read-took)))).here ≡ takes c.read_marked-1.given.0.0 c.read_marked-1.given.0.1.0 = learn u32_says c.u32_at-3.ensures c.read_marked-1.given.1 in read-marked-read)) in read-marked-took)))).here c.contiguous-1.given.0.0 c.contiguous-1.given.0.1.0 = took _ _ u32 (number-lawful 4) ((let by : Bytes (c.args.row.now) = typed (c.args.row.now) c.shared_slice_known-1.given in by)) ((let contiguous-read : read_at u32 (c.args.row.now) ((field-yes ((field-yes ((field-yes (start).so ((let peer-acked-took : Took u32 (c.args.row.now) (c.args.at) c.peer_acked-1.given.0.0 c.peer_acked-1.given.0.1.0 = took _ _ u32 (number-lawful 4) ((let by : Bytes (c.args.row.now) = typed (c.args.row.now) c.shared_slice_known-1.given in by)) ((let peer-acked-read : read_at u32 (c.args.row.now) (c.args.at) ≡ takes c.peer_acked-1.given.0.0 c.peer_acked-1.given.0.1.0 = learn u32_says c.u32_at.ensures c.peer_acked-1.given.1 in peer-acked-read)) in peer-acked-took)))).so ((let peer-read-took : Took u32 (c.args.row.now) ((field-yes (start).so ((let peer-acked-took : Took u32 (c.args.row.now) (c.args.at) c.peer_acked-1.given.0.0 c.peer_acked-1.given.0.1.0 = took _ _ u32 (number-lawful 4) ((let by : Bytes (c.args.row.now) = typed (c.args.row.now) c.shared_slice_known-1.given in by)) ((let peer-acked-read : read_at u32 (c.args.row.now) (c.args.at) ≡ takes c.peer_acked-1.given.0.0 c.peer_acked-1.given.0.1.0 = learn u32_says c.u32_at.ensures c.peer_acked-1.given.1 in peer-acked-read)) in peer-acked-took)))).here c.peer_read-1.given.0.0 c.peer_read-1.given.0.1.0 = took _ _ u32 (number-lawful 4) ((let by : Bytes (c.args.row.now) = typed (c.args.row.now) c.shared_slice_known-1.given in by)) ((let peer-read-read : read_at u32 (c.args.row.now) ((field-yes (start).so ((let peer-acked-took : Took u32 (c.args.row.now) (c.args.at) c.peer_acked-1.given.0.0 c.peer_acked-1.given.0.1.0 = took _ _ u32 (number-lawful 4) ((let by : Bytes (c.args.row.now) = typed (c.args.row.now) c.shared_slice_known-1.given in by)) ((let peer-acked-read : read_at u32 (c.args.row.now) (c.args.at) ≡ takes c.peer_acked-1.given.0.0 c.peer_acked-1.given.0.1.0 = learn u32_says c.u32_at.ensures c.peer_acked-1.given.1 in peer-acked-read)) in peer-acked-took)))).here ≡ takes c.peer_read-1.given.0.0 c.peer_read-1.given.0.1.0 = learn u32_says c.u32_at-2.ensures c.peer_read-1.given.1 in peer-read-read)) in peer-read-took)))).so ((let read-marked-took : Took u32 (c.args.row.now) ((field-yes ((field-yes (start).so ((let peer-acked-took : Took u32 (c.args.row.now) (c.args.at) c.peer_acked-1.given.0.0 c.peer_acked-1.given.0.1.0 = took _ _ u32 (number-lawful 4) ((let by : Bytes (c.args.row.now) = typed (c.args.row.now) c.shared_slice_known-1.given in by)) ((let peer-acked-read : read_at u32 (c.args.row.now) (c.args.at) ≡ takes c.peer_acked-1.given.0.0 c.peer_acked-1.given.0.1.0 = learn u32_says c.u32_at.ensures c.peer_acked-1.given.1 in peer-acked-read)) in peer-acked-took)))).so ((let peer-read-took : Took u32 (c.args.row.now) ((field-yes (start).so ((let peer-acked-took : Took u32 (c.args.row.now) (c.args.at) c.peer_acked-1.given.0.0 c.peer_acked-1.given.0.1.0 = took _ _ u32 (number-lawful 4) ((let by : Bytes (c.args.row.now) = typed (c.args.row.now) c.shared_slice_known-1.given in by)) ((let peer-acked-read : read_at u32 (c.args.row.now) (c.args.at) ≡ takes c.peer_acked-1.given.0.0 c.peer_acked-1.given.0.1.0 = learn u32_says c.u32_at.ensures c.peer_acked-1.given.1 in peer-acked-read)) in peer-acked-took)))).here c.peer_read-1.given.0.0 c.peer_read-1.given.0.1.0 = took _ _ u32 (number-lawful 4) ((let by : Bytes (c.args.row.now) = typed (c.args.row.now) c.shared_slice_known-1.given in by)) ((let peer-read-read : read_at u32 (c.args.row.now) ((field-yes (start).so ((let peer-acked-took : Took u32 (c.args.row.now) (c.args.at) c.peer_acked-1.given.0.0 c.peer_acked-1.given.0.1.0 = took _ _ u32 (number-lawful 4) ((let by : Bytes (c.args.row.now) = typed (c.args.row.now) c.shared_slice_known-1.given in by)) ((let peer-acked-read : read_at u32 (c.args.row.now) (c.args.at) ≡ takes c.peer_acked-1.given.0.0 c.peer_acked-1.given.0.1.0 = learn u32_says c.u32_at.ensures c.peer_acked-1.given.1 in peer-acked-read)) in peer-acked-took)))).here ≡ takes c.peer_read-1.given.0.0 c.peer_read-1.given.0.1.0 = learn u32_says c.u32_at-2.ensures c.peer_read-1.given.1 in peer-read-read)) in peer-read-took)))).here c.read_marked-1.given.0.0 c.read_marked-1.given.0.1.0 = took _ _ u32 (number-lawful 4) ((let by : Bytes (c.args.row.now) = typed (c.args.row.now) c.shared_slice_known-1.given in by)) ((let read-marked-read : read_at u32 (c.args.row.now) ((field-yes ((field-yes (start).so ((let peer-acked-took : Took u32 (c.args.row.now) (c.args.at) c.peer_acked-1.given.0.0 c.peer_acked-1.given.0.1.0 = took _ _ u32 (number-lawful 4) ((let by : Bytes (c.args.row.now) = typed (c.args.row.now) c.shared_slice_known-1.given in by)) ((let peer-acked-read : read_at u32 (c.args.row.now) (c.args.at) ≡ takes c.peer_acked-1.given.0.0 c.peer_acked-1.given.0.1.0 = learn u32_says c.u32_at.ensures c.peer_acked-1.given.1 in peer-acked-read)) in peer-acked-took)))).so ((let peer-read-took : Took u32 (c.args.row.now) ((field-yes (start).so ((let peer-acked-took : Took u32 (c.args.row.now) (c.args.at) c.peer_acked-1.given.0.0 c.peer_acked-1.given.0.1.0 = took _ _ u32 (number-lawful 4) ((let by : Bytes (c.args.row.now) = typed (c.args.row.now) c.shared_slice_known-1.given in by)) ((let peer-acked-read : read_at u32 (c.args.row.now) (c.args.at) ≡ takes c.peer_acked-1.given.0.0 c.peer_acked-1.given.0.1.0 = learn u32_says c.u32_at.ensures c.peer_acked-1.given.1 in peer-acked-read)) in peer-acked-took)))).here c.peer_read-1.given.0.0 c.peer_read-1.given.0.1.0 = took _ _ u32 (number-lawful 4) ((let by : Bytes (c.args.row.now) = typed (c.args.row.now) c.shared_slice_known-1.given in by)) ((let peer-read-read : read_at u32 (c.args.row.now) ((field-yes (start).so ((let peer-acked-took : Took u32 (c.args.row.now) (c.args.at) c.peer_acked-1.given.0.0 c.peer_acked-1.given.0.1.0 = took _ _ u32 (number-lawful 4) ((let by : Bytes (c.args.row.now) = typed (c.args.row.now) c.shared_slice_known-1.given in by)) ((let peer-acked-read : read_at u32 (c.args.row.now) (c.args.at) ≡ takes c.peer_acked-1.given.0.0 c.peer_acked-1.given.0.1.0 = learn u32_says c.u32_at.ensures c.peer_acked-1.given.1 in peer-acked-read)) in peer-acked-took)))).here ≡ takes c.peer_read-1.given.0.0 c.peer_read-1.given.0.1.0 = learn u32_says c.u32_at-2.ensures c.peer_read-1.given.1 in peer-read-read)) in peer-read-took)))).here ≡ takes c.read_marked-1.given.0.0 c.read_marked-1.given.0.1.0 = learn u32_says c.u32_at-3.ensures c.read_marked-1.given.1 in read-marked-read)) in read-marked-took)))).here ≡ takes c.contiguous-1.given.0.0 c.contiguous-1.given.0.1.0 = learn u32_says c.u32_at-4.ensures c.contiguous-1.given.1 in contiguous-read)) in contiguous-took)))).so ((let above-took : Took (list (group range)) (c.args.row.now) ((field-yes ((field-yes ((field-yes ((field-yes (start).so ((let peer-acked-took : Took u32 (c.args.row.now) (c.args.at) c.peer_acked-1.given.0.0 c.peer_acked-1.given.0.1.0 = took _ _ u32 (number-lawful 4) ((let by : Bytes (c.args.row.now) = typed (c.args.row.now) c.shared_slice_known-1.given in by)) ((let peer-acked-read : read_at u32 (c.args.row.now) (c.args.at) ≡ takes c.peer_acked-1.given.0.0 c.peer_acked-1.given.0.1.0 = learn u32_says c.u32_at.ensures c.peer_acked-1.given.1 in peer-acked-read)) in peer-acked-took)))).so ((let peer-read-took : Took u32 (c.args.row.now) ((field-yes (start).so ((let peer-acked-took : Took u32 (c.args.row.now) (c.args.at) c.peer_acked-1.given.0.0 c.peer_acked-1.given.0.1.0 = took _ _ u32 (number-lawful 4) ((let by : Bytes (c.args.row.now) = typed (c.args.row.now) c.shared_slice_known-1.given in by)) ((let peer-acked-read : read_at u32 (c.args.row.now) (c.args.at) ≡ takes c.peer_acked-1.given.0.0 c.peer_acked-1.given.0.1.0 = learn u32_says c.u32_at.ensures c.peer_acked-1.given.1 in peer-acked-read)) in peer-acked-took)))).here c.peer_read-1.given.0.0 c.peer_read-1.given.0.1.0 = took _ _ u32 (number-lawful 4) ((let by : Bytes (c.args.row.now) = typed (c.args.row.now) c.shared_slice_known-1.given in by)) ((let peer-read-read : read_at u32 (c.args.row.now) ((field-yes (start).so ((let peer-acked-took : Took u32 (c.args.row.now) (c.args.at) c.peer_acked-1.given.0.0 c.peer_acked-1.given.0.1.0 = took _ _ u32 (number-lawful 4) ((let by : Bytes (c.args.row.now) = typed (c.args.row.now) c.shared_slice_known-1.given in by)) ((let peer-acked-read : read_at u32 (c.args.row.now) (c.args.at) ≡ takes c.peer_acked-1.given.0.0 c.peer_acked-1.given.0.1.0 = learn u32_says c.u32_at.ensures c.peer_acked-1.given.1 in peer-acked-read)) in peer-acked-took)))).here ≡ takes c.peer_read-1.given.0.0 c.peer_read-1.given.0.1.0 = learn u32_says c.u32_at-2.ensures c.peer_read-1.given.1 in peer-read-read)) in peer-read-took)))).so ((let read-marked-took : Took u32 (c.args.row.now) ((field-yes ((field-yes (start).so ((let peer-acked-took : Took u32 (c.args.row.now) (c.args.at) c.peer_acked-1.given.0.0 c.peer_acked-1.given.0.1.0 = took _ _ u32 (number-lawful 4) ((let by : Bytes (c.args.row.now) = typed (c.args.row.now) c.shared_slice_known-1.given in by)) ((let peer-acked-read : read_at u32 (c.args.row.now) (c.args.at) ≡ takes c.peer_acked-1.given.0.0 c.peer_acked-1.given.0.1.0 = learn u32_says c.u32_at.ensures c.peer_acked-1.given.1 in peer-acked-read)) in peer-acked-took)))).so ((let peer-read-took : Took u32 (c.args.row.now) ((field-yes (start).so ((let peer-acked-took : Took u32 (c.args.row.now) (c.args.at) c.peer_acked-1.given.0.0 c.peer_acked-1.given.0.1.0 = took _ _ u32 (number-lawful 4) ((let by : Bytes (c.args.row.now) = typed (c.args.row.now) c.shared_slice_known-1.given in by)) ((let peer-acked-read : read_at u32 (c.args.row.now) (c.args.at) ≡ takes c.peer_acked-1.given.0.0 c.peer_acked-1.given.0.1.0 = learn u32_says c.u32_at.ensures c.peer_acked-1.given.1 in peer-acked-read)) in peer-acked-took)))).here c.peer_read-1.given.0.0 c.peer_read-1.given.0.1.0 = took _ _ u32 (number-lawful 4) ((let by : Bytes (c.args.row.now) = typed (c.args.row.now) c.shared_slice_known-1.given in by)) ((let peer-read-read : read_at u32 (c.args.row.now) ((field-yes (start).so ((let peer-acked-took : Took u32 (c.args.row.now) (c.args.at) c.peer_acked-1.given.0.0 c.peer_acked-1.given.0.1.0 = took _ _ u32 (number-lawful 4) ((let by : Bytes (c.args.row.now) = typed (c.args.row.now) c.shared_slice_known-1.given in by)) ((let peer-acked-read : read_at u32 (c.args.row.now) (c.args.at) ≡ takes c.peer_acked-1.given.0.0 c.peer_acked-1.given.0.1.0 = learn u32_says c.u32_at.ensures c.peer_acked-1.given.1 in peer-acked-read)) in peer-acked-took)))).here ≡ takes c.peer_read-1.given.0.0 c.peer_read-1.given.0.1.0 = learn u32_says c.u32_at-2.ensures c.peer_read-1.given.1 in peer-read-read)) in peer-read-took)))).here c.read_marked-1.given.0.0 c.read_marked-1.given.0.1.0 = took _ _ u32 (number-lawful 4) ((let by : Bytes (c.args.row.now) = typed (c.args.row.now) c.shared_slice_known-1.given in by)) ((let read-marked-read : read_at u32 (c.args.row.now) ((field-yes ((field-yes (start).so ((let peer-acked-took : Took u32 (c.args.row.now) (c.args.at) c.peer_acked-1.given.0.0 c.peer_acked-1.given.0.1.0 = took _ _ u32 (number-lawful 4) ((let by : Bytes (c.args.row.now) = typed (c.args.row.now) c.shared_slice_known-1.given in by)) ((let peer-acked-read : read_at u32 (c.args.row.now) (c.args.at) ≡ takes c.peer_acked-1.given.0.0 c.peer_acked-1.given.0.1.0 = learn u32_says c.u32_at.ensures c.peer_acked-1.given.1 in peer-acked-read)) in peer-acked-took)))).so ((let peer-read-took : Took u32 (c.args.row.now) ((field-yes (start).so ((let peer-acked-took : Took u32 (c.args.row.now) (c.args.at) c.peer_acked-1.given.0.0 c.peer_acked-1.given.0.1.0 = took _ _ u32 (number-lawful 4) ((let by : Bytes (c.args.row.now) = typed (c.args.row.now) c.shared_slice_known-1.given in by)) ((let peer-acked-read : read_at u32 (c.args.row.now) (c.args.at) ≡ takes c.peer_acked-1.given.0.0 c.peer_acked-1.given.0.1.0 = learn u32_says c.u32_at.ensures c.peer_acked-1.given.1 in peer-acked-read)) in peer-acked-took)))).here c.peer_read-1.given.0.0 c.peer_read-1.given.0.1.0 = took _ _ u32 (number-lawful 4) ((let by : Bytes (c.args.row.now) = typed (c.args.row.now) c.shared_slice_known-1.given in by)) ((let peer-read-read : read_at u32 (c.args.row.now) ((field-yes (start).so ((let peer-acked-took : Took u32 (c.args.row.now) (c.args.at) c.peer_acked-1.given.0.0 c.peer_acked-1.given.0.1.0 = took _ _ u32 (number-lawful 4) ((let by : Bytes (c.args.row.now) = typed (c.args.row.now) c.shared_slice_known-1.given in by)) ((let peer-acked-read : read_at u32 (c.args.row.now) (c.args.at) ≡ takes c.peer_acked-1.given.0.0 c.peer_acked-1.given.0.1.0 = learn u32_says c.u32_at.ensures c.peer_acked-1.given.1 in peer-acked-read)) in peer-acked-took)))).here ≡ takes c.peer_read-1.given.0.0 c.peer_read-1.given.0.1.0 = learn u32_says c.u32_at-2.ensures c.peer_read-1.given.1 in peer-read-read)) in peer-read-took)))).here ≡ takes c.read_marked-1.given.0.0 c.read_marked-1.given.0.1.0 = learn u32_says c.u32_at-3.ensures c.read_marked-1.given.1 in read-marked-read)) in read-marked-took)))).so ((let contiguous-took : Took u32 (c.args.row.now) ((field-yes ((field-yes ((field-yes (start).so ((let peer-acked-took : Took u32 (c.args.row.now) (c.args.at) c.peer_acked-1.given.0.0 c.peer_acked-1.given.0.1.0 = took _ _ u32 (number-lawful 4) ((let by : Bytes (c.args.row.now) = typed (c.args.row.now) c.shared_slice_known-1.given in by)) ((let peer-acked-read : read_at u32 (c.args.row.now) (c.args.at) ≡ takes c.peer_acked-1.given.0.0 c.peer_acked-1.given.0.1.0 = learn u32_says c.u32_at.ensures c.peer_acked-1.given.1 in peer-acked-read)) in peer-acked-took)))).so ((let peer-read-took : Took u32 (c.args.row.now) ((field-yes (start).so ((let peer-acked-took : Took u32 (c.args.row.now) (c.args.at) c.peer_acked-1.given.0.0 c.peer_acked-1.given.0.1.0 = took _ _ u32 (number-lawful 4) ((let by : Bytes (c.args.row.now) = typed (c.args.row.now) c.shared_slice_known-1.given in by)) ((let peer-acked-read : read_at u32 (c.args.row.now) (c.args.at) ≡ takes c.peer_acked-1.given.0.0 c.peer_acked-1.given.0.1.0 = learn u32_says c.u32_at.ensures c.peer_acked-1.given.1 in peer-acked-read)) in peer-acked-took)))).here c.peer_read-1.given.0.0 c.peer_read-1.given.0.1.0 = took _ _ u32 (number-lawful 4) ((let by : Bytes (c.args.row.now) = typed (c.args.row.now) c.shared_slice_known-1.given in by)) ((let peer-read-read : read_at u32 (c.args.row.now) ((field-yes (start).so ((let peer-acked-took : Took u32 (c.args.row.now) (c.args.at) c.peer_acked-1.given.0.0 c.peer_acked-1.given.0.1.0 = took _ _ u32 (number-lawful 4) ((let by : Bytes (c.args.row.now) = typed (c.args.row.now) c.shared_slice_known-1.given in by)) ((let peer-acked-read : read_at u32 (c.args.row.now) (c.args.at) ≡ takes c.peer_acked-1.given.0.0 c.peer_acked-1.given.0.1.0 = learn u32_says c.u32_at.ensures c.peer_acked-1.given.1 in peer-acked-read)) in peer-acked-took)))).here ≡ takes c.peer_read-1.given.0.0 c.peer_read-1.given.0.1.0 = learn u32_says c.u32_at-2.ensures c.peer_read-1.given.1 in peer-read-read)) in peer-read-took)))).so ((let read-marked-took : Took u32 (c.args.row.now) ((field-yes ((field-yes (start).so ((let peer-acked-took : Took u32 (c.args.row.now) (c.args.at) c.peer_acked-1.given.0.0 c.peer_acked-1.given.0.1.0 = took _ _ u32 (number-lawful 4) ((let by : Bytes (c.args.row.now) = typed (c.args.row.now) c.shared_slice_known-1.given in by)) ((let peer-acked-read : read_at u32 (c.args.row.now) (c.args.at) ≡ takes c.peer_acked-1.given.0.0 c.peer_acked-1.given.0.1.0 = learn u32_says c.u32_at.ensures c.peer_acked-1.given.1 in peer-acked-read)) in peer-acked-took)))).so ((let peer-read-took : Took u32 (c.args.row.now) ((field-yes (start).so ((let peer-acked-took : Took u32 (c.args.row.now) (c.args.at) c.peer_acked-1.given.0.0 c.peer_acked-1.given.0.1.0 = took _ _ u32 (number-lawful 4) ((let by : Bytes (c.args.row.now) = typed (c.args.row.now) c.shared_slice_known-1.given in by)) ((let peer-acked-read : read_at u32 (c.args.row.now) (c.args.at) ≡ takes c.peer_acked-1.given.0.0 c.peer_acked-1.given.0.1.0 = learn u32_says c.u32_at.ensures c.peer_acked-1.given.1 in peer-acked-read)) in peer-acked-took)))).here c.peer_read-1.given.0.0 c.peer_read-1.given.0.1.0 = took _ _ u32 (number-lawful 4) ((let by : Bytes (c.args.row.now) = typed (c.args.row.now) c.shared_slice_known-1.given in by)) ((let peer-read-read : read_at u32 (c.args.row.now) ((field-yes (start).so ((let peer-acked-took : Took u32 (c.args.row.now) (c.args.at) c.peer_acked-1.given.0.0 c.peer_acked-1.given.0.1.0 = took _ _ u32 (number-lawful 4) ((let by : Bytes (c.args.row.now) = typed (c.args.row.now) c.shared_slice_known-1.given in by)) ((let peer-acked-read : read_at u32 (c.args.row.now) (c.args.at) ≡ takes c.peer_acked-1.given.0.0 c.peer_acked-1.given.0.1.0 = learn u32_says c.u32_at.ensures c.peer_acked-1.given.1 in peer-acked-read)) in peer-acked-took)))).here ≡ takes c.peer_read-1.given.0.0 c.peer_read-1.given.0.1.0 = learn u32_says c.u32_at-2.ensures c.peer_read-1.given.1 in peer-read-read)) in peer-read-took)))).here c.read_marked-1.given.0.0 c.read_marked-1.given.0.1.0 = took _ _ u32 (number-lawful 4) ((let by : Bytes (c.args.row.now) = typed (c.args.row.now) c.shared_slice_known-1.given in by)) ((let read-marked-read : read_at u32 (c.args.row.now) ((field-yes ((field-yes (start).so ((let peer-acked-took : Took u32 (c.args.row.now) (c.args.at) c.peer_acked-1.given.0.0 c.peer_acked-1.given.0.1.0 = took _ _ u32 (number-lawful 4) ((let by : Bytes (c.args.row.now) = typed (c.args.row.now) c.shared_slice_known-1.given in by)) ((let peer-acked-read : read_at u32 (c.args.row.now) (c.args.at) ≡ takes c.peer_acked-1.given.0.0 c.peer_acked-1.given.0.1.0 = learn u32_says c.u32_at.ensures c.peer_acked-1.given.1 in peer-acked-read)) in peer-acked-took)))).so ((let peer-read-took : Took u32 (c.args.row.now) ((field-yes (start).so ((let peer-acked-took : Took u32 (c.args.row.now) (c.args.at) c.peer_acked-1.given.0.0 c.peer_acked-1.given.0.1.0 = took _ _ u32 (number-lawful 4) ((let by : Bytes (c.args.row.now) = typed (c.args.row.now) c.shared_slice_known-1.given in by)) ((let peer-acked-read : read_at u32 (c.args.row.now) (c.args.at) ≡ takes c.peer_acked-1.given.0.0 c.peer_acked-1.given.0.1.0 = learn u32_says c.u32_at.ensures c.peer_acked-1.given.1 in peer-acked-read)) in peer-acked-took)))).here c.peer_read-1.given.0.0 c.peer_read-1.given.0.1.0 = took _ _ u32 (number-lawful 4) ((let by : Bytes (c.args.row.now) = typed (c.args.row.now) c.shared_slice_known-1.given in by)) ((let peer-read-read : read_at u32 (c.args.row.now) ((field-yes (start).so ((let peer-acked-took : Took u32 (c.args.row.now) (c.args.at) c.peer_acked-1.given.0.0 c.peer_acked-1.given.0.1.0 = took _ _ u32 (number-lawful 4) ((let by : Bytes (c.args.row.now) = typed (c.args.row.now) c.shared_slice_known-1.given in by)) ((let peer-acked-read : read_at u32 (c.args.row.now) (c.args.at) ≡ takes c.peer_acked-1.given.0.0 c.peer_acked-1.given.0.1.0 = learn u32_says c.u32_at.ensures c.peer_acked-1.given.1 in peer-acked-read)) in peer-acked-took)))).here ≡ takes c.peer_read-1.given.0.0 c.peer_read-1.given.0.1.0 = learn u32_says c.u32_at-2.ensures c.peer_read-1.given.1 in peer-read-read)) in peer-read-took)))).here ≡ takes c.read_marked-1.given.0.0 c.read_marked-1.given.0.1.0 = learn u32_says c.u32_at-3.ensures c.read_marked-1.given.1 in read-marked-read)) in read-marked-took)))).here c.contiguous-1.given.0.0 c.contiguous-1.given.0.1.0 = took _ _ u32 (number-lawful 4) ((let by : Bytes (c.args.row.now) = typed (c.args.row.now) c.shared_slice_known-1.given in by)) ((let contiguous-read : read_at u32 (c.args.row.now) ((field-yes ((field-yes ((field-yes (start).so ((let peer-acked-took : Took u32 (c.args.row.now) (c.args.at) c.peer_acked-1.given.0.0 c.peer_acked-1.given.0.1.0 = took _ _ u32 (number-lawful 4) ((let by : Bytes (c.args.row.now) = typed (c.args.row.now) c.shared_slice_known-1.given in by)) ((let peer-acked-read : read_at u32 (c.args.row.now) (c.args.at) ≡ takes c.peer_acked-1.given.0.0 c.peer_acked-1.given.0.1.0 = learn u32_says c.u32_at.ensures c.peer_acked-1.given.1 in peer-acked-read)) in peer-acked-took)))).so ((let peer-read-took : Took u32 (c.args.row.now) ((field-yes (start).so ((let peer-acked-took : Took u32 (c.args.row.now) (c.args.at) c.peer_acked-1.given.0.0 c.peer_acked-1.given.0.1.0 = took _ _ u32 (number-lawful 4) ((let by : Bytes (c.args.row.now) = typed (c.args.row.now) c.shared_slice_known-1.given in by)) ((let peer-acked-read : read_at u32 (c.args.row.now) (c.args.at) ≡ takes c.peer_acked-1.given.0.0 c.peer_acked-1.given.0.1.0 = learn u32_says c.u32_at.ensures c.peer_acked-1.given.1 in peer-acked-read)) in peer-acked-took)))).here c.peer_read-1.given.0.0 c.peer_read-1.given.0.1.0 = took _ _ u32 (number-lawful 4) ((let by : Bytes (c.args.row.now) = typed (c.args.row.now) c.shared_slice_known-1.given in by)) ((let peer-read-read : read_at u32 (c.args.row.now) ((field-yes (start).so ((let peer-acked-took : Took u32 (c.args.row.now) (c.args.at) c.peer_acked-1.given.0.0 c.peer_acked-1.given.0.1.0 = took _ _ u32 (number-lawful 4) ((let by : Bytes (c.args.row.now) = typed (c.args.row.now) c.shared_slice_known-1.given in by)) ((let peer-acked-read : read_at u32 (c.args.row.now) (c.args.at) ≡ takes c.peer_acked-1.given.0.0 c.peer_acked-1.given.0.1.0 = learn u32_says c.u32_at.ensures c.peer_acked-1.given.1 in peer-acked-read)) in peer-acked-took)))).here ≡ takes c.peer_read-1.given.0.0 c.peer_read-1.given.0.1.0 = learn u32_says c.u32_at-2.ensures c.peer_read-1.given.1 in peer-read-read)) in peer-read-took)))).so ((let read-marked-took : Took u32 (c.args.row.now) ((field-yes ((field-yes (start).so ((let peer-acked-took : Took u32 (c.args.row.now) (c.args.at) c.peer_acked-1.given.0.0 c.peer_acked-1.given.0.1.0 = took _ _ u32 (number-lawful 4) ((let by : Bytes (c.args.row.now) = typed (c.args.row.now) c.shared_slice_known-1.given in by)) ((let peer-acked-read : read_at u32 (c.args.row.now) (c.args.at) ≡ takes c.peer_acked-1.given.0.0 c.peer_acked-1.given.0.1.0 = learn u32_says c.u32_at.ensures c.peer_acked-1.given.1 in peer-acked-read)) in peer-acked-took)))).so ((let peer-read-took : Took u32 (c.args.row.now) ((field-yes (start).so ((let peer-acked-took : Took u32 (c.args.row.now) (c.args.at) c.peer_acked-1.given.0.0 c.peer_acked-1.given.0.1.0 = took _ _ u32 (number-lawful 4) ((let by : Bytes (c.args.row.now) = typed (c.args.row.now) c.shared_slice_known-1.given in by)) ((let peer-acked-read : read_at u32 (c.args.row.now) (c.args.at) ≡ takes c.peer_acked-1.given.0.0 c.peer_acked-1.given.0.1.0 = learn u32_says c.u32_at.ensures c.peer_acked-1.given.1 in peer-acked-read)) in peer-acked-took)))).here c.peer_read-1.given.0.0 c.peer_read-1.given.0.1.0 = took _ _ u32 (number-lawful 4) ((let by : Bytes (c.args.row.now) = typed (c.args.row.now) c.shared_slice_known-1.given in by)) ((let peer-read-read : read_at u32 (c.args.row.now) ((field-yes (start).so ((let peer-acked-took : Took u32 (c.args.row.now) (c.args.at) c.peer_acked-1.given.0.0 c.peer_acked-1.given.0.1.0 = took _ _ u32 (number-lawful 4) ((let by : Bytes (c.args.row.now) = typed (c.args.row.now) c.shared_slice_known-1.given in by)) ((let peer-acked-read : read_at u32 (c.args.row.now) (c.args.at) ≡ takes c.peer_acked-1.given.0.0 c.peer_acked-1.given.0.1.0 = learn u32_says c.u32_at.ensures c.peer_acked-1.given.1 in peer-acked-read)) in peer-acked-took)))).here ≡ takes c.peer_read-1.given.0.0 c.peer_read-1.given.0.1.0 = learn u32_says c.u32_at-2.ensures c.peer_read-1.given.1 in peer-read-read)) in peer-read-took)))).here c.read_marked-1.given.0.0 c.read_marked-1.given.0.1.0 = took _ _ u32 (number-lawful 4) ((let by : Bytes (c.args.row.now) = typed (c.args.row.now) c.shared_slice_known-1.given in by)) ((let read-marked-read : read_at u32 (c.args.row.now) ((field-yes ((field-yes (start).so ((let peer-acked-took : Took u32 (c.args.row.now) (c.args.at) c.peer_acked-1.given.0.0 c.peer_acked-1.given.0.1.0 = took _ _ u32 (number-lawful 4) ((let by : Bytes (c.args.row.now) = typed (c.args.row.now) c.shared_slice_known-1.given in by)) ((let peer-acked-read : read_at u32 (c.args.row.now) (c.args.at) ≡ takes c.peer_acked-1.given.0.0 c.peer_acked-1.given.0.1.0 = learn u32_says c.u32_at.ensures c.peer_acked-1.given.1 in peer-acked-read)) in peer-acked-took)))).so ((let peer-read-took : Took u32 (c.args.row.now) ((field-yes (start).so ((let peer-acked-took : Took u32 (c.args.row.now) (c.args.at) c.peer_acked-1.given.0.0 c.peer_acked-1.given.0.1.0 = took _ _ u32 (number-lawful 4) ((let by : Bytes (c.args.row.now) = typed (c.args.row.now) c.shared_slice_known-1.given in by)) ((let peer-acked-read : read_at u32 (c.args.row.now) (c.args.at) ≡ takes c.peer_acked-1.given.0.0 c.peer_acked-1.given.0.1.0 = learn u32_says c.u32_at.ensures c.peer_acked-1.given.1 in peer-acked-read)) in peer-acked-took)))).here c.peer_read-1.given.0.0 c.peer_read-1.given.0.1.0 = took _ _ u32 (number-lawful 4) ((let by : Bytes (c.args.row.now) = typed (c.args.row.now) c.shared_slice_known-1.given in by)) ((let peer-read-read : read_at u32 (c.args.row.now) ((field-yes (start).so ((let peer-acked-took : Took u32 (c.args.row.now) (c.args.at) c.peer_acked-1.given.0.0 c.peer_acked-1.given.0.1.0 = took _ _ u32 (number-lawful 4) ((let by : Bytes (c.args.row.now) = typed (c.args.row.now) c.shared_slice_known-1.given in by)) ((let peer-acked-read : read_at u32 (c.args.row.now) (c.args.at) ≡ takes c.peer_acked-1.given.0.0 c.peer_acked-1.given.0.1.0 = learn u32_says c.u32_at.ensures c.peer_acked-1.given.1 in peer-acked-read)) in peer-acked-took)))).here ≡ takes c.peer_read-1.given.0.0 c.peer_read-1.given.0.1.0 = learn u32_says c.u32_at-2.ensures c.peer_read-1.given.1 in peer-read-read)) in peer-read-took)))).here ≡ takes c.read_marked-1.given.0.0 c.read_marked-1.given.0.1.0 = learn u32_says c.u32_at-3.ensures c.read_marked-1.given.1 in read-marked-read)) in read-marked-took)))).here ≡ takes c.contiguous-1.given.0.0 c.contiguous-1.given.0.1.0 = learn u32_says c.u32_at-4.ensures c.contiguous-1.given.1 in contiguous-read)) in contiguous-took)))).here (list_in (group range) (c.args.row.now) c.above_field-1.given.0.0) c.above_field-1.given.0.0.next = list-took (group range) range-lawful (c.args.row.now) ((let by : Bytes (c.args.row.now) = typed (c.args.row.now) c.shared_slice_known-1.given in by)) _ c.ranges_at-above_field.ensures c.above_field-1.given.1 in above-took)))).here (list_in u32 (c.args.row.now) c.unacked_field-1.given.0.0) c.unacked_field-1.given.0.0.next = list-took u32 (number-lawful 4) (c.args.row.now) ((let by : Bytes (c.args.row.now) = typed (c.args.row.now) c.shared_slice_known-1.given in by)) _ c.numbers_at-unacked_field.ensures c.unacked_field-1.given.1 in unacked-took)))).here (list_in (group range) (c.args.row.now) c.expired_field-1.given.0.0) = list-starts (group range) range-lawful (c.args.row.now) ((let by : Bytes (c.args.row.now) = typed (c.args.row.now) c.shared_slice_known-1.given in by)) _ c.ranges_at-expired_field.ensures c.expired_field-1.given.1 ((let unacked-took : Took (list u32) (c.args.row.now) ((field-yes ((field-yes ((field-yes ((field-yes ((field-yes (start).so ((let peer-acked-took : Took u32 (c.args.row.now) (c.args.at) c.peer_acked-1.given.0.0 c.peer_acked-1.given.0.1.0 = took _ _ u32 (number-lawful 4) ((let by : Bytes (c.args.row.now) = typed (c.args.row.now) c.shared_slice_known-1.given in by)) ((let peer-acked-read : read_at u32 (c.args.row.now) (c.args.at) ≡ takes c.peer_acked-1.given.0.0 c.peer_acked-1.given.0.1.0 = learn u32_says c.u32_at.ensures c.peer_acked-1.given.1 in peer-acked-read)) in peer-acked-took)))).so ((let peer-read-took : Took u32 (c.args.row.now) ((field-yes (start).so ((let peer-acked-took : Took u32 (c.args.row.now) (c.args.at) c.peer_acked-1.given.0.0 c.peer_acked-1.given.0.1.0 = took _ _ u32 (number-lawful 4) ((let by : Bytes (c.args.row.now) = typed (c.args.row.now) c.shared_slice_known-1.given in by)) ((let peer-acked-read : read_at u32 (c.args.row.now) (c.args.at) ≡ takes c.peer_acked-1.given.0.0 c.peer_acked-1.given.0.1.0 = learn u32_says c.u32_at.ensures c.peer_acked-1.given.1 in peer-acked-read)) in peer-acked-took)))).here c.peer_read-1.given.0.0 c.peer_read-1.given.0.1.0 = took _ _ u32 (number-lawful 4) ((let by : Bytes (c.args.row.now) = typed (c.args.row.now) c.shared_slice_known-1.given in by)) ((let peer-read-read : read_at u32 (c.args.row.now) ((field-yes (start).so ((let peer-acked-took : Took u32 (c.args.row.now) (c.args.at) c.peer_acked-1.given.0.0 c.peer_acked-1.given.0.1.0 = took _ _ u32 (number-lawful 4) ((let by : Bytes (c.args.row.now) = typed (c.args.row.now) c.shared_slice_known-1.given in by)) ((let peer-acked-read : read_at u32 (c.args.row.now) (c.args.at) ≡ takes c.peer_acked-1.given.0.0 c.peer_acked-1.given.0.1.0 = learn u32_says c.u32_at.ensures c.peer_acked-1.given.1 in peer-acked-read)) in peer-acked-took)))).here ≡ takes c.peer_read-1.given.0.0 c.peer_read-1.given.0.1.0 = learn u32_says c.u32_at-2.ensures c.peer_read-1.given.1 in peer-read-read)) in peer-read-took)))).so ((let read-marked-took : Took u32 (c.args.row.now) ((field-yes ((field-yes (start).so ((let peer-acked-took : Took u32 (c.args.row.now) (c.args.at) c.peer_acked-1.given.0.0 c.peer_acked-1.given.0.1.0 = took _ _ u32 (number-lawful 4) ((let by : Bytes (c.args.row.now) = typed (c.args.row.now) c.shared_slice_known-1.given in by)) ((let peer-acked-read : read_at u32 (c.args.row.now) (c.args.at) ≡ takes c.peer_acked-1.given.0.0 c.peer_acked-1.given.0.1.0 = learn u32_says c.u32_at.ensures c.peer_acked-1.given.1 in peer-acked-read)) in peer-acked-took)))).so ((let peer-read-took : Took u32 (c.args.row.now) ((field-yes (start).so ((let peer-acked-took : Took u32 (c.args.row.now) (c.args.at) c.peer_acked-1.given.0.0 c.peer_acked-1.given.0.1.0 = took _ _ u32 (number-lawful 4) ((let by : Bytes (c.args.row.now) = typed (c.args.row.now) c.shared_slice_known-1.given in by)) ((let peer-acked-read : read_at u32 (c.args.row.now) (c.args.at) ≡ takes c.peer_acked-1.given.0.0 c.peer_acked-1.given.0.1.0 = learn u32_says c.u32_at.ensures c.peer_acked-1.given.1 in peer-acked-read)) in peer-acked-took)))).here c.peer_read-1.given.0.0 c.peer_read-1.given.0.1.0 = took _ _ u32 (number-lawful 4) ((let by : Bytes (c.args.row.now) = typed (c.args.row.now) c.shared_slice_known-1.given in by)) ((let peer-read-read : read_at u32 (c.args.row.now) ((field-yes (start).so ((let peer-acked-took : Took u32 (c.args.row.now) (c.args.at) c.peer_acked-1.given.0.0 c.peer_acked-1.given.0.1.0 = took _ _ u32 (number-lawful 4) ((let by : Bytes (c.args.row.now) = typed (c.args.row.now) c.shared_slice_known-1.given in by)) ((let peer-acked-read : read_at u32 (c.args.row.now) (c.args.at) ≡ takes c.peer_acked-1.given.0.0 c.peer_acked-1.given.0.1.0 = learn u32_says c.u32_at.ensures c.peer_acked-1.given.1 in peer-acked-read)) in peer-acked-took)))).here ≡ takes c.peer_read-1.given.0.0 c.peer_read-1.given.0.1.0 = learn u32_says c.u32_at-2.ensures c.peer_read-1.given.1 in peer-read-read)) in peer-read-took)))).here c.read_marked-1.given.0.0 c.read_marked-1.given.0.1.0 = took _ _ u32 (number-lawful 4) ((let by : Bytes (c.args.row.now) = typed (c.args.row.now) c.shared_slice_known-1.given in by)) ((let read-marked-read : read_at u32 (c.args.row.now) ((field-yes ((field-yes (start).so ((let peer-acked-took : Took u32 (c.args.row.now) (c.args.at) c.peer_acked-1.given.0.0 c.peer_acked-1.given.0.1.0 = took _ _ u32 (number-lawful 4) ((let by : Bytes (c.args.row.now) = typed (c.args.row.now) c.shared_slice_known-1.given in by)) ((let peer-acked-read : read_at u32 (c.args.row.now) (c.args.at) ≡ takes c.peer_acked-1.given.0.0 c.peer_acked-1.given.0.1.0 = learn u32_says c.u32_at.ensures c.peer_acked-1.given.1 in peer-acked-read)) in peer-acked-took)))).so ((let peer-read-took : Took u32 (c.args.row.now) ((field-yes (start).so ((let peer-acked-took : Took u32 (c.args.row.now) (c.args.at) c.peer_acked-1.given.0.0 c.peer_acked-1.given.0.1.0 = took _ _ u32 (number-lawful 4) ((let by : Bytes (c.args.row.now) = typed (c.args.row.now) c.shared_slice_known-1.given in by)) ((let peer-acked-read : read_at u32 (c.args.row.now) (c.args.at) ≡ takes c.peer_acked-1.given.0.0 c.peer_acked-1.given.0.1.0 = learn u32_says c.u32_at.ensures c.peer_acked-1.given.1 in peer-acked-read)) in peer-acked-took)))).here c.peer_read-1.given.0.0 c.peer_read-1.given.0.1.0 = took _ _ u32 (number-lawful 4) ((let by : Bytes (c.args.row.now) = typed (c.args.row.now) c.shared_slice_known-1.given in by)) ((let peer-read-read : read_at u32 (c.args.row.now) ((field-yes (start).so ((let peer-acked-took : Took u32 (c.args.row.now) (c.args.at) c.peer_acked-1.given.0.0 c.peer_acked-1.given.0.1.0 = took _ _ u32 (number-lawful 4) ((let by : Bytes (c.args.row.now) = typed (c.args.row.now) c.shared_slice_known-1.given in by)) ((let peer-acked-read : read_at u32 (c.args.row.now) (c.args.at) ≡ takes c.peer_acked-1.given.0.0 c.peer_acked-1.given.0.1.0 = learn u32_says c.u32_at.ensures c.peer_acked-1.given.1 in peer-acked-read)) in peer-acked-took)))).here ≡ takes c.peer_read-1.given.0.0 c.peer_read-1.given.0.1.0 = learn u32_says c.u32_at-2.ensures c.peer_read-1.given.1 in peer-read-read)) in peer-read-took)))).here ≡ takes c.read_marked-1.given.0.0 c.read_marked-1.given.0.1.0 = learn u32_says c.u32_at-3.ensures c.read_marked-1.given.1 in read-marked-read)) in read-marked-took)))).so ((let contiguous-took : Took u32 (c.args.row.now) ((field-yes ((field-yes ((field-yes (start).so ((let peer-acked-took : Took u32 (c.args.row.now) (c.args.at) c.peer_acked-1.given.0.0 c.peer_acked-1.given.0.1.0 = took _ _ u32 (number-lawful 4) ((let by : Bytes (c.args.row.now) = typed (c.args.row.now) c.shared_slice_known-1.given in by)) ((let peer-acked-read : read_at u32 (c.args.row.now) (c.args.at) ≡ takes c.peer_acked-1.given.0.0 c.peer_acked-1.given.0.1.0 = learn u32_says c.u32_at.ensures c.peer_acked-1.given.1 in peer-acked-read)) in peer-acked-took)))).so ((let peer-read-took : Took u32 (c.args.row.now) ((field-yes (start).so ((let peer-acked-took : Took u32 (c.args.row.now) (c.args.at) c.peer_acked-1.given.0.0 c.peer_acked-1.given.0.1.0 = took _ _ u32 (number-lawful 4) ((let by : Bytes (c.args.row.now) = typed (c.args.row.now) c.shared_slice_known-1.given in by)) ((let peer-acked-read : read_at u32 (c.args.row.now) (c.args.at) ≡ takes c.peer_acked-1.given.0.0 c.peer_acked-1.given.0.1.0 = learn u32_says c.u32_at.ensures c.peer_acked-1.given.1 in peer-acked-read)) in peer-acked-took)))).here c.peer_read-1.given.0.0 c.peer_read-1.given.0.1.0 = took _ _ u32 (number-lawful 4) ((let by : Bytes (c.args.row.now) = typed (c.args.row.now) c.shared_slice_known-1.given in by)) ((let peer-read-read : read_at u32 (c.args.row.now) ((field-yes (start).so ((let peer-acked-took : Took u32 (c.args.row.now) (c.args.at) c.peer_acked-1.given.0.0 c.peer_acked-1.given.0.1.0 = took _ _ u32 (number-lawful 4) ((let by : Bytes (c.args.row.now) = typed (c.args.row.now) c.shared_slice_known-1.given in by)) ((let peer-acked-read : read_at u32 (c.args.row.now) (c.args.at) ≡ takes c.peer_acked-1.given.0.0 c.peer_acked-1.given.0.1.0 = learn u32_says c.u32_at.ensures c.peer_acked-1.given.1 in peer-acked-read)) in peer-acked-took)))).here ≡ takes c.peer_read-1.given.0.0 c.peer_read-1.given.0.1.0 = learn u32_says c.u32_at-2.ensures c.peer_read-1.given.1 in peer-read-read)) in peer-read-took)))).so ((let read-marked-took : Took u32 (c.args.row.now) ((field-yes ((field-yes (start).so ((let peer-acked-took : Took u32 (c.args.row.now) (c.args.at) c.peer_acked-1.given.0.0 c.peer_acked-1.given.0.1.0 = took _ _ u32 (number-lawful 4) ((let by : Bytes (c.args.row.now) = typed (c.args.row.now) c.shared_slice_known-1.given in by)) ((let peer-acked-read : read_at u32 (c.args.row.now) (c.args.at) ≡ takes c.peer_acked-1.given.0.0 c.peer_acked-1.given.0.1.0 = learn u32_says c.u32_at.ensures c.peer_acked-1.given.1 in peer-acked-read)) in peer-acked-took)))).so ((let peer-read-took : Took u32 (c.args.row.now) ((field-yes (start).so ((let peer-acked-took : Took u32 (c.args.row.now) (c.args.at) c.peer_acked-1.given.0.0 c.peer_acked-1.given.0.1.0 = took _ _ u32 (number-lawful 4) ((let by : Bytes (c.args.row.now) = typed (c.args.row.now) c.shared_slice_known-1.given in by)) ((let peer-acked-read : read_at u32 (c.args.row.now) (c.args.at) ≡ takes c.peer_acked-1.given.0.0 c.peer_acked-1.given.0.1.0 = learn u32_says c.u32_at.ensures c.peer_acked-1.given.1 in peer-acked-read)) in peer-acked-took)))).here c.peer_read-1.given.0.0 c.peer_read-1.given.0.1.0 = took _ _ u32 (number-lawful 4) ((let by : Bytes (c.args.row.now) = typed (c.args.row.now) c.shared_slice_known-1.given in by)) ((let peer-read-read : read_at u32 (c.args.row.now) ((field-yes (start).so ((let peer-acked-took : Took u32 (c.args.row.now) (c.args.at) c.peer_acked-1.given.0.0 c.peer_acked-1.given.0.1.0 = took _ _ u32 (number-lawful 4) ((let by : Bytes (c.args.row.now) = typed (c.args.row.now) c.shared_slice_known-1.given in by)) ((let peer-acked-read : read_at u32 (c.args.row.now) (c.args.at) ≡ takes c.peer_acked-1.given.0.0 c.peer_acked-1.given.0.1.0 = learn u32_says c.u32_at.ensures c.peer_acked-1.given.1 in peer-acked-read)) in peer-acked-took)))).here ≡ takes c.peer_read-1.given.0.0 c.peer_read-1.given.0.1.0 = learn u32_says c.u32_at-2.ensures c.peer_read-1.given.1 in peer-read-read)) in peer-read-took)))).here c.read_marked-1.given.0.0 c.read_marked-1.given.0.1.0 = took _ _ u32 (number-lawful 4) ((let by : Bytes (c.args.row.now) = typed (c.args.row.now) c.shared_slice_known-1.given in by)) ((let read-marked-read : read_at u32 (c.args.row.now) ((field-yes ((field-yes (start).so ((let peer-acked-took : Took u32 (c.args.row.now) (c.args.at) c.peer_acked-1.given.0.0 c.peer_acked-1.given.0.1.0 = took _ _ u32 (number-lawful 4) ((let by : Bytes (c.args.row.now) = typed (c.args.row.now) c.shared_slice_known-1.given in by)) ((let peer-acked-read : read_at u32 (c.args.row.now) (c.args.at) ≡ takes c.peer_acked-1.given.0.0 c.peer_acked-1.given.0.1.0 = learn u32_says c.u32_at.ensures c.peer_acked-1.given.1 in peer-acked-read)) in peer-acked-took)))).so ((let peer-read-took : Took u32 (c.args.row.now) ((field-yes (start).so ((let peer-acked-took : Took u32 (c.args.row.now) (c.args.at) c.peer_acked-1.given.0.0 c.peer_acked-1.given.0.1.0 = took _ _ u32 (number-lawful 4) ((let by : Bytes (c.args.row.now) = typed (c.args.row.now) c.shared_slice_known-1.given in by)) ((let peer-acked-read : read_at u32 (c.args.row.now) (c.args.at) ≡ takes c.peer_acked-1.given.0.0 c.peer_acked-1.given.0.1.0 = learn u32_says c.u32_at.ensures c.peer_acked-1.given.1 in peer-acked-read)) in peer-acked-took)))).here c.peer_read-1.given.0.0 c.peer_read-1.given.0.1.0 = took _ _ u32 (number-lawful 4) ((let by : Bytes (c.args.row.now) = typed (c.args.row.now) c.shared_slice_known-1.given in by)) ((let peer-read-read : read_at u32 (c.args.row.now) ((field-yes (start).so ((let peer-acked-took : Took u32 (c.args.row.now) (c.args.at) c.peer_acked-1.given.0.0 c.peer_acked-1.given.0.1.0 = took _ _ u32 (number-lawful 4) ((let by : Bytes (c.args.row.now) = typed (c.args.row.now) c.shared_slice_known-1.given in by)) ((let peer-acked-read : read_at u32 (c.args.row.now) (c.args.at) ≡ takes c.peer_acked-1.given.0.0 c.peer_acked-1.given.0.1.0 = learn u32_says c.u32_at.ensures c.peer_acked-1.given.1 in peer-acked-read)) in peer-acked-took)))).here ≡ takes c.peer_read-1.given.0.0 c.peer_read-1.given.0.1.0 = learn u32_says c.u32_at-2.ensures c.peer_read-1.given.1 in peer-read-read)) in peer-read-took)))).here ≡ takes c.read_marked-1.given.0.0 c.read_marked-1.given.0.1.0 = learn u32_says c.u32_at-3.ensures c.read_marked-1.given.1 in read-marked-read)) in read-marked-took)))).here c.contiguous-1.given.0.0 c.contiguous-1.given.0.1.0 = took _ _ u32 (number-lawful 4) ((let by : Bytes (c.args.row.now) = typed (c.args.row.now) c.shared_slice_known-1.given in by)) ((let contiguous-read : read_at u32 (c.args.row.now) ((field-yes ((field-yes ((field-yes (start).so ((let peer-acked-took : Took u32 (c.args.row.now) (c.args.at) c.peer_acked-1.given.0.0 c.peer_acked-1.given.0.1.0 = took _ _ u32 (number-lawful 4) ((let by : Bytes (c.args.row.now) = typed (c.args.row.now) c.shared_slice_known-1.given in by)) ((let peer-acked-read : read_at u32 (c.args.row.now) (c.args.at) ≡ takes c.peer_acked-1.given.0.0 c.peer_acked-1.given.0.1.0 = learn u32_says c.u32_at.ensures c.peer_acked-1.given.1 in peer-acked-read)) in peer-acked-took)))).so ((let peer-read-took : Took u32 (c.args.row.now) ((field-yes (start).so ((let peer-acked-took : Took u32 (c.args.row.now) (c.args.at) c.peer_acked-1.given.0.0 c.peer_acked-1.given.0.1.0 = took _ _ u32 (number-lawful 4) ((let by : Bytes (c.args.row.now) = typed (c.args.row.now) c.shared_slice_known-1.given in by)) ((let peer-acked-read : read_at u32 (c.args.row.now) (c.args.at) ≡ takes c.peer_acked-1.given.0.0 c.peer_acked-1.given.0.1.0 = learn u32_says c.u32_at.ensures c.peer_acked-1.given.1 in peer-acked-read)) in peer-acked-took)))).here c.peer_read-1.given.0.0 c.peer_read-1.given.0.1.0 = took _ _ u32 (number-lawful 4) ((let by : Bytes (c.args.row.now) = typed (c.args.row.now) c.shared_slice_known-1.given in by)) ((let peer-read-read : read_at u32 (c.args.row.now) ((field-yes (start).so ((let peer-acked-took : Took u32 (c.args.row.now) (c.args.at) c.peer_acked-1.given.0.0 c.peer_acked-1.given.0.1.0 = took _ _ u32 (number-lawful 4) ((let by : Bytes (c.args.row.now) = typed (c.args.row.now) c.shared_slice_known-1.given in by)) ((let peer-acked-read : read_at u32 (c.args.row.now) (c.args.at) ≡ takes c.peer_acked-1.given.0.0 c.peer_acked-1.given.0.1.0 = learn u32_says c.u32_at.ensures c.peer_acked-1.given.1 in peer-acked-read)) in peer-acked-took)))).here ≡ takes c.peer_read-1.given.0.0 c.peer_read-1.given.0.1.0 = learn u32_says c.u32_at-2.ensures c.peer_read-1.given.1 in peer-read-read)) in peer-read-took)))).so ((let read-marked-took : Took u32 (c.args.row.now) ((field-yes ((field-yes (start).so ((let peer-acked-took : Took u32 (c.args.row.now) (c.args.at) c.peer_acked-1.given.0.0 c.peer_acked-1.given.0.1.0 = took _ _ u32 (number-lawful 4) ((let by : Bytes (c.args.row.now) = typed (c.args.row.now) c.shared_slice_known-1.given in by)) ((let peer-acked-read : read_at u32 (c.args.row.now) (c.args.at) ≡ takes c.peer_acked-1.given.0.0 c.peer_acked-1.given.0.1.0 = learn u32_says c.u32_at.ensures c.peer_acked-1.given.1 in peer-acked-read)) in peer-acked-took)))).so ((let peer-read-took : Took u32 (c.args.row.now) ((field-yes (start).so ((let peer-acked-took : Took u32 (c.args.row.now) (c.args.at) c.peer_acked-1.given.0.0 c.peer_acked-1.given.0.1.0 = took _ _ u32 (number-lawful 4) ((let by : Bytes (c.args.row.now) = typed (c.args.row.now) c.shared_slice_known-1.given in by)) ((let peer-acked-read : read_at u32 (c.args.row.now) (c.args.at) ≡ takes c.peer_acked-1.given.0.0 c.peer_acked-1.given.0.1.0 = learn u32_says c.u32_at.ensures c.peer_acked-1.given.1 in peer-acked-read)) in peer-acked-took)))).here c.peer_read-1.given.0.0 c.peer_read-1.given.0.1.0 = took _ _ u32 (number-lawful 4) ((let by : Bytes (c.args.row.now) = typed (c.args.row.now) c.shared_slice_known-1.given in by)) ((let peer-read-read : read_at u32 (c.args.row.now) ((field-yes (start).so ((let peer-acked-took : Took u32 (c.args.row.now) (c.args.at) c.peer_acked-1.given.0.0 c.peer_acked-1.given.0.1.0 = took _ _ u32 (number-lawful 4) ((let by : Bytes (c.args.row.now) = typed (c.args.row.now) c.shared_slice_known-1.given in by)) ((let peer-acked-read : read_at u32 (c.args.row.now) (c.args.at) ≡ takes c.peer_acked-1.given.0.0 c.peer_acked-1.given.0.1.0 = learn u32_says c.u32_at.ensures c.peer_acked-1.given.1 in peer-acked-read)) in peer-acked-took)))).here ≡ takes c.peer_read-1.given.0.0 c.peer_read-1.given.0.1.0 = learn u32_says c.u32_at-2.ensures c.peer_read-1.given.1 in peer-read-read)) in peer-read-took)))).here c.read_marked-1.given.0.0 c.read_marked-1.given.0.1.0 = took _ _ u32 (number-lawful 4) ((let by : Bytes (c.args.row.now) = typed (c.args.row.now) c.shared_slice_known-1.given in by)) ((let read-marked-read : read_at u32 (c.args.row.now) ((field-yes ((field-yes (start).so ((let peer-acked-took : Took u32 (c.args.row.now) (c.args.at) c.peer_acked-1.given.0.0 c.peer_acked-1.given.0.1.0 = took _ _ u32 (number-lawful 4) ((let by : Bytes (c.args.row.now) = typed (c.args.row.now) c.shared_slice_known-1.given in by)) ((let peer-acked-read : read_at u32 (c.args.row.now) (c.args.at) ≡ takes c.peer_acked-1.given.0.0 c.peer_acked-1.given.0.1.0 = learn u32_says c.u32_at.ensures c.peer_acked-1.given.1 in peer-acked-read)) in peer-acked-took)))).so ((let peer-read-took : Took u32 (c.args.row.now) ((field-yes (start).so ((let peer-acked-took : Took u32 (c.args.row.now) (c.args.at) c.peer_acked-1.given.0.0 c.peer_acked-1.given.0.1.0 = took _ _ u32 (number-lawful 4) ((let by : Bytes (c.args.row.now) = typed (c.args.row.now) c.shared_slice_known-1.given in by)) ((let peer-acked-read : read_at u32 (c.args.row.now) (c.args.at) ≡ takes c.peer_acked-1.given.0.0 c.peer_acked-1.given.0.1.0 = learn u32_says c.u32_at.ensures c.peer_acked-1.given.1 in peer-acked-read)) in peer-acked-took)))).here c.peer_read-1.given.0.0 c.peer_read-1.given.0.1.0 = took _ _ u32 (number-lawful 4) ((let by : Bytes (c.args.row.now) = typed (c.args.row.now) c.shared_slice_known-1.given in by)) ((let peer-read-read : read_at u32 (c.args.row.now) ((field-yes (start).so ((let peer-acked-took : Took u32 (c.args.row.now) (c.args.at) c.peer_acked-1.given.0.0 c.peer_acked-1.given.0.1.0 = took _ _ u32 (number-lawful 4) ((let by : Bytes (c.args.row.now) = typed (c.args.row.now) c.shared_slice_known-1.given in by)) ((let peer-acked-read : read_at u32 (c.args.row.now) (c.args.at) ≡ takes c.peer_acked-1.given.0.0 c.peer_acked-1.given.0.1.0 = learn u32_says c.u32_at.ensures c.peer_acked-1.given.1 in peer-acked-read)) in peer-acked-took)))).here ≡ takes c.peer_read-1.given.0.0 c.peer_read-1.given.0.1.0 = learn u32_says c.u32_at-2.ensures c.peer_read-1.given.1 in peer-read-read)) in peer-read-took)))).here ≡ takes c.read_marked-1.given.0.0 c.read_marked-1.given.0.1.0 = learn u32_says c.u32_at-3.ensures c.read_marked-1.given.1 in read-marked-read)) in read-marked-took)))).here ≡ takes c.contiguous-1.given.0.0 c.contiguous-1.given.0.1.0 = learn u32_says c.u32_at-4.ensures c.contiguous-1.given.1 in contiguous-read)) in contiguous-took)))).so ((let above-took : Took (list (group range)) (c.args.row.now) ((field-yes ((field-yes ((field-yes ((field-yes (start).so ((let peer-acked-took : Took u32 (c.args.row.now) (c.args.at) c.peer_acked-1.given.0.0 c.peer_acked-1.given.0.1.0 = took _ _ u32 (number-lawful 4) ((let by : Bytes (c.args.row.now) = typed (c.args.row.now) c.shared_slice_known-1.given in by)) ((let peer-acked-read : read_at u32 (c.args.row.now) (c.args.at) ≡ takes c.peer_acked-1.given.0.0 c.peer_acked-1.given.0.1.0 = learn u32_says c.u32_at.ensures c.peer_acked-1.given.1 in peer-acked-read)) in peer-acked-took)))).so ((let peer-read-took : Took u32 (c.args.row.now) ((field-yes (start).so ((let peer-acked-took : Took u32 (c.args.row.now) (c.args.at) c.peer_acked-1.given.0.0 c.peer_acked-1.given.0.1.0 = took _ _ u32 (number-lawful 4) ((let by : Bytes (c.args.row.now) = typed (c.args.row.now) c.shared_slice_known-1.given in by)) ((let peer-acked-read : read_at u32 (c.args.row.now) (c.args.at) ≡ takes c.peer_acked-1.given.0.0 c.peer_acked-1.given.0.1.0 = learn u32_says c.u32_at.ensures c.peer_acked-1.given.1 in peer-acked-read)) in peer-acked-took)))).here c.peer_read-1.given.0.0 c.peer_read-1.given.0.1.0 = took _ _ u32 (number-lawful 4) ((let by : Bytes (c.args.row.now) = typed (c.args.row.now) c.shared_slice_known-1.given in by)) ((let peer-read-read : read_at u32 (c.args.row.now) ((field-yes (start).so ((let peer-acked-took : Took u32 (c.args.row.now) (c.args.at) c.peer_acked-1.given.0.0 c.peer_acked-1.given.0.1.0 = took _ _ u32 (number-lawful 4) ((let by : Bytes (c.args.row.now) = typed (c.args.row.now) c.shared_slice_known-1.given in by)) ((let peer-acked-read : read_at u32 (c.args.row.now) (c.args.at) ≡ takes c.peer_acked-1.given.0.0 c.peer_acked-1.given.0.1.0 = learn u32_says c.u32_at.ensures c.peer_acked-1.given.1 in peer-acked-read)) in peer-acked-took)))).here ≡ takes c.peer_read-1.given.0.0 c.peer_read-1.given.0.1.0 = learn u32_says c.u32_at-2.ensures c.peer_read-1.given.1 in peer-read-read)) in peer-read-took)))).so ((let read-marked-took : Took u32 (c.args.row.now) ((field-yes ((field-yes (start).so ((let peer-acked-took : Took u32 (c.args.row.now) (c.args.at) c.peer_acked-1.given.0.0 c.peer_acked-1.given.0.1.0 = took _ _ u32 (number-lawful 4) ((let by : Bytes (c.args.row.now) = typed (c.args.row.now) c.shared_slice_known-1.given in by)) ((let peer-acked-read : read_at u32 (c.args.row.now) (c.args.at) ≡ takes c.peer_acked-1.given.0.0 c.peer_acked-1.given.0.1.0 = learn u32_says c.u32_at.ensures c.peer_acked-1.given.1 in peer-acked-read)) in peer-acked-took)))).so ((let peer-read-took : Took u32 (c.args.row.now) ((field-yes (start).so ((let peer-acked-took : Took u32 (c.args.row.now) (c.args.at) c.peer_acked-1.given.0.0 c.peer_acked-1.given.0.1.0 = took _ _ u32 (number-lawful 4) ((let by : Bytes (c.args.row.now) = typed (c.args.row.now) c.shared_slice_known-1.given in by)) ((let peer-acked-read : read_at u32 (c.args.row.now) (c.args.at) ≡ takes c.peer_acked-1.given.0.0 c.peer_acked-1.given.0.1.0 = learn u32_says c.u32_at.ensures c.peer_acked-1.given.1 in peer-acked-read)) in peer-acked-took)))).here c.peer_read-1.given.0.0 c.peer_read-1.given.0.1.0 = took _ _ u32 (number-lawful 4) ((let by : Bytes (c.args.row.now) = typed (c.args.row.now) c.shared_slice_known-1.given in by)) ((let peer-read-read : read_at u32 (c.args.row.now) ((field-yes (start).so ((let peer-acked-took : Took u32 (c.args.row.now) (c.args.at) c.peer_acked-1.given.0.0 c.peer_acked-1.given.0.1.0 = took _ _ u32 (number-lawful 4) ((let by : Bytes (c.args.row.now) = typed (c.args.row.now) c.shared_slice_known-1.given in by)) ((let peer-acked-read : read_at u32 (c.args.row.now) (c.args.at) ≡ takes c.peer_acked-1.given.0.0 c.peer_acked-1.given.0.1.0 = learn u32_says c.u32_at.ensures c.peer_acked-1.given.1 in peer-acked-read)) in peer-acked-took)))).here ≡ takes c.peer_read-1.given.0.0 c.peer_read-1.given.0.1.0 = learn u32_says c.u32_at-2.ensures c.peer_read-1.given.1 in peer-read-read)) in peer-read-took)))).here c.read_marked-1.given.0.0 c.read_marked-1.given.0.1.0 = took _ _ u32 (number-lawful 4) ((let by : Bytes (c.args.row.now) = typed (c.args.row.now) c.shared_slice_known-1.given in by)) ((let read-marked-read : read_at u32 (c.args.row.now) ((field-yes ((field-yes (start).so ((let peer-acked-took : Took u32 (c.args.row.now) (c.args.at) c.peer_acked-1.given.0.0 c.peer_acked-1.given.0.1.0 = took _ _ u32 (number-lawful 4) ((let by : Bytes (c.args.row.now) = typed (c.args.row.now) c.shared_slice_known-1.given in by)) ((let peer-acked-read : read_at u32 (c.args.row.now) (c.args.at) ≡ takes c.peer_acked-1.given.0.0 c.peer_acked-1.given.0.1.0 = learn u32_says c.u32_at.ensures c.peer_acked-1.given.1 in peer-acked-read)) in peer-acked-took)))).so ((let peer-read-took : Took u32 (c.args.row.now) ((field-yes (start).so ((let peer-acked-took : Took u32 (c.args.row.now) (c.args.at) c.peer_acked-1.given.0.0 c.peer_acked-1.given.0.1.0 = took _ _ u32 (number-lawful 4) ((let by : Bytes (c.args.row.now) = typed (c.args.row.now) c.shared_slice_known-1.given in by)) ((let peer-acked-read : read_at u32 (c.args.row.now) (c.args.at) ≡ takes c.peer_acked-1.given.0.0 c.peer_acked-1.given.0.1.0 = learn u32_says c.u32_at.ensures c.peer_acked-1.given.1 in peer-acked-read)) in peer-acked-took)))).here c.peer_read-1.given.0.0 c.peer_read-1.given.0.1.0 = took _ _ u32 (number-lawful 4) ((let by : Bytes (c.args.row.now) = typed (c.args.row.now) c.shared_slice_known-1.given in by)) ((let peer-read-read : read_at u32 (c.args.row.now) ((field-yes (start).so ((let peer-acked-took : Took u32 (c.args.row.now) (c.args.at) c.peer_acked-1.given.0.0 c.peer_acked-1.given.0.1.0 = took _ _ u32 (number-lawful 4) ((let by : Bytes (c.args.row.now) = typed (c.args.row.now) c.shared_slice_known-1.given in by)) ((let peer-acked-read : read_at u32 (c.args.row.now) (c.args.at) ≡ takes c.peer_acked-1.given.0.0 c.peer_acked-1.given.0.1.0 = learn u32_says c.u32_at.ensures c.peer_acked-1.given.1 in peer-acked-read)) in peer-acked-took)))).here ≡ takes c.peer_read-1.given.0.0 c.peer_read-1.given.0.1.0 = learn u32_says c.u32_at-2.ensures c.peer_read-1.given.1 in peer-read-read)) in peer-read-took)))).here ≡ takes c.read_marked-1.given.0.0 c.read_marked-1.given.0.1.0 = learn u32_says c.u32_at-3.ensures c.read_marked-1.given.1 in read-marked-read)) in read-marked-took)))).so ((let contiguous-took : Took u32 (c.args.row.now) ((field-yes ((field-yes ((field-yes (start).so ((let peer-acked-took : Took u32 (c.args.row.now) (c.args.at) c.peer_acked-1.given.0.0 c.peer_acked-1.given.0.1.0 = took _ _ u32 (number-lawful 4) ((let by : Bytes (c.args.row.now) = typed (c.args.row.now) c.shared_slice_known-1.given in by)) ((let peer-acked-read : read_at u32 (c.args.row.now) (c.args.at) ≡ takes c.peer_acked-1.given.0.0 c.peer_acked-1.given.0.1.0 = learn u32_says c.u32_at.ensures c.peer_acked-1.given.1 in peer-acked-read)) in peer-acked-took)))).so ((let peer-read-took : Took u32 (c.args.row.now) ((field-yes (start).so ((let peer-acked-took : Took u32 (c.args.row.now) (c.args.at) c.peer_acked-1.given.0.0 c.peer_acked-1.given.0.1.0 = took _ _ u32 (number-lawful 4) ((let by : Bytes (c.args.row.now) = typed (c.args.row.now) c.shared_slice_known-1.given in by)) ((let peer-acked-read : read_at u32 (c.args.row.now) (c.args.at) ≡ takes c.peer_acked-1.given.0.0 c.peer_acked-1.given.0.1.0 = learn u32_says c.u32_at.ensures c.peer_acked-1.given.1 in peer-acked-read)) in peer-acked-took)))).here c.peer_read-1.given.0.0 c.peer_read-1.given.0.1.0 = took _ _ u32 (number-lawful 4) ((let by : Bytes (c.args.row.now) = typed (c.args.row.now) c.shared_slice_known-1.given in by)) ((let peer-read-read : read_at u32 (c.args.row.now) ((field-yes (start).so ((let peer-acked-took : Took u32 (c.args.row.now) (c.args.at) c.peer_acked-1.given.0.0 c.peer_acked-1.given.0.1.0 = took _ _ u32 (number-lawful 4) ((let by : Bytes (c.args.row.now) = typed (c.args.row.now) c.shared_slice_known-1.given in by)) ((let peer-acked-read : read_at u32 (c.args.row.now) (c.args.at) ≡ takes c.peer_acked-1.given.0.0 c.peer_acked-1.given.0.1.0 = learn u32_says c.u32_at.ensures c.peer_acked-1.given.1 in peer-acked-read)) in peer-acked-took)))).here ≡ takes c.peer_read-1.given.0.0 c.peer_read-1.given.0.1.0 = learn u32_says c.u32_at-2.ensures c.peer_read-1.given.1 in peer-read-read)) in peer-read-took)))).so ((let read-marked-took : Took u32 (c.args.row.now) ((field-yes ((field-yes (start).so ((let peer-acked-took : Took u32 (c.args.row.now) (c.args.at) c.peer_acked-1.given.0.0 c.peer_acked-1.given.0.1.0 = took _ _ u32 (number-lawful 4) ((let by : Bytes (c.args.row.now) = typed (c.args.row.now) c.shared_slice_known-1.given in by)) ((let peer-acked-read : read_at u32 (c.args.row.now) (c.args.at) ≡ takes c.peer_acked-1.given.0.0 c.peer_acked-1.given.0.1.0 = learn u32_says c.u32_at.ensures c.peer_acked-1.given.1 in peer-acked-read)) in peer-acked-took)))).so ((let peer-read-took : Took u32 (c.args.row.now) ((field-yes (start).so ((let peer-acked-took : Took u32 (c.args.row.now) (c.args.at) c.peer_acked-1.given.0.0 c.peer_acked-1.given.0.1.0 = took _ _ u32 (number-lawful 4) ((let by : Bytes (c.args.row.now) = typed (c.args.row.now) c.shared_slice_known-1.given in by)) ((let peer-acked-read : read_at u32 (c.args.row.now) (c.args.at) ≡ takes c.peer_acked-1.given.0.0 c.peer_acked-1.given.0.1.0 = learn u32_says c.u32_at.ensures c.peer_acked-1.given.1 in peer-acked-read)) in peer-acked-took)))).here c.peer_read-1.given.0.0 c.peer_read-1.given.0.1.0 = took _ _ u32 (number-lawful 4) ((let by : Bytes (c.args.row.now) = typed (c.args.row.now) c.shared_slice_known-1.given in by)) ((let peer-read-read : read_at u32 (c.args.row.now) ((field-yes (start).so ((let peer-acked-took : Took u32 (c.args.row.now) (c.args.at) c.peer_acked-1.given.0.0 c.peer_acked-1.given.0.1.0 = took _ _ u32 (number-lawful 4) ((let by : Bytes (c.args.row.now) = typed (c.args.row.now) c.shared_slice_known-1.given in by)) ((let peer-acked-read : read_at u32 (c.args.row.now) (c.args.at) ≡ takes c.peer_acked-1.given.0.0 c.peer_acked-1.given.0.1.0 = learn u32_says c.u32_at.ensures c.peer_acked-1.given.1 in peer-acked-read)) in peer-acked-took)))).here ≡ takes c.peer_read-1.given.0.0 c.peer_read-1.given.0.1.0 = learn u32_says c.u32_at-2.ensures c.peer_read-1.given.1 in peer-read-read)) in peer-read-took)))).here c.read_marked-1.given.0.0 c.read_marked-1.given.0.1.0 = took _ _ u32 (number-lawful 4) ((let by : Bytes (c.args.row.now) = typed (c.args.row.now) c.shared_slice_known-1.given in by)) ((let read-marked-read : read_at u32 (c.args.row.now) ((field-yes ((field-yes (start).so ((let peer-acked-took : Took u32 (c.args.row.now) (c.args.at) c.peer_acked-1.given.0.0 c.peer_acked-1.given.0.1.0 = took _ _ u32 (number-lawful 4) ((let by : Bytes (c.args.row.now) = typed (c.args.row.now) c.shared_slice_known-1.given in by)) ((let peer-acked-read : read_at u32 (c.args.row.now) (c.args.at) ≡ takes c.peer_acked-1.given.0.0 c.peer_acked-1.given.0.1.0 = learn u32_says c.u32_at.ensures c.peer_acked-1.given.1 in peer-acked-read)) in peer-acked-took)))).so ((let peer-read-took : Took u32 (c.args.row.now) ((field-yes (start).so ((let peer-acked-took : Took u32 (c.args.row.now) (c.args.at) c.peer_acked-1.given.0.0 c.peer_acked-1.given.0.1.0 = took _ _ u32 (number-lawful 4) ((let by : Bytes (c.args.row.now) = typed (c.args.row.now) c.shared_slice_known-1.given in by)) ((let peer-acked-read : read_at u32 (c.args.row.now) (c.args.at) ≡ takes c.peer_acked-1.given.0.0 c.peer_acked-1.given.0.1.0 = learn u32_says c.u32_at.ensures c.peer_acked-1.given.1 in peer-acked-read)) in peer-acked-took)))).here c.peer_read-1.given.0.0 c.peer_read-1.given.0.1.0 = took _ _ u32 (number-lawful 4) ((let by : Bytes (c.args.row.now) = typed (c.args.row.now) c.shared_slice_known-1.given in by)) ((let peer-read-read : read_at u32 (c.args.row.now) ((field-yes (start).so ((let peer-acked-took : Took u32 (c.args.row.now) (c.args.at) c.peer_acked-1.given.0.0 c.peer_acked-1.given.0.1.0 = took _ _ u32 (number-lawful 4) ((let by : Bytes (c.args.row.now) = typed (c.args.row.now) c.shared_slice_known-1.given in by)) ((let peer-acked-read : read_at u32 (c.args.row.now) (c.args.at) ≡ takes c.peer_acked-1.given.0.0 c.peer_acked-1.given.0.1.0 = learn u32_says c.u32_at.ensures c.peer_acked-1.given.1 in peer-acked-read)) in peer-acked-took)))).here ≡ takes c.peer_read-1.given.0.0 c.peer_read-1.given.0.1.0 = learn u32_says c.u32_at-2.ensures c.peer_read-1.given.1 in peer-read-read)) in peer-read-took)))).here ≡ takes c.read_marked-1.given.0.0 c.read_marked-1.given.0.1.0 = learn u32_says c.u32_at-3.ensures c.read_marked-1.given.1 in read-marked-read)) in read-marked-took)))).here c.contiguous-1.given.0.0 c.contiguous-1.given.0.1.0 = took _ _ u32 (number-lawful 4) ((let by : Bytes (c.args.row.now) = typed (c.args.row.now) c.shared_slice_known-1.given in by)) ((let contiguous-read : read_at u32 (c.args.row.now) ((field-yes ((field-yes ((field-yes (start).so ((let peer-acked-took : Took u32 (c.args.row.now) (c.args.at) c.peer_acked-1.given.0.0 c.peer_acked-1.given.0.1.0 = took _ _ u32 (number-lawful 4) ((let by : Bytes (c.args.row.now) = typed (c.args.row.now) c.shared_slice_known-1.given in by)) ((let peer-acked-read : read_at u32 (c.args.row.now) (c.args.at) ≡ takes c.peer_acked-1.given.0.0 c.peer_acked-1.given.0.1.0 = learn u32_says c.u32_at.ensures c.peer_acked-1.given.1 in peer-acked-read)) in peer-acked-took)))).so ((let peer-read-took : Took u32 (c.args.row.now) ((field-yes (start).so ((let peer-acked-took : Took u32 (c.args.row.now) (c.args.at) c.peer_acked-1.given.0.0 c.peer_acked-1.given.0.1.0 = took _ _ u32 (number-lawful 4) ((let by : Bytes (c.args.row.now) = typed (c.args.row.now) c.shared_slice_known-1.given in by)) ((let peer-acked-read : read_at u32 (c.args.row.now) (c.args.at) ≡ takes c.peer_acked-1.given.0.0 c.peer_acked-1.given.0.1.0 = learn u32_says c.u32_at.ensures c.peer_acked-1.given.1 in peer-acked-read)) in peer-acked-took)))).here c.peer_read-1.given.0.0 c.peer_read-1.given.0.1.0 = took _ _ u32 (number-lawful 4) ((let by : Bytes (c.args.row.now) = typed (c.args.row.now) c.shared_slice_known-1.given in by)) ((let peer-read-read : read_at u32 (c.args.row.now) ((field-yes (start).so ((let peer-acked-took : Took u32 (c.args.row.now) (c.args.at) c.peer_acked-1.given.0.0 c.peer_acked-1.given.0.1.0 = took _ _ u32 (number-lawful 4) ((let by : Bytes (c.args.row.now) = typed (c.args.row.now) c.shared_slice_known-1.given in by)) ((let peer-acked-read : read_at u32 (c.args.row.now) (c.args.at) ≡ takes c.peer_acked-1.given.0.0 c.peer_acked-1.given.0.1.0 = learn u32_says c.u32_at.ensures c.peer_acked-1.given.1 in peer-acked-read)) in peer-acked-took)))).here ≡ takes c.peer_read-1.given.0.0 c.peer_read-1.given.0.1.0 = learn u32_says c.u32_at-2.ensures c.peer_read-1.given.1 in peer-read-read)) in peer-read-took)))).so ((let read-marked-took : Took u32 (c.args.row.now) ((field-yes ((field-yes (start).so ((let peer-acked-took : Took u32 (c.args.row.now) (c.args.at) c.peer_acked-1.given.0.0 c.peer_acked-1.given.0.1.0 = took _ _ u32 (number-lawful 4) ((let by : Bytes (c.args.row.now) = typed (c.args.row.now) c.shared_slice_known-1.given in by)) ((let peer-acked-read : read_at u32 (c.args.row.now) (c.args.at) ≡ takes c.peer_acked-1.given.0.0 c.peer_acked-1.given.0.1.0 = learn u32_says c.u32_at.ensures c.peer_acked-1.given.1 in peer-acked-read)) in peer-acked-took)))).so ((let peer-read-took : Took u32 (c.args.row.now) ((field-yes (start).so ((let peer-acked-took : Took u32 (c.args.row.now) (c.args.at) c.peer_acked-1.given.0.0 c.peer_acked-1.given.0.1.0 = took _ _ u32 (number-lawful 4) ((let by : Bytes (c.args.row.now) = typed (c.args.row.now) c.shared_slice_known-1.given in by)) ((let peer-acked-read : read_at u32 (c.args.row.now) (c.args.at) ≡ takes c.peer_acked-1.given.0.0 c.peer_acked-1.given.0.1.0 = learn u32_says c.u32_at.ensures c.peer_acked-1.given.1 in peer-acked-read)) in peer-acked-took)))).here c.peer_read-1.given.0.0 c.peer_read-1.given.0.1.0 = took _ _ u32 (number-lawful 4) ((let by : Bytes (c.args.row.now) = typed (c.args.row.now) c.shared_slice_known-1.given in by)) ((let peer-read-read : read_at u32 (c.args.row.now) ((field-yes (start).so ((let peer-acked-took : Took u32 (c.args.row.now) (c.args.at) c.peer_acked-1.given.0.0 c.peer_acked-1.given.0.1.0 = took _ _ u32 (number-lawful 4) ((let by : Bytes (c.args.row.now) = typed (c.args.row.now) c.shared_slice_known-1.given in by)) ((let peer-acked-read : read_at u32 (c.args.row.now) (c.args.at) ≡ takes c.peer_acked-1.given.0.0 c.peer_acked-1.given.0.1.0 = learn u32_says c.u32_at.ensures c.peer_acked-1.given.1 in peer-acked-read)) in peer-acked-took)))).here ≡ takes c.peer_read-1.given.0.0 c.peer_read-1.given.0.1.0 = learn u32_says c.u32_at-2.ensures c.peer_read-1.given.1 in peer-read-read)) in peer-read-took)))).here c.read_marked-1.given.0.0 c.read_marked-1.given.0.1.0 = took _ _ u32 (number-lawful 4) ((let by : Bytes (c.args.row.now) = typed (c.args.row.now) c.shared_slice_known-1.given in by)) ((let read-marked-read : read_at u32 (c.args.row.now) ((field-yes ((field-yes (start).so ((let peer-acked-took : Took u32 (c.args.row.now) (c.args.at) c.peer_acked-1.given.0.0 c.peer_acked-1.given.0.1.0 = took _ _ u32 (number-lawful 4) ((let by : Bytes (c.args.row.now) = typed (c.args.row.now) c.shared_slice_known-1.given in by)) ((let peer-acked-read : read_at u32 (c.args.row.now) (c.args.at) ≡ takes c.peer_acked-1.given.0.0 c.peer_acked-1.given.0.1.0 = learn u32_says c.u32_at.ensures c.peer_acked-1.given.1 in peer-acked-read)) in peer-acked-took)))).so ((let peer-read-took : Took u32 (c.args.row.now) ((field-yes (start).so ((let peer-acked-took : Took u32 (c.args.row.now) (c.args.at) c.peer_acked-1.given.0.0 c.peer_acked-1.given.0.1.0 = took _ _ u32 (number-lawful 4) ((let by : Bytes (c.args.row.now) = typed (c.args.row.now) c.shared_slice_known-1.given in by)) ((let peer-acked-read : read_at u32 (c.args.row.now) (c.args.at) ≡ takes c.peer_acked-1.given.0.0 c.peer_acked-1.given.0.1.0 = learn u32_says c.u32_at.ensures c.peer_acked-1.given.1 in peer-acked-read)) in peer-acked-took)))).here c.peer_read-1.given.0.0 c.peer_read-1.given.0.1.0 = took _ _ u32 (number-lawful 4) ((let by : Bytes (c.args.row.now) = typed (c.args.row.now) c.shared_slice_known-1.given in by)) ((let peer-read-read : read_at u32 (c.args.row.now) ((field-yes (start).so ((let peer-acked-took : Took u32 (c.args.row.now) (c.args.at) c.peer_acked-1.given.0.0 c.peer_acked-1.given.0.1.0 = took _ _ u32 (number-lawful 4) ((let by : Bytes (c.args.row.now) = typed (c.args.row.now) c.shared_slice_known-1.given in by)) ((let peer-acked-read : read_at u32 (c.args.row.now) (c.args.at) ≡ takes c.peer_acked-1.given.0.0 c.peer_acked-1.given.0.1.0 = learn u32_says c.u32_at.ensures c.peer_acked-1.given.1 in peer-acked-read)) in peer-acked-took)))).here ≡ takes c.peer_read-1.given.0.0 c.peer_read-1.given.0.1.0 = learn u32_says c.u32_at-2.ensures c.peer_read-1.given.1 in peer-read-read)) in peer-read-took)))).here ≡ takes c.read_marked-1.given.0.0 c.read_marked-1.given.0.1.0 = learn u32_says c.u32_at-3.ensures c.read_marked-1.given.1 in read-marked-read)) in read-marked-took)))).here ≡ takes c.contiguous-1.given.0.0 c.contiguous-1.given.0.1.0 = learn u32_says c.u32_at-4.ensures c.contiguous-1.given.1 in contiguous-read)) in contiguous-took)))).here (list_in (group range) (c.args.row.now) c.above_field-1.given.0.0) c.above_field-1.given.0.0.next = list-took (group range) range-lawful (c.args.row.now) ((let by : Bytes (c.args.row.now) = typed (c.args.row.now) c.shared_slice_known-1.given in by)) _ c.ranges_at-above_field.ensures c.above_field-1.given.1 in above-took)))).here (list_in u32 (c.args.row.now) c.unacked_field-1.given.0.0) c.unacked_field-1.given.0.0.next = list-took u32 (number-lawful 4) (c.args.row.now) ((let by : Bytes (c.args.row.now) = typed (c.args.row.now) c.shared_slice_known-1.given in by)) _ c.numbers_at-unacked_field.ensures c.unacked_field-1.given.1 in unacked-took)).inside in expired-starts))
-    (omega (arith, (let peer-acked-next : c.peer_acked-1.given.0.1.0 ≡ c.args.at + length (u32.print c.peer_acked-1.given.0.0) = took-next _ _ u32 (number-lawful 4) ((let by : Bytes (c.args.row.now) = typed (c.args.row.now) c.shared_slice_known-1.given in by)) ((let peer-acked-read : read_at u32 (c.args.row.now) (c.args.at) ≡ takes c.peer_acked-1.given.0.0 c.peer_acked-1.given.0.1.0 = learn u32_says c.u32_at.ensures c.peer_acked-1.given.1 in peer-acked-read)) (not-past _ _ u32 refl ((let peer-acked-read : read_at u32 (c.args.row.now) (c.args.at) ≡ takes c.peer_acked-1.given.0.0 c.peer_acked-1.given.0.1.0 = learn u32_says c.u32_at.ensures c.peer_acked-1.given.1 in peer-acked-read))) in peer-acked-next), (let peer-read-next : c.peer_read-1.given.0.1.0 ≡ ((field-yes (start).so ((let peer-acked-took : Took u32 (c.args.row.now) (c.args.at) c.peer_acked-1.given.0.0 c.peer_acked-1.given.0.1.0 = took _ _ u32 (number-lawful 4) ((let by : Bytes (c.args.row.now) = typed (c.args.row.now) c.shared_slice_known-1.given in by)) ((let peer-acked-read : read_at u32 (c.args.row.now) (c.args.at) ≡ takes c.peer_acked-1.given.0.0 c.peer_acked-1.given.0.1.0 = learn u32_says c.u32_at.ensures c.peer_acked-1.given.1 in peer-acked-read)) in peer-acked-took)))).here + length (u32.print c.peer_read-1.given.0.0) = took-next _ _ u32 (number-lawful 4) ((let by : Bytes (c.args.row.now) = typed (c.args.row.now) c.shared_slice_known-1.given in by)) ((let peer-read-read : read_at u32 (c.args.row.now) ((field-yes (start).so ((let peer-acked-took : Took u32 (c.args.row.now) (c.args.at) c.peer_acked-1.given.0.0 c.peer_acked-1.given.0.1.0 = took _ _ u32 (number-lawful 4) ((let by : Bytes (c.args.row.now) = typed (c.args.row.now) c.shared_slice_known-1.given in by)) ((let peer-acked-read : read_at u32 (c.args.row.now) (c.args.at) ≡ takes c.peer_acked-1.given.0.0 c.peer_acked-1.given.0.1.0 = learn u32_says c.u32_at.ensures c.peer_acked-1.given.1 in peer-acked-read)) in peer-acked-took)))).here ≡ takes c.peer_read-1.given.0.0 c.peer_read-1.given.0.1.0 = learn u32_says c.u32_at-2.ensures c.peer_read-1.given.1 in peer-read-read)) ((let peer-acked-took : Took u32 (c.args.row.now) (c.args.at) c.peer_acked-1.given.0.0 c.peer_acked-1.given.0.1.0 = took _ _ u32 (number-lawful 4) ((let by : Bytes (c.args.row.now) = typed (c.args.row.now) c.shared_slice_known-1.given in by)) ((let peer-acked-read : read_at u32 (c.args.row.now) (c.args.at) ≡ takes c.peer_acked-1.given.0.0 c.peer_acked-1.given.0.1.0 = learn u32_says c.u32_at.ensures c.peer_acked-1.given.1 in peer-acked-read)) in peer-acked-took)).inside in peer-read-next), (let read-marked-next : c.read_marked-1.given.0.1.0 ≡ ((field-yes ((field-yes (start).so ((let peer-acked-took : Took u32 (c.args.row.now) (c.args.at) c.peer_acked-1.given.0.0 c.peer_acked-1.given.0.1.0 = took _ _ u32 (number-lawful 4) ((let by : Bytes (c.args.row.now) = typed (c.args.row.now) c.shared_slice_known-1.given in by)) ((let peer-acked-read : read_at u32 (c.args.row.now) (c.args.at) ≡ takes c.peer_acked-1.given.0.0 c.peer_acked-1.given.0.1.0 = learn u32_says c.u32_at.ensures c.peer_acked-1.given.1 in peer-acked-read)) in peer-acked-took)))).so ((let peer-read-took : Took u32 (c.args.row.now) ((field-yes (start).so ((let peer-acked-took : Took u32 (c.args.row.now) (c.args.at) c.peer_acked-1.given.0.0 c.peer_acked-1.given.0.1.0 = took _ _ u32 (number-lawful 4) ((let by : Bytes (c.args.row.now) = typed (c.args.row.now) c.shared_slice_known-1.given in by)) ((let peer-acked-read : read_at u32 (c.args.row.now) (c.args.at) ≡ takes c.peer_acked-1.given.0.0 c.peer_acked-1.given.0.1.0 = learn u32_says c.u32_at.ensures c.peer_acked-1.given.1 in peer-acked-read)) in peer-acked-took)))).here c.peer_read-1.given.0.0 c.peer_read-1.given.0.1.0 = took _ _ u32 (number-lawful 4) ((let by : Bytes (c.args.row.now) = typed (c.args.row.now) c.shared_slice_known-1.given in by)) ((let peer-read-read : read_at u32 (c.args.row.now) ((field-yes (start).so ((let peer-acked-took : Took u32 (c.args.row.now) (c.args.at) c.peer_acked-1.given.0.0 c.peer_acked-1.given.0.1.0 = took _ _ u32 (number-lawful 4) ((let by : Bytes (c.args.row.now) = typed (c.args.row.now) c.shared_slice_known-1.given in by)) ((let peer-acked-read : read_at u32 (c.args.row.now) (c.args.at) ≡ takes c.peer_acked-1.given.0.0 c.peer_acked-1.given.0.1.0 = learn u32_says c.u32_at.ensures c.peer_acked-1.given.1 in peer-acked-read)) in peer-acked-took)))).here ≡ takes c.peer_read-1.given.0.0 c.peer_read-1.given.0.1.0 = learn u32_says c.u32_at-2.ensures c.peer_read-1.given.1 in peer-read-read)) in peer-read-took)))).here + length (u32.print c.read_marked-1.given.0.0) = took-next _ _ u32 (number-lawful 4) ((let by : Bytes (c.args.row.now) = typed (c.args.row.now) c.shared_slice_known-1.given in by)) ((let read-marked-read : read_at u32 (c.args.row.now) ((field-yes ((field-yes (start).so ((let peer-acked-took : Took u32 (c.args.row.now) (c.args.at) c.peer_acked-1.given.0.0 c.peer_acked-1.given.0.1.0 = took _ _ u32 (number-lawful 4) ((let by : Bytes (c.args.row.now) = typed (c.args.row.now) c.shared_slice_known-1.given in by)) ((let peer-acked-read : read_at u32 (c.args.row.now) (c.args.at) ≡ takes c.peer_acked-1.given.0.0 c.peer_acked-1.given.0.1.0 = learn u32_says c.u32_at.ensures c.peer_acked-1.given.1 in peer-acked-read)) in peer-acked-took)))).so ((let peer-read-took : Took u32 (c.args.row.now) ((field-yes (start).so ((let peer-acked-took : Took u32 (c.args.row.now) (c.args.at) c.peer_acked-1.given.0.0 c.peer_acked-1.given.0.1.0 = took _ _ u32 (number-lawful 4) ((let by : Bytes (c.args.row.now) = typed (c.args.row.now) c.shared_slice_known-1.given in by)) ((let peer-acked-read : read_at u32 (c.args.row.now) (c.args.at) ≡ takes c.peer_acked-1.given.0.0 c.peer_acked-1.given.0.1.0 = learn u32_says c.u32_at.ensures c.peer_acked-1.given.1 in peer-acked-read)) in peer-acked-took)))).here c.peer_read-1.given.0.0 c.peer_read-1.given.0.1.0 = took _ _ u32 (number-lawful 4) ((let by : Bytes (c.args.row.now) = typed (c.args.row.now) c.shared_slice_known-1.given in by)) ((let peer-read-read : read_at u32 (c.args.row.now) ((field-yes (start).so ((let peer-acked-took : Took u32 (c.args.row.now) (c.args.at) c.peer_acked-1.given.0.0 c.peer_acked-1.given.0.1.0 = took _ _ u32 (number-lawful 4) ((let by : Bytes (c.args.row.now) = typed (c.args.row.now) c.shared_slice_known-1.given in by)) ((let peer-acked-read : read_at u32 (c.args.row.now) (c.args.at) ≡ takes c.peer_acked-1.given.0.0 c.peer_acked-1.given.0.1.0 = learn u32_says c.u32_at.ensures c.peer_acked-1.given.1 in peer-acked-read)) in peer-acked-took)))).here ≡ takes c.peer_read-1.given.0.0 c.peer_read-1.given.0.1.0 = learn u32_says c.u32_at-2.ensures c.peer_read-1.given.1 in peer-read-read)) in peer-read-took)))).here ≡ takes c.read_marked-1.given.0.0 c.read_marked-1.given.0.1.0 = learn u32_says c.u32_at-3.ensures c.read_marked-1.given.1 in read-marked-read)) ((let peer-read-took : Took u32 (c.args.row.now) ((field-yes (start).so ((let peer-acked-took : Took u32 (c.args.row.now) (c.args.at) c.peer_acked-1.given.0.0 c.peer_acked-1.given.0.1.0 = took _ _ u32 (number-lawful 4) ((let by : Bytes (c.args.row.now) = typed (c.args.row.now) c.shared_slice_known-1.given in by)) ((let peer-acked-read : read_at u32 (c.args.row.now) (c.args.at) ≡ takes c.peer_acked-1.given.0.0 c.peer_acked-1.given.0.1.0 = learn u32_says c.u32_at.ensures c.peer_acked-1.given.1 in peer-acked-read)) in peer-acked-took)))).here c.peer_read-1.given.0.0 c.peer_read-1.given.0.1.0 = took _ _ u32 (number-lawful 4) ((let by : Bytes (c.args.row.now) = typed (c.args.row.now) c.shared_slice_known-1.given in by)) ((let peer-read-read : read_at u32 (c.args.row.now) ((field-yes (start).so ((let peer-acked-took : Took u32 (c.args.row.now) (c.args.at) c.peer_acked-1.given.0.0 c.peer_acked-1.given.0.1.0 = took _ _ u32 (number-lawful 4) ((let by : Bytes (c.args.row.now) = typed (c.args.row.now) c.shared_slice_known-1.given in by)) ((let peer-acked-read : read_at u32 (c.args.row.now) (c.args.at) ≡ takes c.peer_acked-1.given.0.0 c.peer_acked-1.given.0.1.0 = learn u32_says c.u32_at.ensures c.peer_acked-1.given.1 in peer-acked-read)) in peer-acked-took)))).here ≡ takes c.peer_read-1.given.0.0 c.peer_read-1.given.0.1.0 = learn u32_says c.u32_at-2.ensures c.peer_read-1.given.1 in peer-read-read)) in peer-read-took)).inside in read-marked-next), (let contiguous-next : c.contiguous-1.given.0.1.0 ≡ ((field-yes ((field-yes ((field-yes (start).so ((let peer-acked-took : Took u32 (c.args.row.now) (c.args.at) c.peer_acked-1.given.0.0 c.peer_acked-1.given.0.1.0 = took _ _ u32 (number-lawful 4) ((let by : Bytes (c.args.row.now) = typed (c.args.row.now) c.shared_slice_known-1.given in by)) ((let peer-acked-read : read_at u32 (c.args.row.now) (c.args.at) ≡ takes c.peer_acked-1.given.0.0 c.peer_acked-1.given.0.1.0 = learn u32_says c.u32_at.ensures c.peer_acked-1.given.1 in peer-acked-read)) in peer-acked-took)))).so ((let peer-read-took : Took u32 (c.args.row.now) ((field-yes (start).so ((let peer-acked-took : Took u32 (c.args.row.now) (c.args.at) c.peer_acked-1.given.0.0 c.peer_acked-1.given.0.1.0 = took _ _ u32 (number-lawful 4) ((let by : Bytes (c.args.row.now) = typed (c.args.row.now) c.shared_slice_known-1.given in by)) ((let peer-acked-read : read_at u32 (c.args.row.now) (c.args.at) ≡ takes c.peer_acked-1.given.0.0 c.peer_acked-1.given.0.1.0 = learn u32_says c.u32_at.ensures c.peer_acked-1.given.1 in peer-acked-read)) in peer-acked-took)))).here c.peer_read-1.given.0.0 c.peer_read-1.given.0.1.0 = took _ _ u32 (number-lawful 4) ((let by : Bytes (c.args.row.now) = typed (c.args.row.now) c.shared_slice_known-1.given in by)) ((let peer-read-read : read_at u32 (c.args.row.now) ((field-yes (start).so ((let peer-acked-took : Took u32 (c.args.row.now) (c.args.at) c.peer_acked-1.given.0.0 c.peer_acked-1.given.0.1.0 = took _ _ u32 (number-lawful 4) ((let by : Bytes (c.args.row.now) = typed (c.args.row.now) c.shared_slice_known-1.given in by)) ((let peer-acked-read : read_at u32 (c.args.row.now) (c.args.at) ≡ takes c.peer_acked-1.given.0.0 c.peer_acked-1.given.0.1.0 = learn u32_says c.u32_at.ensures c.peer_acked-1.given.1 in peer-acked-read)) in peer-acked-took)))).here ≡ takes c.peer_read-1.given.0.0 c.peer_read-1.given.0.1.0 = learn u32_says c.u32_at-2.ensures c.peer_read-1.given.1 in peer-read-read)) in peer-read-took)))).so ((let read-marked-took : Took u32 (c.args.row.now) ((field-yes ((field-yes (start).so ((let peer-acked-took : Took u32 (c.args.row.now) (c.args.at) c.peer_acked-1.given.0.0 c.peer_acked-1.given.0.1.0 = took _ _ u32 (number-lawful 4) ((let by : Bytes (c.args.row.now) = typed (c.args.row.now) c.shared_slice_known-1.given in by)) ((let peer-acked-read : read_at u32 (c.args.row.now) (c.args.at) ≡ takes c.peer_acked-1.given.0.0 c.peer_acked-1.given.0.1.0 = learn u32_says c.u32_at.ensures c.peer_acked-1.given.1 in peer-acked-read)) in peer-acked-took)))).so ((let peer-read-took : Took u32 (c.args.row.now) ((field-yes (start).so ((let peer-acked-took : Took u32 (c.args.row.now) (c.args.at) c.peer_acked-1.given.0.0 c.peer_acked-1.given.0.1.0 = took _ _ u32 (number-lawful 4) ((let by : Bytes (c.args.row.now) = typed (c.args.row.now) c.shared_slice_known-1.given in by)) ((let peer-acked-read : read_at u32 (c.args.row.now) (c.args.at) ≡ takes c.peer_acked-1.given.0.0 c.peer_acked-1.given.0.1.0 = learn u32_says c.u32_at.ensures c.peer_acked-1.given.1 in peer-acked-read)) in peer-acked-took)))).here c.peer_read-1.given.0.0 c.peer_read-1.given.0.1.0 = took _ _ u32 (number-lawful 4) ((let by : Bytes (c.args.row.now) = typed (c.args.row.now) c.shared_slice_known-1.given in by)) ((let peer-read-read : read_at u32 (c.args.row.now) ((field-yes (start).so ((let peer-acked-took : Took u32 (c.args.row.now) (c.args.at) c.peer_acked-1.given.0.0 c.peer_acked-1.given.0.1.0 = took _ _ u32 (number-lawful 4) ((let by : Bytes (c.args.row.now) = typed (c.args.row.now) c.shared_slice_known-1.given in by)) ((let peer-acked-read : read_at u32 (c.args.row.now) (c.args.at) ≡ takes c.peer_acked-1.given.0.0 c.peer_acked-1.given.0.1.0 = learn u32_says c.u32_at.ensures c.peer_acked-1.given.1 in peer-acked-read)) in peer-acked-took)))).here ≡ takes c.peer_read-1.given.0.0 c.peer_read-1.given.0.1.0 = learn u32_says c.u32_at-2.ensures c.peer_read-1.given.1 in peer-read-read)) in peer-read-took)))).here c.read_marked-1.given.0.0 c.read_marked-1.given.0.1.0 = took _ _ u32 (number-lawful 4) ((let by : Bytes (c.args.row.now) = typed (c.args.row.now) c.shared_slice_known-1.given in by)) ((let read-marked-read : read_at u32 (c.args.row.now) ((field-yes ((field-yes (start).so ((let peer-acked-took : Took u32 (c.args.row.now) (c.args.at) c.peer_acked-1.given.0.0 c.peer_acked-1.given.0.1.0 = took _ _ u32 (number-lawful 4) ((let by : Bytes (c.args.row.now) = typed (c.args.row.now) c.shared_slice_known-1.given in by)) ((let peer-acked-read : read_at u32 (c.args.row.now) (c.args.at) ≡ takes c.peer_acked-1.given.0.0 c.peer_acked-1.given.0.1.0 = learn u32_says c.u32_at.ensures c.peer_acked-1.given.1 in peer-acked-read)) in peer-acked-took)))).so ((let peer-read-took : Took u32 (c.args.row.now) ((field-yes (start).so ((let peer-acked-took : Took u32 (c.args.row.now) (c.args.at) c.peer_acked-1.given.0.0 c.peer_acked-1.given.0.1.0 = took _ _ u32 (number-lawful 4) ((let by : Bytes (c.args.row.now) = typed (c.args.row.now) c.shared_slice_known-1.given in by)) ((let peer-acked-read : read_at u32 (c.args.row.now) (c.args.at) ≡ takes c.peer_acked-1.given.0.0 c.peer_acked-1.given.0.1.0 = learn u32_says c.u32_at.ensures c.peer_acked-1.given.1 in peer-acked-read)) in peer-acked-took)))).here c.peer_read-1.given.0.0 c.peer_read-1.given.0.1.0 = took _ _ u32 (number-lawful 4) ((let by : Bytes (c.args.row.now) = typed (c.args.row.now) c.shared_slice_known-1.given in by)) ((let peer-read-read : read_at u32 (c.args.row.now) ((field-yes (start).so ((let peer-acked-took : Took u32 (c.args.row.now) (c.args.at) c.peer_acked-1.given.0.0 c.peer_acked-1.given.0.1.0 = took _ _ u32 (number-lawful 4) ((let by : Bytes (c.args.row.now) = typed (c.args.row.now) c.shared_slice_known-1.given in by)) ((let peer-acked-read : read_at u32 (c.args.row.now) (c.args.at) ≡ takes c.peer_acked-1.given.0.0 c.peer_acked-1.given.0.1.0 = learn u32_says c.u32_at.ensures c.peer_acked-1.given.1 in peer-acked-read)) in peer-acked-took)))).here ≡ takes c.peer_read-1.given.0.0 c.peer_read-1.given.0.1.0 = learn u32_says c.u32_at-2.ensures c.peer_read-1.given.1 in peer-read-read)) in peer-read-took)))).here ≡ takes c.read_marked-1.given.0.0 c.read_marked-1.given.0.1.0 = learn u32_says c.u32_at-3.ensures c.read_marked-1.given.1 in read-marked-read)) in read-marked-took)))).here + length (u32.print c.contiguous-1.given.0.0) = took-next _ _ u32 (number-lawful 4) ((let by : Bytes (c.args.row.now) = typed (c.args.row.now) c.shared_slice_known-1.given in by)) ((let contiguous-read : read_at u32 (c.args.row.now) ((field-yes ((field-yes ((field-yes (start).so ((let peer-acked-took : Took u32 (c.args.row.now) (c.args.at) c.peer_acked-1.given.0.0 c.peer_acked-1.given.0.1.0 = took _ _ u32 (number-lawful 4) ((let by : Bytes (c.args.row.now) = typed (c.args.row.now) c.shared_slice_known-1.given in by)) ((let peer-acked-read : read_at u32 (c.args.row.now) (c.args.at) ≡ takes c.peer_acked-1.given.0.0 c.peer_acked-1.given.0.1.0 = learn u32_says c.u32_at.ensures c.peer_acked-1.given.1 in peer-acked-read)) in peer-acked-took)))).so ((let peer-read-took : Took u32 (c.args.row.now) ((field-yes (start).so ((let peer-acked-took : Took u32 (c.args.row.now) (c.args.at) c.peer_acked-1.given.0.0 c.peer_acked-1.given.0.1.0 = took _ _ u32 (number-lawful 4) ((let by : Bytes (c.args.row.now) = typed (c.args.row.now) c.shared_slice_known-1.given in by)) ((let peer-acked-read : read_at u32 (c.args.row.now) (c.args.at) ≡ takes c.peer_acked-1.given.0.0 c.peer_acked-1.given.0.1.0 = learn u32_says c.u32_at.ensures c.peer_acked-1.given.1 in peer-acked-read)) in peer-acked-took)))).here c.peer_read-1.given.0.0 c.peer_read-1.given.0.1.0 = took _ _ u32 (number-lawful 4) ((let by : Bytes (c.args.row.now) = typed (c.args.row.now) c.shared_slice_known-1.given in by)) ((let peer-read-read : read_at u32 (c.args.row.now) ((field-yes (start).so ((let peer-acked-took : Took u32 (c.args.row.now) (c.args.at) c.peer_acked-1.given.0.0 c.peer_acked-1.given.0.1.0 = took _ _ u32 (number-lawful 4) ((let by : Bytes (c.args.row.now) = typed (c.args.row.now) c.shared_slice_known-1.given in by)) ((let peer-acked-read : read_at u32 (c.args.row.now) (c.args.at) ≡ takes c.peer_acked-1.given.0.0 c.peer_acked-1.given.0.1.0 = learn u32_says c.u32_at.ensures c.peer_acked-1.given.1 in peer-acked-read)) in peer-acked-took)))).here ≡ takes c.peer_read-1.given.0.0 c.peer_read-1.given.0.1.0 = learn u32_says c.u32_at-2.ensures c.peer_read-1.given.1 in peer-read-read)) in peer-read-took)))).so ((let read-marked-took : Took u32 (c.args.row.now) ((field-yes ((field-yes (start).so ((let peer-acked-took : Took u32 (c.args.row.now) (c.args.at) c.peer_acked-1.given.0.0 c.peer_acked-1.given.0.1.0 = took _ _ u32 (number-lawful 4) ((let by : Bytes (c.args.row.now) = typed (c.args.row.now) c.shared_slice_known-1.given in by)) ((let peer-acked-read : read_at u32 (c.args.row.now) (c.args.at) ≡ takes c.peer_acked-1.given.0.0 c.peer_acked-1.given.0.1.0 = learn u32_says c.u32_at.ensures c.peer_acked-1.given.1 in peer-acked-read)) in peer-acked-took)))).so ((let peer-read-took : Took u32 (c.args.row.now) ((field-yes (start).so ((let peer-acked-took : Took u32 (c.args.row.now) (c.args.at) c.peer_acked-1.given.0.0 c.peer_acked-1.given.0.1.0 = took _ _ u32 (number-lawful 4) ((let by : Bytes (c.args.row.now) = typed (c.args.row.now) c.shared_slice_known-1.given in by)) ((let peer-acked-read : read_at u32 (c.args.row.now) (c.args.at) ≡ takes c.peer_acked-1.given.0.0 c.peer_acked-1.given.0.1.0 = learn u32_says c.u32_at.ensures c.peer_acked-1.given.1 in peer-acked-read)) in peer-acked-took)))).here c.peer_read-1.given.0.0 c.peer_read-1.given.0.1.0 = took _ _ u32 (number-lawful 4) ((let by : Bytes (c.args.row.now) = typed (c.args.row.now) c.shared_slice_known-1.given in by)) ((let peer-read-read : read_at u32 (c.args.row.now) ((field-yes (start).so ((let peer-acked-took : Took u32 (c.args.row.now) (c.args.at) c.peer_acked-1.given.0.0 c.peer_acked-1.given.0.1.0 = took _ _ u32 (number-lawful 4) ((let by : Bytes (c.args.row.now) = typed (c.args.row.now) c.shared_slice_known-1.given in by)) ((let peer-acked-read : read_at u32 (c.args.row.now) (c.args.at) ≡ takes c.peer_acked-1.given.0.0 c.peer_acked-1.given.0.1.0 = learn u32_says c.u32_at.ensures c.peer_acked-1.given.1 in peer-acked-read)) in peer-acked-took)))).here ≡ takes c.peer_read-1.given.0.0 c.peer_read-1.given.0.1.0 = learn u32_says c.u32_at-2.ensures c.peer_read-1.given.1 in peer-read-read)) in peer-read-took)))).here c.read_marked-1.given.0.0 c.read_marked-1.given.0.1.0 = took _ _ u32 (number-lawful 4) ((let by : Bytes (c.args.row.now) = typed (c.args.row.now) c.shared_slice_known-1.given in by)) ((let read-marked-read : read_at u32 (c.args.row.now) ((field-yes ((field-yes (start).so ((let peer-acked-took : Took u32 (c.args.row.now) (c.args.at) c.peer_acked-1.given.0.0 c.peer_acked-1.given.0.1.0 = took _ _ u32 (number-lawful 4) ((let by : Bytes (c.args.row.now) = typed (c.args.row.now) c.shared_slice_known-1.given in by)) ((let peer-acked-read : read_at u32 (c.args.row.now) (c.args.at) ≡ takes c.peer_acked-1.given.0.0 c.peer_acked-1.given.0.1.0 = learn u32_says c.u32_at.ensures c.peer_acked-1.given.1 in peer-acked-read)) in peer-acked-took)))).so ((let peer-read-took : Took u32 (c.args.row.now) ((field-yes (start).so ((let peer-acked-took : Took u32 (c.args.row.now) (c.args.at) c.peer_acked-1.given.0.0 c.peer_acked-1.given.0.1.0 = took _ _ u32 (number-lawful 4) ((let by : Bytes (c.args.row.now) = typed (c.args.row.now) c.shared_slice_known-1.given in by)) ((let peer-acked-read : read_at u32 (c.args.row.now) (c.args.at) ≡ takes c.peer_acked-1.given.0.0 c.peer_acked-1.given.0.1.0 = learn u32_says c.u32_at.ensures c.peer_acked-1.given.1 in peer-acked-read)) in peer-acked-took)))).here c.peer_read-1.given.0.0 c.peer_read-1.given.0.1.0 = took _ _ u32 (number-lawful 4) ((let by : Bytes (c.args.row.now) = typed (c.args.row.now) c.shared_slice_known-1.given in by)) ((let peer-read-read : read_at u32 (c.args.row.now) ((field-yes (start).so ((let peer-acked-took : Took u32 (c.args.row.now) (c.args.at) c.peer_acked-1.given.0.0 c.peer_acked-1.given.0.1.0 = took _ _ u32 (number-lawful 4) ((let by : Bytes (c.args.row.now) = typed (c.args.row.now) c.shared_slice_known-1.given in by)) ((let peer-acked-read : read_at u32 (c.args.row.now) (c.args.at) ≡ takes c.peer_acked-1.given.0.0 c.peer_acked-1.given.0.1.0 = learn u32_says c.u32_at.ensures c.peer_acked-1.given.1 in peer-acked-read)) in peer-acked-took)))).here ≡ takes c.peer_read-1.given.0.0 c.peer_read-1.given.0.1.0 = learn u32_says c.u32_at-2.ensures c.peer_read-1.given.1 in peer-read-read)) in peer-read-took)))).here ≡ takes c.read_marked-1.given.0.0 c.read_marked-1.given.0.1.0 = learn u32_says c.u32_at-3.ensures c.read_marked-1.given.1 in read-marked-read)) in read-marked-took)))).here ≡ takes c.contiguous-1.given.0.0 c.contiguous-1.given.0.1.0 = learn u32_says c.u32_at-4.ensures c.contiguous-1.given.1 in contiguous-read)) ((let read-marked-took : Took u32 (c.args.row.now) ((field-yes ((field-yes (start).so ((let peer-acked-took : Took u32 (c.args.row.now) (c.args.at) c.peer_acked-1.given.0.0 c.peer_acked-1.given.0.1.0 = took _ _ u32 (number-lawful 4) ((let by : Bytes (c.args.row.now) = typed (c.args.row.now) c.shared_slice_known-1.given in by)) ((let peer-acked-read : read_at u32 (c.args.row.now) (c.args.at) ≡ takes c.peer_acked-1.given.0.0 c.peer_acked-1.given.0.1.0 = learn u32_says c.u32_at.ensures c.peer_acked-1.given.1 in peer-acked-read)) in peer-acked-took)))).so ((let peer-read-took : Took u32 (c.args.row.now) ((field-yes (start).so ((let peer-acked-took : Took u32 (c.args.row.now) (c.args.at) c.peer_acked-1.given.0.0 c.peer_acked-1.given.0.1.0 = took _ _ u32 (number-lawful 4) ((let by : Bytes (c.args.row.now) = typed (c.args.row.now) c.shared_slice_known-1.given in by)) ((let peer-acked-read : read_at u32 (c.args.row.now) (c.args.at) ≡ takes c.peer_acked-1.given.0.0 c.peer_acked-1.given.0.1.0 = learn u32_says c.u32_at.ensures c.peer_acked-1.given.1 in peer-acked-read)) in peer-acked-took)))).here c.peer_read-1.given.0.0 c.peer_read-1.given.0.1.0 = took _ _ u32 (number-lawful 4) ((let by : Bytes (c.args.row.now) = typed (c.args.row.now) c.shared_slice_known-1.given in by)) ((let peer-read-read : read_at u32 (c.args.row.now) ((field-yes (start).so ((let peer-acked-took : Took u32 (c.args.row.now) (c.args.at) c.peer_acked-1.given.0.0 c.peer_acked-1.given.0.1.0 = took _ _ u32 (number-lawful 4) ((let by : Bytes (c.args.row.now) = typed (c.args.row.now) c.shared_slice_known-1.given in by)) ((let peer-acked-read : read_at u32 (c.args.row.now) (c.args.at) ≡ takes c.peer_acked-1.given.0.0 c.peer_acked-1.given.0.1.0 = learn u32_says c.u32_at.ensures c.peer_acked-1.given.1 in peer-acked-read)) in peer-acked-took)))).here ≡ takes c.peer_read-1.given.0.0 c.peer_read-1.given.0.1.0 = learn u32_says c.u32_at-2.ensures c.peer_read-1.given.1 in peer-read-read)) in peer-read-took)))).here c.read_marked-1.given.0.0 c.read_marked-1.given.0.1.0 = took _ _ u32 (number-lawful 4) ((let by : Bytes (c.args.row.now) = typed (c.args.row.now) c.shared_slice_known-1.given in by)) ((let read-marked-read : read_at u32 (c.args.row.now) ((field-yes ((field-yes (start).so ((let peer-acked-took : Took u32 (c.args.row.now) (c.args.at) c.peer_acked-1.given.0.0 c.peer_acked-1.given.0.1.0 = took _ _ u32 (number-lawful 4) ((let by : Bytes (c.args.row.now) = typed (c.args.row.now) c.shared_slice_known-1.given in by)) ((let peer-acked-read : read_at u32 (c.args.row.now) (c.args.at) ≡ takes c.peer_acked-1.given.0.0 c.peer_acked-1.given.0.1.0 = learn u32_says c.u32_at.ensures c.peer_acked-1.given.1 in peer-acked-read)) in peer-acked-took)))).so ((let peer-read-took : Took u32 (c.args.row.now) ((field-yes (start).so ((let peer-acked-took : Took u32 (c.args.row.now) (c.args.at) c.peer_acked-1.given.0.0 c.peer_acked-1.given.0.1.0 = took _ _ u32 (number-lawful 4) ((let by : Bytes (c.args.row.now) = typed (c.args.row.now) c.shared_slice_known-1.given in by)) ((let peer-acked-read : read_at u32 (c.args.row.now) (c.args.at) ≡ takes c.peer_acked-1.given.0.0 c.peer_acked-1.given.0.1.0 = learn u32_says c.u32_at.ensures c.peer_acked-1.given.1 in peer-acked-read)) in peer-acked-took)))).here c.peer_read-1.given.0.0 c.peer_read-1.given.0.1.0 = took _ _ u32 (number-lawful 4) ((let by : Bytes (c.args.row.now) = typed (c.args.row.now) c.shared_slice_known-1.given in by)) ((let peer-read-read : read_at u32 (c.args.row.now) ((field-yes (start).so ((let peer-acked-took : Took u32 (c.args.row.now) (c.args.at) c.peer_acked-1.given.0.0 c.peer_acked-1.given.0.1.0 = took _ _ u32 (number-lawful 4) ((let by : Bytes (c.args.row.now) = typed (c.args.row.now) c.shared_slice_known-1.given in by)) ((let peer-acked-read : read_at u32 (c.args.row.now) (c.args.at) ≡ takes c.peer_acked-1.given.0.0 c.peer_acked-1.given.0.1.0 = learn u32_says c.u32_at.ensures c.peer_acked-1.given.1 in peer-acked-read)) in peer-acked-took)))).here ≡ takes c.peer_read-1.given.0.0 c.peer_read-1.given.0.1.0 = learn u32_says c.u32_at-2.ensures c.peer_read-1.given.1 in peer-read-read)) in peer-read-took)))).here ≡ takes c.read_marked-1.given.0.0 c.read_marked-1.given.0.1.0 = learn u32_says c.u32_at-3.ensures c.read_marked-1.given.1 in read-marked-read)) in read-marked-took)).inside in contiguous-next), (let above-next : c.above_field-1.given.0.0.next ≡ ((field-yes ((field-yes ((field-yes ((field-yes (start).so ((let peer-acked-took : Took u32 (c.args.row.now) (c.args.at) c.peer_acked-1.given.0.0 c.peer_acked-1.given.0.1.0 = took _ _ u32 (number-lawful 4) ((let by : Bytes (c.args.row.now) = typed (c.args.row.now) c.shared_slice_known-1.given in by)) ((let peer-acked-read : read_at u32 (c.args.row.now) (c.args.at) ≡ takes c.peer_acked-1.given.0.0 c.peer_acked-1.given.0.1.0 = learn u32_says c.u32_at.ensures c.peer_acked-1.given.1 in peer-acked-read)) in peer-acked-took)))).so ((let peer-read-took : Took u32 (c.args.row.now) ((field-yes (start).so ((let peer-acked-took : Took u32 (c.args.row.now) (c.args.at) c.peer_acked-1.given.0.0 c.peer_acked-1.given.0.1.0 = took _ _ u32 (number-lawful 4) ((let by : Bytes (c.args.row.now) = typed (c.args.row.now) c.shared_slice_known-1.given in by)) ((let peer-acked-read : read_at u32 (c.args.row.now) (c.args.at) ≡ takes c.peer_acked-1.given.0.0 c.peer_acked-1.given.0.1.0 = learn u32_says c.u32_at.ensures c.peer_acked-1.given.1 in peer-acked-read)) in peer-acked-took)))).here c.peer_read-1.given.0.0 c.peer_read-1.given.0.1.0 = took _ _ u32 (number-lawful 4) ((let by : Bytes (c.args.row.now) = typed (c.args.row.now) c.shared_slice_known-1.given in by)) ((let peer-read-read : read_at u32 (c.args.row.now) ((field-yes (start).so ((let peer-acked-took : Took u32 (c.args.row.now) (c.args.at) c.peer_acked-1.given.0.0 c.peer_acked-1.given.0.1.0 = took _ _ u32 (number-lawful 4) ((let by : Bytes (c.args.row.now) = typed (c.args.row.now) c.shared_slice_known-1.given in by)) ((let peer-acked-read : read_at u32 (c.args.row.now) (c.args.at) ≡ takes c.peer_acked-1.given.0.0 c.peer_acked-1.given.0.1.0 = learn u32_says c.u32_at.ensures c.peer_acked-1.given.1 in peer-acked-read)) in peer-acked-took)))).here ≡ takes c.peer_read-1.given.0.0 c.peer_read-1.given.0.1.0 = learn u32_says c.u32_at-2.ensures c.peer_read-1.given.1 in peer-read-read)) in peer-read-took)))).so ((let read-marked-took : Took u32 (c.args.row.now) ((field-yes ((field-yes (start).so ((let peer-acked-took : Took u32 (c.args.row.now) (c.args.at) c.peer_acked-1.given.0.0 c.peer_acked-1.given.0.1.0 = took _ _ u32 (number-lawful 4) ((let by : Bytes (c.args.row.now) = typed (c.args.row.now) c.shared_slice_known-1.given in by)) ((let peer-acked-read : read_at u32 (c.args.row.now) (c.args.at) ≡ takes c.peer_acked-1.given.0.0 c.peer_acked-1.given.0.1.0 = learn u32_says c.u32_at.ensures c.peer_acked-1.given.1 in peer-acked-read)) in peer-acked-took)))).so ((let peer-read-took : Took u32 (c.args.row.now) ((field-yes (start).so ((let peer-acked-took : Took u32 (c.args.row.now) (c.args.at) c.peer_acked-1.given.0.0 c.peer_acked-1.given.0.1.0 = took _ _ u32 (number-lawful 4) ((let by : Bytes (c.args.row.now) = typed (c.args.row.now) c.shared_slice_known-1.given in by)) ((let peer-acked-read : read_at u32 (c.args.row.now) (c.args.at) ≡ takes c.peer_acked-1.given.0.0 c.peer_acked-1.given.0.1.0 = learn u32_says c.u32_at.ensures c.peer_acked-1.given.1 in peer-acked-read)) in peer-acked-took)))).here c.peer_read-1.given.0.0 c.peer_read-1.given.0.1.0 = took _ _ u32 (number-lawful 4) ((let by : Bytes (c.args.row.now) = typed (c.args.row.now) c.shared_slice_known-1.given in by)) ((let peer-read-read : read_at u32 (c.args.row.now) ((field-yes (start).so ((let peer-acked-took : Took u32 (c.args.row.now) (c.args.at) c.peer_acked-1.given.0.0 c.peer_acked-1.given.0.1.0 = took _ _ u32 (number-lawful 4) ((let by : Bytes (c.args.row.now) = typed (c.args.row.now) c.shared_slice_known-1.given in by)) ((let peer-acked-read : read_at u32 (c.args.row.now) (c.args.at) ≡ takes c.peer_acked-1.given.0.0 c.peer_acked-1.given.0.1.0 = learn u32_says c.u32_at.ensures c.peer_acked-1.given.1 in peer-acked-read)) in peer-acked-took)))).here ≡ takes c.peer_read-1.given.0.0 c.peer_read-1.given.0.1.0 = learn u32_says c.u32_at-2.ensures c.peer_read-1.given.1 in peer-read-read)) in peer-read-took)))).here c.read_marked-1.given.0.0 c.read_marked-1.given.0.1.0 = took _ _ u32 (number-lawful 4) ((let by : Bytes (c.args.row.now) = typed (c.args.row.now) c.shared_slice_known-1.given in by)) ((let read-marked-read : read_at u32 (c.args.row.now) ((field-yes ((field-yes (start).so ((let peer-acked-took : Took u32 (c.args.row.now) (c.args.at) c.peer_acked-1.given.0.0 c.peer_acked-1.given.0.1.0 = took _ _ u32 (number-lawful 4) ((let by : Bytes (c.args.row.now) = typed (c.args.row.now) c.shared_slice_known-1.given in by)) ((let peer-acked-read : read_at u32 (c.args.row.now) (c.args.at) ≡ takes c.peer_acked-1.given.0.0 c.peer_acked-1.given.0.1.0 = learn u32_says c.u32_at.ensures c.peer_acked-1.given.1 in peer-acked-read)) in peer-acked-took)))).so ((let peer-read-took : Took u32 (c.args.row.now) ((field-yes (start).so ((let peer-acked-took : Took u32 (c.args.row.now) (c.args.at) c.peer_acked-1.given.0.0 c.peer_acked-1.given.0.1.0 = took _ _ u32 (number-lawful 4) ((let by : Bytes (c.args.row.now) = typed (c.args.row.now) c.shared_slice_known-1.given in by)) ((let peer-acked-read : read_at u32 (c.args.row.now) (c.args.at) ≡ takes c.peer_acked-1.given.0.0 c.peer_acked-1.given.0.1.0 = learn u32_says c.u32_at.ensures c.peer_acked-1.given.1 in peer-acked-read)) in peer-acked-took)))).here c.peer_read-1.given.0.0 c.peer_read-1.given.0.1.0 = took _ _ u32 (number-lawful 4) ((let by : Bytes (c.args.row.now) = typed (c.args.row.now) c.shared_slice_known-1.given in by)) ((let peer-read-read : read_at u32 (c.args.row.now) ((field-yes (start).so ((let peer-acked-took : Took u32 (c.args.row.now) (c.args.at) c.peer_acked-1.given.0.0 c.peer_acked-1.given.0.1.0 = took _ _ u32 (number-lawful 4) ((let by : Bytes (c.args.row.now) = typed (c.args.row.now) c.shared_slice_known-1.given in by)) ((let peer-acked-read : read_at u32 (c.args.row.now) (c.args.at) ≡ takes c.peer_acked-1.given.0.0 c.peer_acked-1.given.0.1.0 = learn u32_says c.u32_at.ensures c.peer_acked-1.given.1 in peer-acked-read)) in peer-acked-took)))).here ≡ takes c.peer_read-1.given.0.0 c.peer_read-1.given.0.1.0 = learn u32_says c.u32_at-2.ensures c.peer_read-1.given.1 in peer-read-read)) in peer-read-took)))).here ≡ takes c.read_marked-1.given.0.0 c.read_marked-1.given.0.1.0 = learn u32_says c.u32_at-3.ensures c.read_marked-1.given.1 in read-marked-read)) in read-marked-took)))).so ((let contiguous-took : Took u32 (c.args.row.now) ((field-yes ((field-yes ((field-yes (start).so ((let peer-acked-took : Took u32 (c.args.row.now) (c.args.at) c.peer_acked-1.given.0.0 c.peer_acked-1.given.0.1.0 = took _ _ u32 (number-lawful 4) ((let by : Bytes (c.args.row.now) = typed (c.args.row.now) c.shared_slice_known-1.given in by)) ((let peer-acked-read : read_at u32 (c.args.row.now) (c.args.at) ≡ takes c.peer_acked-1.given.0.0 c.peer_acked-1.given.0.1.0 = learn u32_says c.u32_at.ensures c.peer_acked-1.given.1 in peer-acked-read)) in peer-acked-took)))).so ((let peer-read-took : Took u32 (c.args.row.now) ((field-yes (start).so ((let peer-acked-took : Took u32 (c.args.row.now) (c.args.at) c.peer_acked-1.given.0.0 c.peer_acked-1.given.0.1.0 = took _ _ u32 (number-lawful 4) ((let by : Bytes (c.args.row.now) = typed (c.args.row.now) c.shared_slice_known-1.given in by)) ((let peer-acked-read : read_at u32 (c.args.row.now) (c.args.at) ≡ takes c.peer_acked-1.given.0.0 c.peer_acked-1.given.0.1.0 = learn u32_says c.u32_at.ensures c.peer_acked-1.given.1 in peer-acked-read)) in peer-acked-took)))).here c.peer_read-1.given.0.0 c.peer_read-1.given.0.1.0 = took _ _ u32 (number-lawful 4) ((let by : Bytes (c.args.row.now) = typed (c.args.row.now) c.shared_slice_known-1.given in by)) ((let peer-read-read : read_at u32 (c.args.row.now) ((field-yes (start).so ((let peer-acked-took : Took u32 (c.args.row.now) (c.args.at) c.peer_acked-1.given.0.0 c.peer_acked-1.given.0.1.0 = took _ _ u32 (number-lawful 4) ((let by : Bytes (c.args.row.now) = typed (c.args.row.now) c.shared_slice_known-1.given in by)) ((let peer-acked-read : read_at u32 (c.args.row.now) (c.args.at) ≡ takes c.peer_acked-1.given.0.0 c.peer_acked-1.given.0.1.0 = learn u32_says c.u32_at.ensures c.peer_acked-1.given.1 in peer-acked-read)) in peer-acked-took)))).here ≡ takes c.peer_read-1.given.0.0 c.peer_read-1.given.0.1.0 = learn u32_says c.u32_at-2.ensures c.peer_read-1.given.1 in peer-read-read)) in peer-read-took)))).so ((let read-marked-took : Took u32 (c.args.row.now) ((field-yes ((field-yes (start).so ((let peer-acked-took : Took u32 (c.args.row.now) (c.args.at) c.peer_acked-1.given.0.0 c.peer_acked-1.given.0.1.0 = took _ _ u32 (number-lawful 4) ((let by : Bytes (c.args.row.now) = typed (c.args.row.now) c.shared_slice_known-1.given in by)) ((let peer-acked-read : read_at u32 (c.args.row.now) (c.args.at) ≡ takes c.peer_acked-1.given.0.0 c.peer_acked-1.given.0.1.0 = learn u32_says c.u32_at.ensures c.peer_acked-1.given.1 in peer-acked-read)) in peer-acked-took)))).so ((let peer-read-took : Took u32 (c.args.row.now) ((field-yes (start).so ((let peer-acked-took : Took u32 (c.args.row.now) (c.args.at) c.peer_acked-1.given.0.0 c.peer_acked-1.given.0.1.0 = took _ _ u32 (number-lawful 4) ((let by : Bytes (c.args.row.now) = typed (c.args.row.now) c.shared_slice_known-1.given in by)) ((let peer-acked-read : read_at u32 (c.args.row.now) (c.args.at) ≡ takes c.peer_acked-1.given.0.0 c.peer_acked-1.given.0.1.0 = learn u32_says c.u32_at.ensures c.peer_acked-1.given.1 in peer-acked-read)) in peer-acked-took)))).here c.peer_read-1.given.0.0 c.peer_read-1.given.0.1.0 = took _ _ u32 (number-lawful 4) ((let by : Bytes (c.args.row.now) = typed (c.args.row.now) c.shared_slice_known-1.given in by)) ((let peer-read-read : read_at u32 (c.args.row.now) ((field-yes (start).so ((let peer-acked-took : Took u32 (c.args.row.now) (c.args.at) c.peer_acked-1.given.0.0 c.peer_acked-1.given.0.1.0 = took _ _ u32 (number-lawful 4) ((let by : Bytes (c.args.row.now) = typed (c.args.row.now) c.shared_slice_known-1.given in by)) ((let peer-acked-read : read_at u32 (c.args.row.now) (c.args.at) ≡ takes c.peer_acked-1.given.0.0 c.peer_acked-1.given.0.1.0 = learn u32_says c.u32_at.ensures c.peer_acked-1.given.1 in peer-acked-read)) in peer-acked-took)))).here ≡ takes c.peer_read-1.given.0.0 c.peer_read-1.given.0.1.0 = learn u32_says c.u32_at-2.ensures c.peer_read-1.given.1 in peer-read-read)) in peer-read-took)))).here c.read_marked-1.given.0.0 c.read_marked-1.given.0.1.0 = took _ _ u32 (number-lawful 4) ((let by : Bytes (c.args.row.now) = typed (c.args.row.now) c.shared_slice_known-1.given in by)) ((let read-marked-read : read_at u32 (c.args.row.now) ((field-yes ((field-yes (start).so ((let peer-acked-took : Took u32 (c.args.row.now) (c.args.at) c.peer_acked-1.given.0.0 c.peer_acked-1.given.0.1.0 = took _ _ u32 (number-lawful 4) ((let by : Bytes (c.args.row.now) = typed (c.args.row.now) c.shared_slice_known-1.given in by)) ((let peer-acked-read : read_at u32 (c.args.row.now) (c.args.at) ≡ takes c.peer_acked-1.given.0.0 c.peer_acked-1.given.0.1.0 = learn u32_says c.u32_at.ensures c.peer_acked-1.given.1 in peer-acked-read)) in peer-acked-took)))).so ((let peer-read-took : Took u32 (c.args.row.now) ((field-yes (start).so ((let peer-acked-took : Took u32 (c.args.row.now) (c.args.at) c.peer_acked-1.given.0.0 c.peer_acked-1.given.0.1.0 = took _ _ u32 (number-lawful 4) ((let by : Bytes (c.args.row.now) = typed (c.args.row.now) c.shared_slice_known-1.given in by)) ((let peer-acked-read : read_at u32 (c.args.row.now) (c.args.at) ≡ takes c.peer_acked-1.given.0.0 c.peer_acked-1.given.0.1.0 = learn u32_says c.u32_at.ensures c.peer_acked-1.given.1 in peer-acked-read)) in peer-acked-took)))).here c.peer_read-1.given.0.0 c.peer_read-1.given.0.1.0 = took _ _ u32 (number-lawful 4) ((let by : Bytes (c.args.row.now) = typed (c.args.row.now) c.shared_slice_known-1.given in by)) ((let peer-read-read : read_at u32 (c.args.row.now) ((field-yes (start).so ((let peer-acked-took : Took u32 (c.args.row.now) (c.args.at) c.peer_acked-1.given.0.0 c.peer_acked-1.given.0.1.0 = took _ _ u32 (number-lawful 4) ((let by : Bytes (c.args.row.now) = typed (c.args.row.now) c.shared_slice_known-1.given in by)) ((let peer-acked-read : read_at u32 (c.args.row.now) (c.args.at) ≡ takes c.peer_acked-1.given.0.0 c.peer_acked-1.given.0.1.0 = learn u32_says c.u32_at.ensures c.peer_acked-1.given.1 in peer-acked-read)) in peer-acked-took)))).here ≡ takes c.peer_read-1.given.0.0 c.peer_read-1.given.0.1.0 = learn u32_says c.u32_at-2.ensures c.peer_read-1.given.1 in peer-read-read)) in peer-read-took)))).here ≡ takes c.read_marked-1.given.0.0 c.read_marked-1.given.0.1.0 = learn u32_says c.u32_at-3.ensures c.read_marked-1.given.1 in read-marked-read)) in read-marked-took)))).here c.contiguous-1.given.0.0 c.contiguous-1.given.0.1.0 = took _ _ u32 (number-lawful 4) ((let by : Bytes (c.args.row.now) = typed (c.args.row.now) c.shared_slice_known-1.given in by)) ((let contiguous-read : read_at u32 (c.args.row.now) ((field-yes ((field-yes ((field-yes (start).so ((let peer-acked-took : Took u32 (c.args.row.now) (c.args.at) c.peer_acked-1.given.0.0 c.peer_acked-1.given.0.1.0 = took _ _ u32 (number-lawful 4) ((let by : Bytes (c.args.row.now) = typed (c.args.row.now) c.shared_slice_known-1.given in by)) ((let peer-acked-read : read_at u32 (c.args.row.now) (c.args.at) ≡ takes c.peer_acked-1.given.0.0 c.peer_acked-1.given.0.1.0 = learn u32_says c.u32_at.ensures c.peer_acked-1.given.1 in peer-acked-read)) in peer-acked-took)))).so ((let peer-read-took : Took u32 (c.args.row.now) ((field-yes (start).so ((let peer-acked-took : Took u32 (c.args.row.now) (c.args.at) c.peer_acked-1.given.0.0 c.peer_acked-1.given.0.1.0 = took _ _ u32 (number-lawful 4) ((let by : Bytes (c.args.row.now) = typed (c.args.row.now) c.shared_slice_known-1.given in by)) ((let peer-acked-read : read_at u32 (c.args.row.now) (c.args.at) ≡ takes c.peer_acked-1.given.0.0 c.peer_acked-1.given.0.1.0 = learn u32_says c.u32_at.ensures c.peer_acked-1.given.1 in peer-acked-read)) in peer-acked-took)))).here c.peer_read-1.given.0.0 c.peer_read-1.given.0.1.0 = took _ _ u32 (number-lawful 4) ((let by : Bytes (c.args.row.now) = typed (c.args.row.now) c.shared_slice_known-1.given in by)) ((let peer-read-read : read_at u32 (c.args.row.now) ((field-yes (start).so ((let peer-acked-took : Took u32 (c.args.row.now) (c.args.at) c.peer_acked-1.given.0.0 c.peer_acked-1.given.0.1.0 = took _ _ u32 (number-lawful 4) ((let by : Bytes (c.args.row.now) = typed (c.args.row.now) c.shared_slice_known-1.given in by)) ((let peer-acked-read : read_at u32 (c.args.row.now) (c.args.at) ≡ takes c.peer_acked-1.given.0.0 c.peer_acked-1.given.0.1.0 = learn u32_says c.u32_at.ensures c.peer_acked-1.given.1 in peer-acked-read)) in peer-acked-took)))).here ≡ takes c.peer_read-1.given.0.0 c.peer_read-1.given.0.1.0 = learn u32_says c.u32_at-2.ensures c.peer_read-1.given.1 in peer-read-read)) in peer-read-took)))).so ((let read-marked-took : Took u32 (c.args.row.now) ((field-yes ((field-yes (start).so ((let peer-acked-took : Took u32 (c.args.row.now) (c.args.at) c.peer_acked-1.given.0.0 c.peer_acked-1.given.0.1.0 = took _ _ u32 (number-lawful 4) ((let by : Bytes (c.args.row.now) = typed (c.args.row.now) c.shared_slice_known-1.given in by)) ((let peer-acked-read : read_at u32 (c.args.row.now) (c.args.at) ≡ takes c.peer_acked-1.given.0.0 c.peer_acked-1.given.0.1.0 = learn u32_says c.u32_at.ensures c.peer_acked-1.given.1 in peer-acked-read)) in peer-acked-took)))).so ((let peer-read-took : Took u32 (c.args.row.now) ((field-yes (start).so ((let peer-acked-took : Took u32 (c.args.row.now) (c.args.at) c.peer_acked-1.given.0.0 c.peer_acked-1.given.0.1.0 = took _ _ u32 (number-lawful 4) ((let by : Bytes (c.args.row.now) = typed (c.args.row.now) c.shared_slice_known-1.given in by)) ((let peer-acked-read : read_at u32 (c.args.row.now) (c.args.at) ≡ takes c.peer_acked-1.given.0.0 c.peer_acked-1.given.0.1.0 = learn u32_says c.u32_at.ensures c.peer_acked-1.given.1 in peer-acked-read)) in peer-acked-took)))).here c.peer_read-1.given.0.0 c.peer_read-1.given.0.1.0 = took _ _ u32 (number-lawful 4) ((let by : Bytes (c.args.row.now) = typed (c.args.row.now) c.shared_slice_known-1.given in by)) ((let peer-read-read : read_at u32 (c.args.row.now) ((field-yes (start).so ((let peer-acked-took : Took u32 (c.args.row.now) (c.args.at) c.peer_acked-1.given.0.0 c.peer_acked-1.given.0.1.0 = took _ _ u32 (number-lawful 4) ((let by : Bytes (c.args.row.now) = typed (c.args.row.now) c.shared_slice_known-1.given in by)) ((let peer-acked-read : read_at u32 (c.args.row.now) (c.args.at) ≡ takes c.peer_acked-1.given.0.0 c.peer_acked-1.given.0.1.0 = learn u32_says c.u32_at.ensures c.peer_acked-1.given.1 in peer-acked-read)) in peer-acked-took)))).here ≡ takes c.peer_read-1.given.0.0 c.peer_read-1.given.0.1.0 = learn u32_says c.u32_at-2.ensures c.peer_read-1.given.1 in peer-read-read)) in peer-read-took)))).here c.read_marked-1.given.0.0 c.read_marked-1.given.0.1.0 = took _ _ u32 (number-lawful 4) ((let by : Bytes (c.args.row.now) = typed (c.args.row.now) c.shared_slice_known-1.given in by)) ((let read-marked-read : read_at u32 (c.args.row.now) ((field-yes ((field-yes (start).so ((let peer-acked-took : Took u32 (c.args.row.now) (c.args.at) c.peer_acked-1.given.0.0 c.peer_acked-1.given.0.1.0 = took _ _ u32 (number-lawful 4) ((let by : Bytes (c.args.row.now) = typed (c.args.row.now) c.shared_slice_known-1.given in by)) ((let peer-acked-read : read_at u32 (c.args.row.now) (c.args.at) ≡ takes c.peer_acked-1.given.0.0 c.peer_acked-1.given.0.1.0 = learn u32_says c.u32_at.ensures c.peer_acked-1.given.1 in peer-acked-read)) in peer-acked-took)))).so ((let peer-read-took : Took u32 (c.args.row.now) ((field-yes (start).so ((let peer-acked-took : Took u32 (c.args.row.now) (c.args.at) c.peer_acked-1.given.0.0 c.peer_acked-1.given.0.1.0 = took _ _ u32 (number-lawful 4) ((let by : Bytes (c.args.row.now) = typed (c.args.row.now) c.shared_slice_known-1.given in by)) ((let peer-acked-read : read_at u32 (c.args.row.now) (c.args.at) ≡ takes c.peer_acked-1.given.0.0 c.peer_acked-1.given.0.1.0 = learn u32_says c.u32_at.ensures c.peer_acked-1.given.1 in peer-acked-read)) in peer-acked-took)))).here c.peer_read-1.given.0.0 c.peer_read-1.given.0.1.0 = took _ _ u32 (number-lawful 4) ((let by : Bytes (c.args.row.now) = typed (c.args.row.now) c.shared_slice_known-1.given in by)) ((let peer-read-read : read_at u32 (c.args.row.now) ((field-yes (start).so ((let peer-acked-took : Took u32 (c.args.row.now) (c.args.at) c.peer_acked-1.given.0.0 c.peer_acked-1.given.0.1.0 = took _ _ u32 (number-lawful 4) ((let by : Bytes (c.args.row.now) = typed (c.args.row.now) c.shared_slice_known-1.given in by)) ((let peer-acked-read : read_at u32 (c.args.row.now) (c.args.at) ≡ takes c.peer_acked-1.given.0.0 c.peer_acked-1.given.0.1.0 = learn u32_says c.u32_at.ensures c.peer_acked-1.given.1 in peer-acked-read)) in peer-acked-took)))).here ≡ takes c.peer_read-1.given.0.0 c.peer_read-1.given.0.1.0 = learn u32_says c.u32_at-2.ensures c.peer_read-1.given.1 in peer-read-read)) in peer-read-took)))).here ≡ takes c.read_marked-1.given.0.0 c.read_marked-1.given.0.1.0 = learn u32_says c.u32_at-3.ensures c.read_marked-1.given.1 in read-marked-read)) in read-marked-took)))).here ≡ takes c.contiguous-1.given.0.0 c.contiguous-1.given.0.1.0 = learn u32_says c.u32_at-4.ensures c.contiguous-1.given.1 in contiguous-read)) in contiguous-took)))).here + length ((list (group range)).print (list_in (group range) (c.args.row.now) c.above_field-1.given.0.0)) = list-next (group range) range-lawful (c.args.row.now) ((let by : Bytes (c.args.row.now) = typed (c.args.row.now) c.shared_slice_known-1.given in by)) _ c.ranges_at-above_field.ensures c.above_field-1.given.1 ((let contiguous-took : Took u32 (c.args.row.now) ((field-yes ((field-yes ((field-yes (start).so ((let peer-acked-took : Took u32 (c.args.row.now) (c.args.at) c.peer_acked-1.given.0.0 c.peer_acked-1.given.0.1.0 = took _ _ u32 (number-lawful 4) ((let by : Bytes (c.args.row.now) = typed (c.args.row.now) c.shared_slice_known-1.given in by)) ((let peer-acked-read : read_at u32 (c.args.row.now) (c.args.at) ≡ takes c.peer_acked-1.given.0.0 c.peer_acked-1.given.0.1.0 = learn u32_says c.u32_at.ensures c.peer_acked-1.given.1 in peer-acked-read)) in peer-acked-took)))).so ((let peer-read-took : Took u32 (c.args.row.now) ((field-yes (start).so ((let peer-acked-took : Took u32 (c.args.row.now) (c.args.at) c.peer_acked-1.given.0.0 c.peer_acked-1.given.0.1.0 = took _ _ u32 (number-lawful 4) ((let by : Bytes (c.args.row.now) = typed (c.args.row.now) c.shared_slice_known-1.given in by)) ((let peer-acked-read : read_at u32 (c.args.row.now) (c.args.at) ≡ takes c.peer_acked-1.given.0.0 c.peer_acked-1.given.0.1.0 = learn u32_says c.u32_at.ensures c.peer_acked-1.given.1 in peer-acked-read)) in peer-acked-took)))).here c.peer_read-1.given.0.0 c.peer_read-1.given.0.1.0 = took _ _ u32 (number-lawful 4) ((let by : Bytes (c.args.row.now) = typed (c.args.row.now) c.shared_slice_known-1.given in by)) ((let peer-read-read : read_at u32 (c.args.row.now) ((field-yes (start).so ((let peer-acked-took : Took u32 (c.args.row.now) (c.args.at) c.peer_acked-1.given.0.0 c.peer_acked-1.given.0.1.0 = took _ _ u32 (number-lawful 4) ((let by : Bytes (c.args.row.now) = typed (c.args.row.now) c.shared_slice_known-1.given in by)) ((let peer-acked-read : read_at u32 (c.args.row.now) (c.args.at) ≡ takes c.peer_acked-1.given.0.0 c.peer_acked-1.given.0.1.0 = learn u32_says c.u32_at.ensures c.peer_acked-1.given.1 in peer-acked-read)) in peer-acked-took)))).here ≡ takes c.peer_read-1.given.0.0 c.peer_read-1.given.0.1.0 = learn u32_says c.u32_at-2.ensures c.peer_read-1.given.1 in peer-read-read)) in peer-read-took)))).so ((let read-marked-took : Took u32 (c.args.row.now) ((field-yes ((field-yes (start).so ((let peer-acked-took : Took u32 (c.args.row.now) (c.args.at) c.peer_acked-1.given.0.0 c.peer_acked-1.given.0.1.0 = took _ _ u32 (number-lawful 4) ((let by : Bytes (c.args.row.now) = typed (c.args.row.now) c.shared_slice_known-1.given in by)) ((let peer-acked-read : read_at u32 (c.args.row.now) (c.args.at) ≡ takes c.peer_acked-1.given.0.0 c.peer_acked-1.given.0.1.0 = learn u32_says c.u32_at.ensures c.peer_acked-1.given.1 in peer-acked-read)) in peer-acked-took)))).so ((let peer-read-took : Took u32 (c.args.row.now) ((field-yes (start).so ((let peer-acked-took : Took u32 (c.args.row.now) (c.args.at) c.peer_acked-1.given.0.0 c.peer_acked-1.given.0.1.0 = took _ _ u32 (number-lawful 4) ((let by : Bytes (c.args.row.now) = typed (c.args.row.now) c.shared_slice_known-1.given in by)) ((let peer-acked-read : read_at u32 (c.args.row.now) (c.args.at) ≡ takes c.peer_acked-1.given.0.0 c.peer_acked-1.given.0.1.0 = learn u32_says c.u32_at.ensures c.peer_acked-1.given.1 in peer-acked-read)) in peer-acked-took)))).here c.peer_read-1.given.0.0 c.peer_read-1.given.0.1.0 = took _ _ u32 (number-lawful 4) ((let by : Bytes (c.args.row.now) = typed (c.args.row.now) c.shared_slice_known-1.given in by)) ((let peer-read-read : read_at u32 (c.args.row.now) ((field-yes (start).so ((let peer-acked-took : Took u32 (c.args.row.now) (c.args.at) c.peer_acked-1.given.0.0 c.peer_acked-1.given.0.1.0 = took _ _ u32 (number-lawful 4) ((let by : Bytes (c.args.row.now) = typed (c.args.row.now) c.shared_slice_known-1.given in by)) ((let peer-acked-read : read_at u32 (c.args.row.now) (c.args.at) ≡ takes c.peer_acked-1.given.0.0 c.peer_acked-1.given.0.1.0 = learn u32_says c.u32_at.ensures c.peer_acked-1.given.1 in peer-acked-read)) in peer-acked-took)))).here ≡ takes c.peer_read-1.given.0.0 c.peer_read-1.given.0.1.0 = learn u32_says c.u32_at-2.ensures c.peer_read-1.given.1 in peer-read-read)) in peer-read-took)))).here c.read_marked-1.given.0.0 c.read_marked-1.given.0.1.0 = took _ _ u32 (number-lawful 4) ((let by : Bytes (c.args.row.now) = typed (c.args.row.now) c.shared_slice_known-1.given in by)) ((let read-marked-read : read_at u32 (c.args.row.now) ((field-yes ((field-yes (start).so ((let peer-acked-took : Took u32 (c.args.row.now) (c.args.at) c.peer_acked-1.given.0.0 c.peer_acked-1.given.0.1.0 = took _ _ u32 (number-lawful 4) ((let by : Bytes (c.args.row.now) = typed (c.args.row.now) c.shared_slice_known-1.given in by)) ((let peer-acked-read : read_at u32 (c.args.row.now) (c.args.at) ≡ takes c.peer_acked-1.given.0.0 c.peer_acked-1.given.0.1.0 = learn u32_says c.u32_at.ensures c.peer_acked-1.given.1 in peer-acked-read)) in peer-acked-took)))).so ((let peer-read-took : Took u32 (c.args.row.now) ((field-yes (start).so ((let peer-acked-took : Took u32 (c.args.row.now) (c.args.at) c.peer_acked-1.given.0.0 c.peer_acked-1.given.0.1.0 = took _ _ u32 (number-lawful 4) ((let by : Bytes (c.args.row.now) = typed (c.args.row.now) c.shared_slice_known-1.given in by)) ((let peer-acked-read : read_at u32 (c.args.row.now) (c.args.at) ≡ takes c.peer_acked-1.given.0.0 c.peer_acked-1.given.0.1.0 = learn u32_says c.u32_at.ensures c.peer_acked-1.given.1 in peer-acked-read)) in peer-acked-took)))).here c.peer_read-1.given.0.0 c.peer_read-1.given.0.1.0 = took _ _ u32 (number-lawful 4) ((let by : Bytes (c.args.row.now) = typed (c.args.row.now) c.shared_slice_known-1.given in by)) ((let peer-read-read : read_at u32 (c.args.row.now) ((field-yes (start).so ((let peer-acked-took : Took u32 (c.args.row.now) (c.args.at) c.peer_acked-1.given.0.0 c.peer_acked-1.given.0.1.0 = took _ _ u32 (number-lawful 4) ((let by : Bytes (c.args.row.now) = typed (c.args.row.now) c.shared_slice_known-1.given in by)) ((let peer-acked-read : read_at u32 (c.args.row.now) (c.args.at) ≡ takes c.peer_acked-1.given.0.0 c.peer_acked-1.given.0.1.0 = learn u32_says c.u32_at.ensures c.peer_acked-1.given.1 in peer-acked-read)) in peer-acked-took)))).here ≡ takes c.peer_read-1.given.0.0 c.peer_read-1.given.0.1.0 = learn u32_says c.u32_at-2.ensures c.peer_read-1.given.1 in peer-read-read)) in peer-read-took)))).here ≡ takes c.read_marked-1.given.0.0 c.read_marked-1.given.0.1.0 = learn u32_says c.u32_at-3.ensures c.read_marked-1.given.1 in read-marked-read)) in read-marked-took)))).here c.contiguous-1.given.0.0 c.contiguous-1.given.0.1.0 = took _ _ u32 (number-lawful 4) ((let by : Bytes (c.args.row.now) = typed (c.args.row.now) c.shared_slice_known-1.given in by)) ((let contiguous-read : read_at u32 (c.args.row.now) ((field-yes ((field-yes ((field-yes (start).so ((let peer-acked-took : Took u32 (c.args.row.now) (c.args.at) c.peer_acked-1.given.0.0 c.peer_acked-1.given.0.1.0 = took _ _ u32 (number-lawful 4) ((let by : Bytes (c.args.row.now) = typed (c.args.row.now) c.shared_slice_known-1.given in by)) ((let peer-acked-read : read_at u32 (c.args.row.now) (c.args.at) ≡ takes c.peer_acked-1.given.0.0 c.peer_acked-1.given.0.1.0 = learn u32_says c.u32_at.ensures c.peer_acked-1.given.1 in peer-acked-read)) in peer-acked-took)))).so ((let peer-read-took : Took u32 (c.args.row.now) ((field-yes (start).so ((let peer-acked-took : Took u32 (c.args.row.now) (c.args.at) c.peer_acked-1.given.0.0 c.peer_acked-1.given.0.1.0 = took _ _ u32 (number-lawful 4) ((let by : Bytes (c.args.row.now) = typed (c.args.row.now) c.shared_slice_known-1.given in by)) ((let peer-acked-read : read_at u32 (c.args.row.now) (c.args.at) ≡ takes c.peer_acked-1.given.0.0 c.peer_acked-1.given.0.1.0 = learn u32_says c.u32_at.ensures c.peer_acked-1.given.1 in peer-acked-read)) in peer-acked-took)))).here c.peer_read-1.given.0.0 c.peer_read-1.given.0.1.0 = took _ _ u32 (number-lawful 4) ((let by : Bytes (c.args.row.now) = typed (c.args.row.now) c.shared_slice_known-1.given in by)) ((let peer-read-read : read_at u32 (c.args.row.now) ((field-yes (start).so ((let peer-acked-took : Took u32 (c.args.row.now) (c.args.at) c.peer_acked-1.given.0.0 c.peer_acked-1.given.0.1.0 = took _ _ u32 (number-lawful 4) ((let by : Bytes (c.args.row.now) = typed (c.args.row.now) c.shared_slice_known-1.given in by)) ((let peer-acked-read : read_at u32 (c.args.row.now) (c.args.at) ≡ takes c.peer_acked-1.given.0.0 c.peer_acked-1.given.0.1.0 = learn u32_says c.u32_at.ensures c.peer_acked-1.given.1 in peer-acked-read)) in peer-acked-took)))).here ≡ takes c.peer_read-1.given.0.0 c.peer_read-1.given.0.1.0 = learn u32_says c.u32_at-2.ensures c.peer_read-1.given.1 in peer-read-read)) in peer-read-took)))).so ((let read-marked-took : Took u32 (c.args.row.now) ((field-yes ((field-yes (start).so ((let peer-acked-took : Took u32 (c.args.row.now) (c.args.at) c.peer_acked-1.given.0.0 c.peer_acked-1.given.0.1.0 = took _ _ u32 (number-lawful 4) ((let by : Bytes (c.args.row.now) = typed (c.args.row.now) c.shared_slice_known-1.given in by)) ((let peer-acked-read : read_at u32 (c.args.row.now) (c.args.at) ≡ takes c.peer_acked-1.given.0.0 c.peer_acked-1.given.0.1.0 = learn u32_says c.u32_at.ensures c.peer_acked-1.given.1 in peer-acked-read)) in peer-acked-took)))).so ((let peer-read-took : Took u32 (c.args.row.now) ((field-yes (start).so ((let peer-acked-took : Took u32 (c.args.row.now) (c.args.at) c.peer_acked-1.given.0.0 c.peer_acked-1.given.0.1.0 = took _ _ u32 (number-lawful 4) ((let by : Bytes (c.args.row.now) = typed (c.args.row.now) c.shared_slice_known-1.given in by)) ((let peer-acked-read : read_at u32 (c.args.row.now) (c.args.at) ≡ takes c.peer_acked-1.given.0.0 c.peer_acked-1.given.0.1.0 = learn u32_says c.u32_at.ensures c.peer_acked-1.given.1 in peer-acked-read)) in peer-acked-took)))).here c.peer_read-1.given.0.0 c.peer_read-1.given.0.1.0 = took _ _ u32 (number-lawful 4) ((let by : Bytes (c.args.row.now) = typed (c.args.row.now) c.shared_slice_known-1.given in by)) ((let peer-read-read : read_at u32 (c.args.row.now) ((field-yes (start).so ((let peer-acked-took : Took u32 (c.args.row.now) (c.args.at) c.peer_acked-1.given.0.0 c.peer_acked-1.given.0.1.0 = took _ _ u32 (number-lawful 4) ((let by : Bytes (c.args.row.now) = typed (c.args.row.now) c.shared_slice_known-1.given in by)) ((let peer-acked-read : read_at u32 (c.args.row.now) (c.args.at) ≡ takes c.peer_acked-1.given.0.0 c.peer_acked-1.given.0.1.0 = learn u32_says c.u32_at.ensures c.peer_acked-1.given.1 in peer-acked-read)) in peer-acked-took)))).here ≡ takes c.peer_read-1.given.0.0 c.peer_read-1.given.0.1.0 = learn u32_says c.u32_at-2.ensures c.peer_read-1.given.1 in peer-read-read)) in peer-read-took)))).here c.read_marked-1.given.0.0 c.read_marked-1.given.0.1.0 = took _ _ u32 (number-lawful 4) ((let by : Bytes (c.args.row.now) = typed (c.args.row.now) c.shared_slice_known-1.given in by)) ((let read-marked-read : read_at u32 (c.args.row.now) ((field-yes ((field-yes (start).so ((let peer-acked-took : Took u32 (c.args.row.now) (c.args.at) c.peer_acked-1.given.0.0 c.peer_acked-1.given.0.1.0 = took _ _ u32 (number-lawful 4) ((let by : Bytes (c.args.row.now) = typed (c.args.row.now) c.shared_slice_known-1.given in by)) ((let peer-acked-read : read_at u32 (c.args.row.now) (c.args.at) ≡ takes c.peer_acked-1.given.0.0 c.peer_acked-1.given.0.1.0 = learn u32_says c.u32_at.ensures c.peer_acked-1.given.1 in peer-acked-read)) in peer-acked-took)))).so ((let peer-read-took : Took u32 (c.args.row.now) ((field-yes (start).so ((let peer-acked-took : Took u32 (c.args.row.now) (c.args.at) c.peer_acked-1.given.0.0 c.peer_acked-1.given.0.1.0 = took _ _ u32 (number-lawful 4) ((let by : Bytes (c.args.row.now) = typed (c.args.row.now) c.shared_slice_known-1.given in by)) ((let peer-acked-read : read_at u32 (c.args.row.now) (c.args.at) ≡ takes c.peer_acked-1.given.0.0 c.peer_acked-1.given.0.1.0 = learn u32_says c.u32_at.ensures c.peer_acked-1.given.1 in peer-acked-read)) in peer-acked-took)))).here c.peer_read-1.given.0.0 c.peer_read-1.given.0.1.0 = took _ _ u32 (number-lawful 4) ((let by : Bytes (c.args.row.now) = typed (c.args.row.now) c.shared_slice_known-1.given in by)) ((let peer-read-read : read_at u32 (c.args.row.now) ((field-yes (start).so ((let peer-acked-took : Took u32 (c.args.row.now) (c.args.at) c.peer_acked-1.given.0.0 c.peer_acked-1.given.0.1.0 = took _ _ u32 (number-lawful 4) ((let by : Bytes (c.args.row.now) = typed (c.args.row.now) c.shared_slice_known-1.given in by)) ((let peer-acked-read : read_at u32 (c.args.row.now) (c.args.at) ≡ takes c.peer_acked-1.given.0.0 c.peer_acked-1.given.0.1.0 = learn u32_says c.u32_at.ensures c.peer_acked-1.given.1 in peer-acked-read)) in peer-acked-took)))).here ≡ takes c.peer_read-1.given.0.0 c.peer_read-1.given.0.1.0 = learn u32_says c.u32_at-2.ensures c.peer_read-1.given.1 in peer-read-read)) in peer-read-took)))).here ≡ takes c.read_marked-1.given.0.0 c.read_marked-1.given.0.1.0 = learn u32_says c.u32_at-3.ensures c.read_marked-1.given.1 in read-marked-read)) in read-marked-took)))).here ≡ takes c.contiguous-1.given.0.0 c.contiguous-1.given.0.1.0 = learn u32_says c.u32_at-4.ensures c.contiguous-1.given.1 in contiguous-read)) in contiguous-took)).inside in above-next), (let unacked-next : c.unacked_field-1.given.0.0.next ≡ ((field-yes ((field-yes ((field-yes ((field-yes ((field-yes (start).so ((let peer-acked-took : Took u32 (c.args.row.now) (c.args.at) c.peer_acked-1.given.0.0 c.peer_acked-1.given.0.1.0 = took _ _ u32 (number-lawful 4) ((let by : Bytes (c.args.row.now) = typed (c.args.row.now) c.shared_slice_known-1.given in by)) ((let peer-acked-read : read_at u32 (c.args.row.now) (c.args.at) ≡ takes c.peer_acked-1.given.0.0 c.peer_acked-1.given.0.1.0 = learn u32_says c.u32_at.ensures c.peer_acked-1.given.1 in peer-acked-read)) in peer-acked-took)))).so ((let peer-read-took : Took u32 (c.args.row.now) ((field-yes (start).so ((let peer-acked-took : Took u32 (c.args.row.now) (c.args.at) c.peer_acked-1.given.0.0 c.peer_acked-1.given.0.1.0 = took _ _ u32 (number-lawful 4) ((let by : Bytes (c.args.row.now) = typed (c.args.row.now) c.shared_slice_known-1.given in by)) ((let peer-acked-read : read_at u32 (c.args.row.now) (c.args.at) ≡ takes c.peer_acked-1.given.0.0 c.peer_acked-1.given.0.1.0 = learn u32_says c.u32_at.ensures c.peer_acked-1.given.1 in peer-acked-read)) in peer-acked-took)))).here c.peer_read-1.given.0.0 c.peer_read-1.given.0.1.0 = took _ _ u32 (number-lawful 4) ((let by : Bytes (c.args.row.now) = typed (c.args.row.now) c.shared_slice_known-1.given in by)) ((let peer-read-read : read_at u32 (c.args.row.now) ((field-yes (start).so ((let peer-acked-took : Took u32 (c.args.row.now) (c.args.at) c.peer_acked-1.given.0.0 c.peer_acked-1.given.0.1.0 = took _ _ u32 (number-lawful 4) ((let by : Bytes (c.args.row.now) = typed (c.args.row.now) c.shared_slice_known-1.given in by)) ((let peer-acked-read : read_at u32 (c.args.row.now) (c.args.at) ≡ takes c.peer_acked-1.given.0.0 c.peer_acked-1.given.0.1.0 = learn u32_says c.u32_at.ensures c.peer_acked-1.given.1 in peer-acked-read)) in peer-acked-took)))).here ≡ takes c.peer_read-1.given.0.0 c.peer_read-1.given.0.1.0 = learn u32_says c.u32_at-2.ensures c.peer_read-1.given.1 in peer-read-read)) in peer-read-took)))).so ((let read-marked-took : Took u32 (c.args.row.now) ((field-yes ((field-yes (start).so ((let peer-acked-took : Took u32 (c.args.row.now) (c.args.at) c.peer_acked-1.given.0.0 c.peer_acked-1.given.0.1.0 = took _ _ u32 (number-lawful 4) ((let by : Bytes (c.args.row.now) = typed (c.args.row.now) c.shared_slice_known-1.given in by)) ((let peer-acked-read : read_at u32 (c.args.row.now) (c.args.at) ≡ takes c.peer_acked-1.given.0.0 c.peer_acked-1.given.0.1.0 = learn u32_says c.u32_at.ensures c.peer_acked-1.given.1 in peer-acked-read)) in peer-acked-took)))).so ((let peer-read-took : Took u32 (c.args.row.now) ((field-yes (start).so ((let peer-acked-took : Took u32 (c.args.row.now) (c.args.at) c.peer_acked-1.given.0.0 c.peer_acked-1.given.0.1.0 = took _ _ u32 (number-lawful 4) ((let by : Bytes (c.args.row.now) = typed (c.args.row.now) c.shared_slice_known-1.given in by)) ((let peer-acked-read : read_at u32 (c.args.row.now) (c.args.at) ≡ takes c.peer_acked-1.given.0.0 c.peer_acked-1.given.0.1.0 = learn u32_says c.u32_at.ensures c.peer_acked-1.given.1 in peer-acked-read)) in peer-acked-took)))).here c.peer_read-1.given.0.0 c.peer_read-1.given.0.1.0 = took _ _ u32 (number-lawful 4) ((let by : Bytes (c.args.row.now) = typed (c.args.row.now) c.shared_slice_known-1.given in by)) ((let peer-read-read : read_at u32 (c.args.row.now) ((field-yes (start).so ((let peer-acked-took : Took u32 (c.args.row.now) (c.args.at) c.peer_acked-1.given.0.0 c.peer_acked-1.given.0.1.0 = took _ _ u32 (number-lawful 4) ((let by : Bytes (c.args.row.now) = typed (c.args.row.now) c.shared_slice_known-1.given in by)) ((let peer-acked-read : read_at u32 (c.args.row.now) (c.args.at) ≡ takes c.peer_acked-1.given.0.0 c.peer_acked-1.given.0.1.0 = learn u32_says c.u32_at.ensures c.peer_acked-1.given.1 in peer-acked-read)) in peer-acked-took)))).here ≡ takes c.peer_read-1.given.0.0 c.peer_read-1.given.0.1.0 = learn u32_says c.u32_at-2.ensures c.peer_read-1.given.1 in peer-read-read)) in peer-read-took)))).here c.read_marked-1.given.0.0 c.read_marked-1.given.0.1.0 = took _ _ u32 (number-lawful 4) ((let by : Bytes (c.args.row.now) = typed (c.args.row.now) c.shared_slice_known-1.given in by)) ((let read-marked-read : read_at u32 (c.args.row.now) ((field-yes ((field-yes (start).so ((let peer-acked-took : Took u32 (c.args.row.now) (c.args.at) c.peer_acked-1.given.0.0 c.peer_acked-1.given.0.1.0 = took _ _ u32 (number-lawful 4) ((let by : Bytes (c.args.row.now) = typed (c.args.row.now) c.shared_slice_known-1.given in by)) ((let peer-acked-read : read_at u32 (c.args.row.now) (c.args.at) ≡ takes c.peer_acked-1.given.0.0 c.peer_acked-1.given.0.1.0 = learn u32_says c.u32_at.ensures c.peer_acked-1.given.1 in peer-acked-read)) in peer-acked-took)))).so ((let peer-read-took : Took u32 (c.args.row.now) ((field-yes (start).so ((let peer-acked-took : Took u32 (c.args.row.now) (c.args.at) c.peer_acked-1.given.0.0 c.peer_acked-1.given.0.1.0 = took _ _ u32 (number-lawful 4) ((let by : Bytes (c.args.row.now) = typed (c.args.row.now) c.shared_slice_known-1.given in by)) ((let peer-acked-read : read_at u32 (c.args.row.now) (c.args.at) ≡ takes c.peer_acked-1.given.0.0 c.peer_acked-1.given.0.1.0 = learn u32_says c.u32_at.ensures c.peer_acked-1.given.1 in peer-acked-read)) in peer-acked-took)))).here c.peer_read-1.given.0.0 c.peer_read-1.given.0.1.0 = took _ _ u32 (number-lawful 4) ((let by : Bytes (c.args.row.now) = typed (c.args.row.now) c.shared_slice_known-1.given in by)) ((let peer-read-read : read_at u32 (c.args.row.now) ((field-yes (start).so ((let peer-acked-took : Took u32 (c.args.row.now) (c.args.at) c.peer_acked-1.given.0.0 c.peer_acked-1.given.0.1.0 = took _ _ u32 (number-lawful 4) ((let by : Bytes (c.args.row.now) = typed (c.args.row.now) c.shared_slice_known-1.given in by)) ((let peer-acked-read : read_at u32 (c.args.row.now) (c.args.at) ≡ takes c.peer_acked-1.given.0.0 c.peer_acked-1.given.0.1.0 = learn u32_says c.u32_at.ensures c.peer_acked-1.given.1 in peer-acked-read)) in peer-acked-took)))).here ≡ takes c.peer_read-1.given.0.0 c.peer_read-1.given.0.1.0 = learn u32_says c.u32_at-2.ensures c.peer_read-1.given.1 in peer-read-read)) in peer-read-took)))).here ≡ takes c.read_marked-1.given.0.0 c.read_marked-1.given.0.1.0 = learn u32_says c.u32_at-3.ensures c.read_marked-1.given.1 in read-marked-read)) in read-marked-took)))).so ((let contiguous-took : Took u32 (c.args.row.now) ((field-yes ((field-yes ((field-yes (start).so ((let peer-acked-took : Took u32 (c.args.row.now) (c.args.at) c.peer_acked-1.given.0.0 c.peer_acked-1.given.0.1.0 = took _ _ u32 (number-lawful 4) ((let by : Bytes (c.args.row.now) = typed (c.args.row.now) c.shared_slice_known-1.given in by)) ((let peer-acked-read : read_at u32 (c.args.row.now) (c.args.at) ≡ takes c.peer_acked-1.given.0.0 c.peer_acked-1.given.0.1.0 = learn u32_says c.u32_at.ensures c.peer_acked-1.given.1 in peer-acked-read)) in peer-acked-took)))).so ((let peer-read-took : Took u32 (c.args.row.now) ((field-yes (start).so ((let peer-acked-took : Took u32 (c.args.row.now) (c.args.at) c.peer_acked-1.given.0.0 c.peer_acked-1.given.0.1.0 = took _ _ u32 (number-lawful 4) ((let by : Bytes (c.args.row.now) = typed (c.args.row.now) c.shared_slice_known-1.given in by)) ((let peer-acked-read : read_at u32 (c.args.row.now) (c.args.at) ≡ takes c.peer_acked-1.given.0.0 c.peer_acked-1.given.0.1.0 = learn u32_says c.u32_at.ensures c.peer_acked-1.given.1 in peer-acked-read)) in peer-acked-took)))).here c.peer_read-1.given.0.0 c.peer_read-1.given.0.1.0 = took _ _ u32 (number-lawful 4) ((let by : Bytes (c.args.row.now) = typed (c.args.row.now) c.shared_slice_known-1.given in by)) ((let peer-read-read : read_at u32 (c.args.row.now) ((field-yes (start).so ((let peer-acked-took : Took u32 (c.args.row.now) (c.args.at) c.peer_acked-1.given.0.0 c.peer_acked-1.given.0.1.0 = took _ _ u32 (number-lawful 4) ((let by : Bytes (c.args.row.now) = typed (c.args.row.now) c.shared_slice_known-1.given in by)) ((let peer-acked-read : read_at u32 (c.args.row.now) (c.args.at) ≡ takes c.peer_acked-1.given.0.0 c.peer_acked-1.given.0.1.0 = learn u32_says c.u32_at.ensures c.peer_acked-1.given.1 in peer-acked-read)) in peer-acked-took)))).here ≡ takes c.peer_read-1.given.0.0 c.peer_read-1.given.0.1.0 = learn u32_says c.u32_at-2.ensures c.peer_read-1.given.1 in peer-read-read)) in peer-read-took)))).so ((let read-marked-took : Took u32 (c.args.row.now) ((field-yes ((field-yes (start).so ((let peer-acked-took : Took u32 (c.args.row.now) (c.args.at) c.peer_acked-1.given.0.0 c.peer_acked-1.given.0.1.0 = took _ _ u32 (number-lawful 4) ((let by : Bytes (c.args.row.now) = typed (c.args.row.now) c.shared_slice_known-1.given in by)) ((let peer-acked-read : read_at u32 (c.args.row.now) (c.args.at) ≡ takes c.peer_acked-1.given.0.0 c.peer_acked-1.given.0.1.0 = learn u32_says c.u32_at.ensures c.peer_acked-1.given.1 in peer-acked-read)) in peer-acked-took)))).so ((let peer-read-took : Took u32 (c.args.row.now) ((field-yes (start).so ((let peer-acked-took : Took u32 (c.args.row.now) (c.args.at) c.peer_acked-1.given.0.0 c.peer_acked-1.given.0.1.0 = took _ _ u32 (number-lawful 4) ((let by : Bytes (c.args.row.now) = typed (c.args.row.now) c.shared_slice_known-1.given in by)) ((let peer-acked-read : read_at u32 (c.args.row.now) (c.args.at) ≡ takes c.peer_acked-1.given.0.0 c.peer_acked-1.given.0.1.0 = learn u32_says c.u32_at.ensures c.peer_acked-1.given.1 in peer-acked-read)) in peer-acked-took)))).here c.peer_read-1.given.0.0 c.peer_read-1.given.0.1.0 = took _ _ u32 (number-lawful 4) ((let by : Bytes (c.args.row.now) = typed (c.args.row.now) c.shared_slice_known-1.given in by)) ((let peer-read-read : read_at u32 (c.args.row.now) ((field-yes (start).so ((let peer-acked-took : Took u32 (c.args.row.now) (c.args.at) c.peer_acked-1.given.0.0 c.peer_acked-1.given.0.1.0 = took _ _ u32 (number-lawful 4) ((let by : Bytes (c.args.row.now) = typed (c.args.row.now) c.shared_slice_known-1.given in by)) ((let peer-acked-read : read_at u32 (c.args.row.now) (c.args.at) ≡ takes c.peer_acked-1.given.0.0 c.peer_acked-1.given.0.1.0 = learn u32_says c.u32_at.ensures c.peer_acked-1.given.1 in peer-acked-read)) in peer-acked-took)))).here ≡ takes c.peer_read-1.given.0.0 c.peer_read-1.given.0.1.0 = learn u32_says c.u32_at-2.ensures c.peer_read-1.given.1 in peer-read-read)) in peer-read-took)))).here c.read_marked-1.given.0.0 c.read_marked-1.given.0.1.0 = took _ _ u32 (number-lawful 4) ((let by : Bytes (c.args.row.now) = typed (c.args.row.now) c.shared_slice_known-1.given in by)) ((let read-marked-read : read_at u32 (c.args.row.now) ((field-yes ((field-yes (start).so ((let peer-acked-took : Took u32 (c.args.row.now) (c.args.at) c.peer_acked-1.given.0.0 c.peer_acked-1.given.0.1.0 = took _ _ u32 (number-lawful 4) ((let by : Bytes (c.args.row.now) = typed (c.args.row.now) c.shared_slice_known-1.given in by)) ((let peer-acked-read : read_at u32 (c.args.row.now) (c.args.at) ≡ takes c.peer_acked-1.given.0.0 c.peer_acked-1.given.0.1.0 = learn u32_says c.u32_at.ensures c.peer_acked-1.given.1 in peer-acked-read)) in peer-acked-took)))).so ((let peer-read-took : Took u32 (c.args.row.now) ((field-yes (start).so ((let peer-acked-took : Took u32 (c.args.row.now) (c.args.at) c.peer_acked-1.given.0.0 c.peer_acked-1.given.0.1.0 = took _ _ u32 (number-lawful 4) ((let by : Bytes (c.args.row.now) = typed (c.args.row.now) c.shared_slice_known-1.given in by)) ((let peer-acked-read : read_at u32 (c.args.row.now) (c.args.at) ≡ takes c.peer_acked-1.given.0.0 c.peer_acked-1.given.0.1.0 = learn u32_says c.u32_at.ensures c.peer_acked-1.given.1 in peer-acked-read)) in peer-acked-took)))).here c.peer_read-1.given.0.0 c.peer_read-1.given.0.1.0 = took _ _ u32 (number-lawful 4) ((let by : Bytes (c.args.row.now) = typed (c.args.row.now) c.shared_slice_known-1.given in by)) ((let peer-read-read : read_at u32 (c.args.row.now) ((field-yes (start).so ((let peer-acked-took : Took u32 (c.args.row.now) (c.args.at) c.peer_acked-1.given.0.0 c.peer_acked-1.given.0.1.0 = took _ _ u32 (number-lawful 4) ((let by : Bytes (c.args.row.now) = typed (c.args.row.now) c.shared_slice_known-1.given in by)) ((let peer-acked-read : read_at u32 (c.args.row.now) (c.args.at) ≡ takes c.peer_acked-1.given.0.0 c.peer_acked-1.given.0.1.0 = learn u32_says c.u32_at.ensures c.peer_acked-1.given.1 in peer-acked-read)) in peer-acked-took)))).here ≡ takes c.peer_read-1.given.0.0 c.peer_read-1.given.0.1.0 = learn u32_says c.u32_at-2.ensures c.peer_read-1.given.1 in peer-read-read)) in peer-read-took)))).here ≡ takes c.read_marked-1.given.0.0 c.read_marked-1.given.0.1.0 = learn u32_says c.u32_at-3.ensures c.read_marked-1.given.1 in read-marked-read)) in read-marked-took)))).here c.contiguous-1.given.0.0 c.contiguous-1.given.0.1.0 = took _ _ u32 (number-lawful 4) ((let by : Bytes (c.args.row.now) = typed (c.args.row.now) c.shared_slice_known-1.given in by)) ((let contiguous-read : read_at u32 (c.args.row.now) ((field-yes ((field-yes ((field-yes (start).so ((let peer-acked-took : Took u32 (c.args.row.now) (c.args.at) c.peer_acked-1.given.0.0 c.peer_acked-1.given.0.1.0 = took _ _ u32 (number-lawful 4) ((let by : Bytes (c.args.row.now) = typed (c.args.row.now) c.shared_slice_known-1.given in by)) ((let peer-acked-read : read_at u32 (c.args.row.now) (c.args.at) ≡ takes c.peer_acked-1.given.0.0 c.peer_acked-1.given.0.1.0 = learn u32_says c.u32_at.ensures c.peer_acked-1.given.1 in peer-acked-read)) in peer-acked-took)))).so ((let peer-read-took : Took u32 (c.args.row.now) ((field-yes (start).so ((let peer-acked-took : Took u32 (c.args.row.now) (c.args.at) c.peer_acked-1.given.0.0 c.peer_acked-1.given.0.1.0 = took _ _ u32 (number-lawful 4) ((let by : Bytes (c.args.row.now) = typed (c.args.row.now) c.shared_slice_known-1.given in by)) ((let peer-acked-read : read_at u32 (c.args.row.now) (c.args.at) ≡ takes c.peer_acked-1.given.0.0 c.peer_acked-1.given.0.1.0 = learn u32_says c.u32_at.ensures c.peer_acked-1.given.1 in peer-acked-read)) in peer-acked-took)))).here c.peer_read-1.given.0.0 c.peer_read-1.given.0.1.0 = took _ _ u32 (number-lawful 4) ((let by : Bytes (c.args.row.now) = typed (c.args.row.now) c.shared_slice_known-1.given in by)) ((let peer-read-read : read_at u32 (c.args.row.now) ((field-yes (start).so ((let peer-acked-took : Took u32 (c.args.row.now) (c.args.at) c.peer_acked-1.given.0.0 c.peer_acked-1.given.0.1.0 = took _ _ u32 (number-lawful 4) ((let by : Bytes (c.args.row.now) = typed (c.args.row.now) c.shared_slice_known-1.given in by)) ((let peer-acked-read : read_at u32 (c.args.row.now) (c.args.at) ≡ takes c.peer_acked-1.given.0.0 c.peer_acked-1.given.0.1.0 = learn u32_says c.u32_at.ensures c.peer_acked-1.given.1 in peer-acked-read)) in peer-acked-took)))).here ≡ takes c.peer_read-1.given.0.0 c.peer_read-1.given.0.1.0 = learn u32_says c.u32_at-2.ensures c.peer_read-1.given.1 in peer-read-read)) in peer-read-took)))).so ((let read-marked-took : Took u32 (c.args.row.now) ((field-yes ((field-yes (start).so ((let peer-acked-took : Took u32 (c.args.row.now) (c.args.at) c.peer_acked-1.given.0.0 c.peer_acked-1.given.0.1.0 = took _ _ u32 (number-lawful 4) ((let by : Bytes (c.args.row.now) = typed (c.args.row.now) c.shared_slice_known-1.given in by)) ((let peer-acked-read : read_at u32 (c.args.row.now) (c.args.at) ≡ takes c.peer_acked-1.given.0.0 c.peer_acked-1.given.0.1.0 = learn u32_says c.u32_at.ensures c.peer_acked-1.given.1 in peer-acked-read)) in peer-acked-took)))).so ((let peer-read-took : Took u32 (c.args.row.now) ((field-yes (start).so ((let peer-acked-took : Took u32 (c.args.row.now) (c.args.at) c.peer_acked-1.given.0.0 c.peer_acked-1.given.0.1.0 = took _ _ u32 (number-lawful 4) ((let by : Bytes (c.args.row.now) = typed (c.args.row.now) c.shared_slice_known-1.given in by)) ((let peer-acked-read : read_at u32 (c.args.row.now) (c.args.at) ≡ takes c.peer_acked-1.given.0.0 c.peer_acked-1.given.0.1.0 = learn u32_says c.u32_at.ensures c.peer_acked-1.given.1 in peer-acked-read)) in peer-acked-took)))).here c.peer_read-1.given.0.0 c.peer_read-1.given.0.1.0 = took _ _ u32 (number-lawful 4) ((let by : Bytes (c.args.row.now) = typed (c.args.row.now) c.shared_slice_known-1.given in by)) ((let peer-read-read : read_at u32 (c.args.row.now) ((field-yes (start).so ((let peer-acked-took : Took u32 (c.args.row.now) (c.args.at) c.peer_acked-1.given.0.0 c.peer_acked-1.given.0.1.0 = took _ _ u32 (number-lawful 4) ((let by : Bytes (c.args.row.now) = typed (c.args.row.now) c.shared_slice_known-1.given in by)) ((let peer-acked-read : read_at u32 (c.args.row.now) (c.args.at) ≡ takes c.peer_acked-1.given.0.0 c.peer_acked-1.given.0.1.0 = learn u32_says c.u32_at.ensures c.peer_acked-1.given.1 in peer-acked-read)) in peer-acked-took)))).here ≡ takes c.peer_read-1.given.0.0 c.peer_read-1.given.0.1.0 = learn u32_says c.u32_at-2.ensures c.peer_read-1.given.1 in peer-read-read)) in peer-read-took)))).here c.read_marked-1.given.0.0 c.read_marked-1.given.0.1.0 = took _ _ u32 (number-lawful 4) ((let by : Bytes (c.args.row.now) = typed (c.args.row.now) c.shared_slice_known-1.given in by)) ((let read-marked-read : read_at u32 (c.args.row.now) ((field-yes ((field-yes (start).so ((let peer-acked-took : Took u32 (c.args.row.now) (c.args.at) c.peer_acked-1.given.0.0 c.peer_acked-1.given.0.1.0 = took _ _ u32 (number-lawful 4) ((let by : Bytes (c.args.row.now) = typed (c.args.row.now) c.shared_slice_known-1.given in by)) ((let peer-acked-read : read_at u32 (c.args.row.now) (c.args.at) ≡ takes c.peer_acked-1.given.0.0 c.peer_acked-1.given.0.1.0 = learn u32_says c.u32_at.ensures c.peer_acked-1.given.1 in peer-acked-read)) in peer-acked-took)))).so ((let peer-read-took : Took u32 (c.args.row.now) ((field-yes (start).so ((let peer-acked-took : Took u32 (c.args.row.now) (c.args.at) c.peer_acked-1.given.0.0 c.peer_acked-1.given.0.1.0 = took _ _ u32 (number-lawful 4) ((let by : Bytes (c.args.row.now) = typed (c.args.row.now) c.shared_slice_known-1.given in by)) ((let peer-acked-read : read_at u32 (c.args.row.now) (c.args.at) ≡ takes c.peer_acked-1.given.0.0 c.peer_acked-1.given.0.1.0 = learn u32_says c.u32_at.ensures c.peer_acked-1.given.1 in peer-acked-read)) in peer-acked-took)))).here c.peer_read-1.given.0.0 c.peer_read-1.given.0.1.0 = took _ _ u32 (number-lawful 4) ((let by : Bytes (c.args.row.now) = typed (c.args.row.now) c.shared_slice_known-1.given in by)) ((let peer-read-read : read_at u32 (c.args.row.now) ((field-yes (start).so ((let peer-acked-took : Took u32 (c.args.row.now) (c.args.at) c.peer_acked-1.given.0.0 c.peer_acked-1.given.0.1.0 = took _ _ u32 (number-lawful 4) ((let by : Bytes (c.args.row.now) = typed (c.args.row.now) c.shared_slice_known-1.given in by)) ((let peer-acked-read : read_at u32 (c.args.row.now) (c.args.at) ≡ takes c.peer_acked-1.given.0.0 c.peer_acked-1.given.0.1.0 = learn u32_says c.u32_at.ensures c.peer_acked-1.given.1 in peer-acked-read)) in peer-acked-took)))).here ≡ takes c.peer_read-1.given.0.0 c.peer_read-1.given.0.1.0 = learn u32_says c.u32_at-2.ensures c.peer_read-1.given.1 in peer-read-read)) in peer-read-took)))).here ≡ takes c.read_marked-1.given.0.0 c.read_marked-1.given.0.1.0 = learn u32_says c.u32_at-3.ensures c.read_marked-1.given.1 in read-marked-read)) in read-marked-took)))).here ≡ takes c.contiguous-1.given.0.0 c.contiguous-1.given.0.1.0 = learn u32_says c.u32_at-4.ensures c.contiguous-1.given.1 in contiguous-read)) in contiguous-took)))).so ((let above-took : Took (list (group range)) (c.args.row.now) ((field-yes ((field-yes ((field-yes ((field-yes (start).so ((let peer-acked-took : Took u32 (c.args.row.now) (c.args.at) c.peer_acked-1.given.0.0 c.peer_acked-1.given.0.1.0 = took _ _ u32 (number-lawful 4) ((let by : Bytes (c.args.row.now) = typed (c.args.row.now) c.shared_slice_known-1.given in by)) ((let peer-acked-read : read_at u32 (c.args.row.now) (c.args.at) ≡ takes c.peer_acked-1.given.0.0 c.peer_acked-1.given.0.1.0 = learn u32_says c.u32_at.ensures c.peer_acked-1.given.1 in peer-acked-read)) in peer-acked-took)))).so ((let peer-read-took : Took u32 (c.args.row.now) ((field-yes (start).so ((let peer-acked-took : Took u32 (c.args.row.now) (c.args.at) c.peer_acked-1.given.0.0 c.peer_acked-1.given.0.1.0 = took _ _ u32 (number-lawful 4) ((let by : Bytes (c.args.row.now) = typed (c.args.row.now) c.shared_slice_known-1.given in by)) ((let peer-acked-read : read_at u32 (c.args.row.now) (c.args.at) ≡ takes c.peer_acked-1.given.0.0 c.peer_acked-1.given.0.1.0 = learn u32_says c.u32_at.ensures c.peer_acked-1.given.1 in peer-acked-read)) in peer-acked-took)))).here c.peer_read-1.given.0.0 c.peer_read-1.given.0.1.0 = took _ _ u32 (number-lawful 4) ((let by : Bytes (c.args.row.now) = typed (c.args.row.now) c.shared_slice_known-1.given in by)) ((let peer-read-read : read_at u32 (c.args.row.now) ((field-yes (start).so ((let peer-acked-took : Took u32 (c.args.row.now) (c.args.at) c.peer_acked-1.given.0.0 c.peer_acked-1.given.0.1.0 = took _ _ u32 (number-lawful 4) ((let by : Bytes (c.args.row.now) = typed (c.args.row.now) c.shared_slice_known-1.given in by)) ((let peer-acked-read : read_at u32 (c.args.row.now) (c.args.at) ≡ takes c.peer_acked-1.given.0.0 c.peer_acked-1.given.0.1.0 = learn u32_says c.u32_at.ensures c.peer_acked-1.given.1 in peer-acked-read)) in peer-acked-took)))).here ≡ takes c.peer_read-1.given.0.0 c.peer_read-1.given.0.1.0 = learn u32_says c.u32_at-2.ensures c.peer_read-1.given.1 in peer-read-read)) in peer-read-took)))).so ((let read-marked-took : Took u32 (c.args.row.now) ((field-yes ((field-yes (start).so ((let peer-acked-took : Took u32 (c.args.row.now) (c.args.at) c.peer_acked-1.given.0.0 c.peer_acked-1.given.0.1.0 = took _ _ u32 (number-lawful 4) ((let by : Bytes (c.args.row.now) = typed (c.args.row.now) c.shared_slice_known-1.given in by)) ((let peer-acked-read : read_at u32 (c.args.row.now) (c.args.at) ≡ takes c.peer_acked-1.given.0.0 c.peer_acked-1.given.0.1.0 = learn u32_says c.u32_at.ensures c.peer_acked-1.given.1 in peer-acked-read)) in peer-acked-took)))).so ((let peer-read-took : Took u32 (c.args.row.now) ((field-yes (start).so ((let peer-acked-took : Took u32 (c.args.row.now) (c.args.at) c.peer_acked-1.given.0.0 c.peer_acked-1.given.0.1.0 = took _ _ u32 (number-lawful 4) ((let by : Bytes (c.args.row.now) = typed (c.args.row.now) c.shared_slice_known-1.given in by)) ((let peer-acked-read : read_at u32 (c.args.row.now) (c.args.at) ≡ takes c.peer_acked-1.given.0.0 c.peer_acked-1.given.0.1.0 = learn u32_says c.u32_at.ensures c.peer_acked-1.given.1 in peer-acked-read)) in peer-acked-took)))).here c.peer_read-1.given.0.0 c.peer_read-1.given.0.1.0 = took _ _ u32 (number-lawful 4) ((let by : Bytes (c.args.row.now) = typed (c.args.row.now) c.shared_slice_known-1.given in by)) ((let peer-read-read : read_at u32 (c.args.row.now) ((field-yes (start).so ((let peer-acked-took : Took u32 (c.args.row.now) (c.args.at) c.peer_acked-1.given.0.0 c.peer_acked-1.given.0.1.0 = took _ _ u32 (number-lawful 4) ((let by : Bytes (c.args.row.now) = typed (c.args.row.now) c.shared_slice_known-1.given in by)) ((let peer-acked-read : read_at u32 (c.args.row.now) (c.args.at) ≡ takes c.peer_acked-1.given.0.0 c.peer_acked-1.given.0.1.0 = learn u32_says c.u32_at.ensures c.peer_acked-1.given.1 in peer-acked-read)) in peer-acked-took)))).here ≡ takes c.peer_read-1.given.0.0 c.peer_read-1.given.0.1.0 = learn u32_says c.u32_at-2.ensures c.peer_read-1.given.1 in peer-read-read)) in peer-read-took)))).here c.read_marked-1.given.0.0 c.read_marked-1.given.0.1.0 = took _ _ u32 (number-lawful 4) ((let by : Bytes (c.args.row.now) = typed (c.args.row.now) c.shared_slice_known-1.given in by)) ((let read-marked-read : read_at u32 (c.args.row.now) ((field-yes ((field-yes (start).so ((let peer-acked-took : Took u32 (c.args.row.now) (c.args.at) c.peer_acked-1.given.0.0 c.peer_acked-1.given.0.1.0 = took _ _ u32 (number-lawful 4) ((let by : Bytes (c.args.row.now) = typed (c.args.row.now) c.shared_slice_known-1.given in by)) ((let peer-acked-read : read_at u32 (c.args.row.now) (c.args.at) ≡ takes c.peer_acked-1.given.0.0 c.peer_acked-1.given.0.1.0 = learn u32_says c.u32_at.ensures c.peer_acked-1.given.1 in peer-acked-read)) in peer-acked-took)))).so ((let peer-read-took : Took u32 (c.args.row.now) ((field-yes (start).so ((let peer-acked-took : Took u32 (c.args.row.now) (c.args.at) c.peer_acked-1.given.0.0 c.peer_acked-1.given.0.1.0 = took _ _ u32 (number-lawful 4) ((let by : Bytes (c.args.row.now) = typed (c.args.row.now) c.shared_slice_known-1.given in by)) ((let peer-acked-read : read_at u32 (c.args.row.now) (c.args.at) ≡ takes c.peer_acked-1.given.0.0 c.peer_acked-1.given.0.1.0 = learn u32_says c.u32_at.ensures c.peer_acked-1.given.1 in peer-acked-read)) in peer-acked-took)))).here c.peer_read-1.given.0.0 c.peer_read-1.given.0.1.0 = took _ _ u32 (number-lawful 4) ((let by : Bytes (c.args.row.now) = typed (c.args.row.now) c.shared_slice_known-1.given in by)) ((let peer-read-read : read_at u32 (c.args.row.now) ((field-yes (start).so ((let peer-acked-took : Took u32 (c.args.row.now) (c.args.at) c.peer_acked-1.given.0.0 c.peer_acked-1.given.0.1.0 = took _ _ u32 (number-lawful 4) ((let by : Bytes (c.args.row.now) = typed (c.args.row.now) c.shared_slice_known-1.given in by)) ((let peer-acked-read : read_at u32 (c.args.row.now) (c.args.at) ≡ takes c.peer_acked-1.given.0.0 c.peer_acked-1.given.0.1.0 = learn u32_says c.u32_at.ensures c.peer_acked-1.given.1 in peer-acked-read)) in peer-acked-took)))).here ≡ takes c.peer_read-1.given.0.0 c.peer_read-1.given.0.1.0 = learn u32_says c.u32_at-2.ensures c.peer_read-1.given.1 in peer-read-read)) in peer-read-took)))).here ≡ takes c.read_marked-1.given.0.0 c.read_marked-1.given.0.1.0 = learn u32_says c.u32_at-3.ensures c.read_marked-1.given.1 in read-marked-read)) in read-marked-took)))).so ((let contiguous-took : Took u32 (c.args.row.now) ((field-yes ((field-yes ((field-yes (start).so ((let peer-acked-took : Took u32 (c.args.row.now) (c.args.at) c.peer_acked-1.given.0.0 c.peer_acked-1.given.0.1.0 = took _ _ u32 (number-lawful 4) ((let by : Bytes (c.args.row.now) = typed (c.args.row.now) c.shared_slice_known-1.given in by)) ((let peer-acked-read : read_at u32 (c.args.row.now) (c.args.at) ≡ takes c.peer_acked-1.given.0.0 c.peer_acked-1.given.0.1.0 = learn u32_says c.u32_at.ensures c.peer_acked-1.given.1 in peer-acked-read)) in peer-acked-took)))).so ((let peer-read-took : Took u32 (c.args.row.now) ((field-yes (start).so ((let peer-acked-took : Took u32 (c.args.row.now) (c.args.at) c.peer_acked-1.given.0.0 c.peer_acked-1.given.0.1.0 = took _ _ u32 (number-lawful 4) ((let by : Bytes (c.args.row.now) = typed (c.args.row.now) c.shared_slice_known-1.given in by)) ((let peer-acked-read : read_at u32 (c.args.row.now) (c.args.at) ≡ takes c.peer_acked-1.given.0.0 c.peer_acked-1.given.0.1.0 = learn u32_says c.u32_at.ensures c.peer_acked-1.given.1 in peer-acked-read)) in peer-acked-took)))).here c.peer_read-1.given.0.0 c.peer_read-1.given.0.1.0 = took _ _ u32 (number-lawful 4) ((let by : Bytes (c.args.row.now) = typed (c.args.row.now) c.shared_slice_known-1.given in by)) ((let peer-read-read : read_at u32 (c.args.row.now) ((field-yes (start).so ((let peer-acked-took : Took u32 (c.args.row.now) (c.args.at) c.peer_acked-1.given.0.0 c.peer_acked-1.given.0.1.0 = took _ _ u32 (number-lawful 4) ((let by : Bytes (c.args.row.now) = typed (c.args.row.now) c.shared_slice_known-1.given in by)) ((let peer-acked-read : read_at u32 (c.args.row.now) (c.args.at) ≡ takes c.peer_acked-1.given.0.0 c.peer_acked-1.given.0.1.0 = learn u32_says c.u32_at.ensures c.peer_acked-1.given.1 in peer-acked-read)) in peer-acked-took)))).here ≡ takes c.peer_read-1.given.0.0 c.peer_read-1.given.0.1.0 = learn u32_says c.u32_at-2.ensures c.peer_read-1.given.1 in peer-read-read)) in peer-read-took)))).so ((let read-marked-took : Took u32 (c.args.row.now) ((field-yes ((field-yes (start).so ((let peer-acked-took : Took u32 (c.args.row.now) (c.args.at) c.peer_acked-1.given.0.0 c.peer_acked-1.given.0.1.0 = took _ _ u32 (number-lawful 4) ((let by : Bytes (c.args.row.now) = typed (c.args.row.now) c.shared_slice_known-1.given in by)) ((let peer-acked-read : read_at u32 (c.args.row.now) (c.args.at) ≡ takes c.peer_acked-1.given.0.0 c.peer_acked-1.given.0.1.0 = learn u32_says c.u32_at.ensures c.peer_acked-1.given.1 in peer-acked-read)) in peer-acked-took)))).so ((let peer-read-took : Took u32 (c.args.row.now) ((field-yes (start).so ((let peer-acked-took : Took u32 (c.args.row.now) (c.args.at) c.peer_acked-1.given.0.0 c.peer_acked-1.given.0.1.0 = took _ _ u32 (number-lawful 4) ((let by : Bytes (c.args.row.now) = typed (c.args.row.now) c.shared_slice_known-1.given in by)) ((let peer-acked-read : read_at u32 (c.args.row.now) (c.args.at) ≡ takes c.peer_acked-1.given.0.0 c.peer_acked-1.given.0.1.0 = learn u32_says c.u32_at.ensures c.peer_acked-1.given.1 in peer-acked-read)) in peer-acked-took)))).here c.peer_read-1.given.0.0 c.peer_read-1.given.0.1.0 = took _ _ u32 (number-lawful 4) ((let by : Bytes (c.args.row.now) = typed (c.args.row.now) c.shared_slice_known-1.given in by)) ((let peer-read-read : read_at u32 (c.args.row.now) ((field-yes (start).so ((let peer-acked-took : Took u32 (c.args.row.now) (c.args.at) c.peer_acked-1.given.0.0 c.peer_acked-1.given.0.1.0 = took _ _ u32 (number-lawful 4) ((let by : Bytes (c.args.row.now) = typed (c.args.row.now) c.shared_slice_known-1.given in by)) ((let peer-acked-read : read_at u32 (c.args.row.now) (c.args.at) ≡ takes c.peer_acked-1.given.0.0 c.peer_acked-1.given.0.1.0 = learn u32_says c.u32_at.ensures c.peer_acked-1.given.1 in peer-acked-read)) in peer-acked-took)))).here ≡ takes c.peer_read-1.given.0.0 c.peer_read-1.given.0.1.0 = learn u32_says c.u32_at-2.ensures c.peer_read-1.given.1 in peer-read-read)) in peer-read-took)))).here c.read_marked-1.given.0.0 c.read_marked-1.given.0.1.0 = took _ _ u32 (number-lawful 4) ((let by : Bytes (c.args.row.now) = typed (c.args.row.now) c.shared_slice_known-1.given in by)) ((let read-marked-read : read_at u32 (c.args.row.now) ((field-yes ((field-yes (start).so ((let peer-acked-took : Took u32 (c.args.row.now) (c.args.at) c.peer_acked-1.given.0.0 c.peer_acked-1.given.0.1.0 = took _ _ u32 (number-lawful 4) ((let by : Bytes (c.args.row.now) = typed (c.args.row.now) c.shared_slice_known-1.given in by)) ((let peer-acked-read : read_at u32 (c.args.row.now) (c.args.at) ≡ takes c.peer_acked-1.given.0.0 c.peer_acked-1.given.0.1.0 = learn u32_says c.u32_at.ensures c.peer_acked-1.given.1 in peer-acked-read)) in peer-acked-took)))).so ((let peer-read-took : Took u32 (c.args.row.now) ((field-yes (start).so ((let peer-acked-took : Took u32 (c.args.row.now) (c.args.at) c.peer_acked-1.given.0.0 c.peer_acked-1.given.0.1.0 = took _ _ u32 (number-lawful 4) ((let by : Bytes (c.args.row.now) = typed (c.args.row.now) c.shared_slice_known-1.given in by)) ((let peer-acked-read : read_at u32 (c.args.row.now) (c.args.at) ≡ takes c.peer_acked-1.given.0.0 c.peer_acked-1.given.0.1.0 = learn u32_says c.u32_at.ensures c.peer_acked-1.given.1 in peer-acked-read)) in peer-acked-took)))).here c.peer_read-1.given.0.0 c.peer_read-1.given.0.1.0 = took _ _ u32 (number-lawful 4) ((let by : Bytes (c.args.row.now) = typed (c.args.row.now) c.shared_slice_known-1.given in by)) ((let peer-read-read : read_at u32 (c.args.row.now) ((field-yes (start).so ((let peer-acked-took : Took u32 (c.args.row.now) (c.args.at) c.peer_acked-1.given.0.0 c.peer_acked-1.given.0.1.0 = took _ _ u32 (number-lawful 4) ((let by : Bytes (c.args.row.now) = typed (c.args.row.now) c.shared_slice_known-1.given in by)) ((let peer-acked-read : read_at u32 (c.args.row.now) (c.args.at) ≡ takes c.peer_acked-1.given.0.0 c.peer_acked-1.given.0.1.0 = learn u32_says c.u32_at.ensures c.peer_acked-1.given.1 in peer-acked-read)) in peer-acked-took)))).here ≡ takes c.peer_read-1.given.0.0 c.peer_read-1.given.0.1.0 = learn u32_says c.u32_at-2.ensures c.peer_read-1.given.1 in peer-read-read)) in peer-read-took)))).here ≡ takes c.read_marked-1.given.0.0 c.read_marked-1.given.0.1.0 = learn u32_says c.u32_at-3.ensures c.read_marked-1.given.1 in read-marked-read)) in read-marked-took)))).here c.contiguous-1.given.0.0 c.contiguous-1.given.0.1.0 = took _ _ u32 (number-lawful 4) ((let by : Bytes (c.args.row.now) = typed (c.args.row.now) c.shared_slice_known-1.given in by)) ((let contiguous-read : read_at u32 (c.args.row.now) ((field-yes ((field-yes ((field-yes (start).so ((let peer-acked-took : Took u32 (c.args.row.now) (c.args.at) c.peer_acked-1.given.0.0 c.peer_acked-1.given.0.1.0 = took _ _ u32 (number-lawful 4) ((let by : Bytes (c.args.row.now) = typed (c.args.row.now) c.shared_slice_known-1.given in by)) ((let peer-acked-read : read_at u32 (c.args.row.now) (c.args.at) ≡ takes c.peer_acked-1.given.0.0 c.peer_acked-1.given.0.1.0 = learn u32_says c.u32_at.ensures c.peer_acked-1.given.1 in peer-acked-read)) in peer-acked-took)))).so ((let peer-read-took : Took u32 (c.args.row.now) ((field-yes (start).so ((let peer-acked-took : Took u32 (c.args.row.now) (c.args.at) c.peer_acked-1.given.0.0 c.peer_acked-1.given.0.1.0 = took _ _ u32 (number-lawful 4) ((let by : Bytes (c.args.row.now) = typed (c.args.row.now) c.shared_slice_known-1.given in by)) ((let peer-acked-read : read_at u32 (c.args.row.now) (c.args.at) ≡ takes c.peer_acked-1.given.0.0 c.peer_acked-1.given.0.1.0 = learn u32_says c.u32_at.ensures c.peer_acked-1.given.1 in peer-acked-read)) in peer-acked-took)))).here c.peer_read-1.given.0.0 c.peer_read-1.given.0.1.0 = took _ _ u32 (number-lawful 4) ((let by : Bytes (c.args.row.now) = typed (c.args.row.now) c.shared_slice_known-1.given in by)) ((let peer-read-read : read_at u32 (c.args.row.now) ((field-yes (start).so ((let peer-acked-took : Took u32 (c.args.row.now) (c.args.at) c.peer_acked-1.given.0.0 c.peer_acked-1.given.0.1.0 = took _ _ u32 (number-lawful 4) ((let by : Bytes (c.args.row.now) = typed (c.args.row.now) c.shared_slice_known-1.given in by)) ((let peer-acked-read : read_at u32 (c.args.row.now) (c.args.at) ≡ takes c.peer_acked-1.given.0.0 c.peer_acked-1.given.0.1.0 = learn u32_says c.u32_at.ensures c.peer_acked-1.given.1 in peer-acked-read)) in peer-acked-took)))).here ≡ takes c.peer_read-1.given.0.0 c.peer_read-1.given.0.1.0 = learn u32_says c.u32_at-2.ensures c.peer_read-1.given.1 in peer-read-read)) in peer-read-took)))).so ((let read-marked-took : Took u32 (c.args.row.now) ((field-yes ((field-yes (start).so ((let peer-acked-took : Took u32 (c.args.row.now) (c.args.at) c.peer_acked-1.given.0.0 c.peer_acked-1.given.0.1.0 = took _ _ u32 (number-lawful 4) ((let by : Bytes (c.args.row.now) = typed (c.args.row.now) c.shared_slice_known-1.given in by)) ((let peer-acked-read : read_at u32 (c.args.row.now) (c.args.at) ≡ takes c.peer_acked-1.given.0.0 c.peer_acked-1.given.0.1.0 = learn u32_says c.u32_at.ensures c.peer_acked-1.given.1 in peer-acked-read)) in peer-acked-took)))).so ((let peer-read-took : Took u32 (c.args.row.now) ((field-yes (start).so ((let peer-acked-took : Took u32 (c.args.row.now) (c.args.at) c.peer_acked-1.given.0.0 c.peer_acked-1.given.0.1.0 = took _ _ u32 (number-lawful 4) ((let by : Bytes (c.args.row.now) = typed (c.args.row.now) c.shared_slice_known-1.given in by)) ((let peer-acked-read : read_at u32 (c.args.row.now) (c.args.at) ≡ takes c.peer_acked-1.given.0.0 c.peer_acked-1.given.0.1.0 = learn u32_says c.u32_at.ensures c.peer_acked-1.given.1 in peer-acked-read)) in peer-acked-took)))).here c.peer_read-1.given.0.0 c.peer_read-1.given.0.1.0 = took _ _ u32 (number-lawful 4) ((let by : Bytes (c.args.row.now) = typed (c.args.row.now) c.shared_slice_known-1.given in by)) ((let peer-read-read : read_at u32 (c.args.row.now) ((field-yes (start).so ((let peer-acked-took : Took u32 (c.args.row.now) (c.args.at) c.peer_acked-1.given.0.0 c.peer_acked-1.given.0.1.0 = took _ _ u32 (number-lawful 4) ((let by : Bytes (c.args.row.now) = typed (c.args.row.now) c.shared_slice_known-1.given in by)) ((let peer-acked-read : read_at u32 (c.args.row.now) (c.args.at) ≡ takes c.peer_acked-1.given.0.0 c.peer_acked-1.given.0.1.0 = learn u32_says c.u32_at.ensures c.peer_acked-1.given.1 in peer-acked-read)) in peer-acked-took)))).here ≡ takes c.peer_read-1.given.0.0 c.peer_read-1.given.0.1.0 = learn u32_says c.u32_at-2.ensures c.peer_read-1.given.1 in peer-read-read)) in peer-read-took)))).here c.read_marked-1.given.0.0 c.read_marked-1.given.0.1.0 = took _ _ u32 (number-lawful 4) ((let by : Bytes (c.args.row.now) = typed (c.args.row.now) c.shared_slice_known-1.given in by)) ((let read-marked-read : read_at u32 (c.args.row.now) ((field-yes ((field-yes (start).so ((let peer-acked-took : Took u32 (c.args.row.now) (c.args.at) c.peer_acked-1.given.0.0 c.peer_acked-1.given.0.1.0 = took _ _ u32 (number-lawful 4) ((let by : Bytes (c.args.row.now) = typed (c.args.row.now) c.shared_slice_known-1.given in by)) ((let peer-acked-read : read_at u32 (c.args.row.now) (c.args.at) ≡ takes c.peer_acked-1.given.0.0 c.peer_acked-1.given.0.1.0 = learn u32_says c.u32_at.ensures c.peer_acked-1.given.1 in peer-acked-read)) in peer-acked-took)))).so ((let peer-read-took : Took u32 (c.args.row.now) ((field-yes (start).so ((let peer-acked-took : Took u32 (c.args.row.now) (c.args.at) c.peer_acked-1.given.0.0 c.peer_acked-1.given.0.1.0 = took _ _ u32 (number-lawful 4) ((let by : Bytes (c.args.row.now) = typed (c.args.row.now) c.shared_slice_known-1.given in by)) ((let peer-acked-read : read_at u32 (c.args.row.now) (c.args.at) ≡ takes c.peer_acked-1.given.0.0 c.peer_acked-1.given.0.1.0 = learn u32_says c.u32_at.ensures c.peer_acked-1.given.1 in peer-acked-read)) in peer-acked-took)))).here c.peer_read-1.given.0.0 c.peer_read-1.given.0.1.0 = took _ _ u32 (number-lawful 4) ((let by : Bytes (c.args.row.now) = typed (c.args.row.now) c.shared_slice_known-1.given in by)) ((let peer-read-read : read_at u32 (c.args.row.now) ((field-yes (start).so ((let peer-acked-took : Took u32 (c.args.row.now) (c.args.at) c.peer_acked-1.given.0.0 c.peer_acked-1.given.0.1.0 = took _ _ u32 (number-lawful 4) ((let by : Bytes (c.args.row.now) = typed (c.args.row.now) c.shared_slice_known-1.given in by)) ((let peer-acked-read : read_at u32 (c.args.row.now) (c.args.at) ≡ takes c.peer_acked-1.given.0.0 c.peer_acked-1.given.0.1.0 = learn u32_says c.u32_at.ensures c.peer_acked-1.given.1 in peer-acked-read)) in peer-acked-took)))).here ≡ takes c.peer_read-1.given.0.0 c.peer_read-1.given.0.1.0 = learn u32_says c.u32_at-2.ensures c.peer_read-1.given.1 in peer-read-read)) in peer-read-took)))).here ≡ takes c.read_marked-1.given.0.0 c.read_marked-1.given.0.1.0 = learn u32_says c.u32_at-3.ensures c.read_marked-1.given.1 in read-marked-read)) in read-marked-took)))).here ≡ takes c.contiguous-1.given.0.0 c.contiguous-1.given.0.1.0 = learn u32_says c.u32_at-4.ensures c.contiguous-1.given.1 in contiguous-read)) in contiguous-took)))).here (list_in (group range) (c.args.row.now) c.above_field-1.given.0.0) c.above_field-1.given.0.0.next = list-took (group range) range-lawful (c.args.row.now) ((let by : Bytes (c.args.row.now) = typed (c.args.row.now) c.shared_slice_known-1.given in by)) _ c.ranges_at-above_field.ensures c.above_field-1.given.1 in above-took)))).here + length ((list u32).print (list_in u32 (c.args.row.now) c.unacked_field-1.given.0.0)) = list-next u32 (number-lawful 4) (c.args.row.now) ((let by : Bytes (c.args.row.now) = typed (c.args.row.now) c.shared_slice_known-1.given in by)) _ c.numbers_at-unacked_field.ensures c.unacked_field-1.given.1 ((let above-took : Took (list (group range)) (c.args.row.now) ((field-yes ((field-yes ((field-yes ((field-yes (start).so ((let peer-acked-took : Took u32 (c.args.row.now) (c.args.at) c.peer_acked-1.given.0.0 c.peer_acked-1.given.0.1.0 = took _ _ u32 (number-lawful 4) ((let by : Bytes (c.args.row.now) = typed (c.args.row.now) c.shared_slice_known-1.given in by)) ((let peer-acked-read : read_at u32 (c.args.row.now) (c.args.at) ≡ takes c.peer_acked-1.given.0.0 c.peer_acked-1.given.0.1.0 = learn u32_says c.u32_at.ensures c.peer_acked-1.given.1 in peer-acked-read)) in peer-acked-took)))).so ((let peer-read-took : Took u32 (c.args.row.now) ((field-yes (start).so ((let peer-acked-took : Took u32 (c.args.row.now) (c.args.at) c.peer_acked-1.given.0.0 c.peer_acked-1.given.0.1.0 = took _ _ u32 (number-lawful 4) ((let by : Bytes (c.args.row.now) = typed (c.args.row.now) c.shared_slice_known-1.given in by)) ((let peer-acked-read : read_at u32 (c.args.row.now) (c.args.at) ≡ takes c.peer_acked-1.given.0.0 c.peer_acked-1.given.0.1.0 = learn u32_says c.u32_at.ensures c.peer_acked-1.given.1 in peer-acked-read)) in peer-acked-took)))).here c.peer_read-1.given.0.0 c.peer_read-1.given.0.1.0 = took _ _ u32 (number-lawful 4) ((let by : Bytes (c.args.row.now) = typed (c.args.row.now) c.shared_slice_known-1.given in by)) ((let peer-read-read : read_at u32 (c.args.row.now) ((field-yes (start).so ((let peer-acked-took : Took u32 (c.args.row.now) (c.args.at) c.peer_acked-1.given.0.0 c.peer_acked-1.given.0.1.0 = took _ _ u32 (number-lawful 4) ((let by : Bytes (c.args.row.now) = typed (c.args.row.now) c.shared_slice_known-1.given in by)) ((let peer-acked-read : read_at u32 (c.args.row.now) (c.args.at) ≡ takes c.peer_acked-1.given.0.0 c.peer_acked-1.given.0.1.0 = learn u32_says c.u32_at.ensures c.peer_acked-1.given.1 in peer-acked-read)) in peer-acked-took)))).here ≡ takes c.peer_read-1.given.0.0 c.peer_read-1.given.0.1.0 = learn u32_says c.u32_at-2.ensures c.peer_read-1.given.1 in peer-read-read)) in peer-read-took)))).so ((let read-marked-took : Took u32 (c.args.row.now) ((field-yes ((field-yes (start).so ((let peer-acked-took : Took u32 (c.args.row.now) (c.args.at) c.peer_acked-1.given.0.0 c.peer_acked-1.given.0.1.0 = took _ _ u32 (number-lawful 4) ((let by : Bytes (c.args.row.now) = typed (c.args.row.now) c.shared_slice_known-1.given in by)) ((let peer-acked-read : read_at u32 (c.args.row.now) (c.args.at) ≡ takes c.peer_acked-1.given.0.0 c.peer_acked-1.given.0.1.0 = learn u32_says c.u32_at.ensures c.peer_acked-1.given.1 in peer-acked-read)) in peer-acked-took)))).so ((let peer-read-took : Took u32 (c.args.row.now) ((field-yes (start).so ((let peer-acked-took : Took u32 (c.args.row.now) (c.args.at) c.peer_acked-1.given.0.0 c.peer_acked-1.given.0.1.0 = took _ _ u32 (number-lawful 4) ((let by : Bytes (c.args.row.now) = typed (c.args.row.now) c.shared_slice_known-1.given in by)) ((let peer-acked-read : read_at u32 (c.args.row.now) (c.args.at) ≡ takes c.peer_acked-1.given.0.0 c.peer_acked-1.given.0.1.0 = learn u32_says c.u32_at.ensures c.peer_acked-1.given.1 in peer-acked-read)) in peer-acked-took)))).here c.peer_read-1.given.0.0 c.peer_read-1.given.0.1.0 = took _ _ u32 (number-lawful 4) ((let by : Bytes (c.args.row.now) = typed (c.args.row.now) c.shared_slice_known-1.given in by)) ((let peer-read-read : read_at u32 (c.args.row.now) ((field-yes (start).so ((let peer-acked-took : Took u32 (c.args.row.now) (c.args.at) c.peer_acked-1.given.0.0 c.peer_acked-1.given.0.1.0 = took _ _ u32 (number-lawful 4) ((let by : Bytes (c.args.row.now) = typed (c.args.row.now) c.shared_slice_known-1.given in by)) ((let peer-acked-read : read_at u32 (c.args.row.now) (c.args.at) ≡ takes c.peer_acked-1.given.0.0 c.peer_acked-1.given.0.1.0 = learn u32_says c.u32_at.ensures c.peer_acked-1.given.1 in peer-acked-read)) in peer-acked-took)))).here ≡ takes c.peer_read-1.given.0.0 c.peer_read-1.given.0.1.0 = learn u32_says c.u32_at-2.ensures c.peer_read-1.given.1 in peer-read-read)) in peer-read-took)))).here c.read_marked-1.given.0.0 c.read_marked-1.given.0.1.0 = took _ _ u32 (number-lawful 4) ((let by : Bytes (c.args.row.now) = typed (c.args.row.now) c.shared_slice_known-1.given in by)) ((let read-marked-read : read_at u32 (c.args.row.now) ((field-yes ((field-yes (start).so ((let peer-acked-took : Took u32 (c.args.row.now) (c.args.at) c.peer_acked-1.given.0.0 c.peer_acked-1.given.0.1.0 = took _ _ u32 (number-lawful 4) ((let by : Bytes (c.args.row.now) = typed (c.args.row.now) c.shared_slice_known-1.given in by)) ((let peer-acked-read : read_at u32 (c.args.row.now) (c.args.at) ≡ takes c.peer_acked-1.given.0.0 c.peer_acked-1.given.0.1.0 = learn u32_says c.u32_at.ensures c.peer_acked-1.given.1 in peer-acked-read)) in peer-acked-took)))).so ((let peer-read-took : Took u32 (c.args.row.now) ((field-yes (start).so ((let peer-acked-took : Took u32 (c.args.row.now) (c.args.at) c.peer_acked-1.given.0.0 c.peer_acked-1.given.0.1.0 = took _ _ u32 (number-lawful 4) ((let by : Bytes (c.args.row.now) = typed (c.args.row.now) c.shared_slice_known-1.given in by)) ((let peer-acked-read : read_at u32 (c.args.row.now) (c.args.at) ≡ takes c.peer_acked-1.given.0.0 c.peer_acked-1.given.0.1.0 = learn u32_says c.u32_at.ensures c.peer_acked-1.given.1 in peer-acked-read)) in peer-acked-took)))).here c.peer_read-1.given.0.0 c.peer_read-1.given.0.1.0 = took _ _ u32 (number-lawful 4) ((let by : Bytes (c.args.row.now) = typed (c.args.row.now) c.shared_slice_known-1.given in by)) ((let peer-read-read : read_at u32 (c.args.row.now) ((field-yes (start).so ((let peer-acked-took : Took u32 (c.args.row.now) (c.args.at) c.peer_acked-1.given.0.0 c.peer_acked-1.given.0.1.0 = took _ _ u32 (number-lawful 4) ((let by : Bytes (c.args.row.now) = typed (c.args.row.now) c.shared_slice_known-1.given in by)) ((let peer-acked-read : read_at u32 (c.args.row.now) (c.args.at) ≡ takes c.peer_acked-1.given.0.0 c.peer_acked-1.given.0.1.0 = learn u32_says c.u32_at.ensures c.peer_acked-1.given.1 in peer-acked-read)) in peer-acked-took)))).here ≡ takes c.peer_read-1.given.0.0 c.peer_read-1.given.0.1.0 = learn u32_says c.u32_at-2.ensures c.peer_read-1.given.1 in peer-read-read)) in peer-read-took)))).here ≡ takes c.read_marked-1.given.0.0 c.read_marked-1.given.0.1.0 = learn u32_says c.u32_at-3.ensures c.read_marked-1.given.1 in read-marked-read)) in read-marked-took)))).so ((let contiguous-took : Took u32 (c.args.row.now) ((field-yes ((field-yes ((field-yes (start).so ((let peer-acked-took : Took u32 (c.args.row.now) (c.args.at) c.peer_acked-1.given.0.0 c.peer_acked-1.given.0.1.0 = took _ _ u32 (number-lawful 4) ((let by : Bytes (c.args.row.now) = typed (c.args.row.now) c.shared_slice_known-1.given in by)) ((let peer-acked-read : read_at u32 (c.args.row.now) (c.args.at) ≡ takes c.peer_acked-1.given.0.0 c.peer_acked-1.given.0.1.0 = learn u32_says c.u32_at.ensures c.peer_acked-1.given.1 in peer-acked-read)) in peer-acked-took)))).so ((let peer-read-took : Took u32 (c.args.row.now) ((field-yes (start).so ((let peer-acked-took : Took u32 (c.args.row.now) (c.args.at) c.peer_acked-1.given.0.0 c.peer_acked-1.given.0.1.0 = took _ _ u32 (number-lawful 4) ((let by : Bytes (c.args.row.now) = typed (c.args.row.now) c.shared_slice_known-1.given in by)) ((let peer-acked-read : read_at u32 (c.args.row.now) (c.args.at) ≡ takes c.peer_acked-1.given.0.0 c.peer_acked-1.given.0.1.0 = learn u32_says c.u32_at.ensures c.peer_acked-1.given.1 in peer-acked-read)) in peer-acked-took)))).here c.peer_read-1.given.0.0 c.peer_read-1.given.0.1.0 = took _ _ u32 (number-lawful 4) ((let by : Bytes (c.args.row.now) = typed (c.args.row.now) c.shared_slice_known-1.given in by)) ((let peer-read-read : read_at u32 (c.args.row.now) ((field-yes (start).so ((let peer-acked-took : Took u32 (c.args.row.now) (c.args.at) c.peer_acked-1.given.0.0 c.peer_acked-1.given.0.1.0 = took _ _ u32 (number-lawful 4) ((let by : Bytes (c.args.row.now) = typed (c.args.row.now) c.shared_slice_known-1.given in by)) ((let peer-acked-read : read_at u32 (c.args.row.now) (c.args.at) ≡ takes c.peer_acked-1.given.0.0 c.peer_acked-1.given.0.1.0 = learn u32_says c.u32_at.ensures c.peer_acked-1.given.1 in peer-acked-read)) in peer-acked-took)))).here ≡ takes c.peer_read-1.given.0.0 c.peer_read-1.given.0.1.0 = learn u32_says c.u32_at-2.ensures c.peer_read-1.given.1 in peer-read-read)) in peer-read-took)))).so ((let read-marked-took : Took u32 (c.args.row.now) ((field-yes ((field-yes (start).so ((let peer-acked-took : Took u32 (c.args.row.now) (c.args.at) c.peer_acked-1.given.0.0 c.peer_acked-1.given.0.1.0 = took _ _ u32 (number-lawful 4) ((let by : Bytes (c.args.row.now) = typed (c.args.row.now) c.shared_slice_known-1.given in by)) ((let peer-acked-read : read_at u32 (c.args.row.now) (c.args.at) ≡ takes c.peer_acked-1.given.0.0 c.peer_acked-1.given.0.1.0 = learn u32_says c.u32_at.ensures c.peer_acked-1.given.1 in peer-acked-read)) in peer-acked-took)))).so ((let peer-read-took : Took u32 (c.args.row.now) ((field-yes (start).so ((let peer-acked-took : Took u32 (c.args.row.now) (c.args.at) c.peer_acked-1.given.0.0 c.peer_acked-1.given.0.1.0 = took _ _ u32 (number-lawful 4) ((let by : Bytes (c.args.row.now) = typed (c.args.row.now) c.shared_slice_known-1.given in by)) ((let peer-acked-read : read_at u32 (c.args.row.now) (c.args.at) ≡ takes c.peer_acked-1.given.0.0 c.peer_acked-1.given.0.1.0 = learn u32_says c.u32_at.ensures c.peer_acked-1.given.1 in peer-acked-read)) in peer-acked-took)))).here c.peer_read-1.given.0.0 c.peer_read-1.given.0.1.0 = took _ _ u32 (number-lawful 4) ((let by : Bytes (c.args.row.now) = typed (c.args.row.now) c.shared_slice_known-1.given in by)) ((let peer-read-read : read_at u32 (c.args.row.now) ((field-yes (start).so ((let peer-acked-took : Took u32 (c.args.row.now) (c.args.at) c.peer_acked-1.given.0.0 c.peer_acked-1.given.0.1.0 = took _ _ u32 (number-lawful 4) ((let by : Bytes (c.args.row.now) = typed (c.args.row.now) c.shared_slice_known-1.given in by)) ((let peer-acked-read : read_at u32 (c.args.row.now) (c.args.at) ≡ takes c.peer_acked-1.given.0.0 c.peer_acked-1.given.0.1.0 = learn u32_says c.u32_at.ensures c.peer_acked-1.given.1 in peer-acked-read)) in peer-acked-took)))).here ≡ takes c.peer_read-1.given.0.0 c.peer_read-1.given.0.1.0 = learn u32_says c.u32_at-2.ensures c.peer_read-1.given.1 in peer-read-read)) in peer-read-took)))).here c.read_marked-1.given.0.0 c.read_marked-1.given.0.1.0 = took _ _ u32 (number-lawful 4) ((let by : Bytes (c.args.row.now) = typed (c.args.row.now) c.shared_slice_known-1.given in by)) ((let read-marked-read : read_at u32 (c.args.row.now) ((field-yes ((field-yes (start).so ((let peer-acked-took : Took u32 (c.args.row.now) (c.args.at) c.peer_acked-1.given.0.0 c.peer_acked-1.given.0.1.0 = took _ _ u32 (number-lawful 4) ((let by : Bytes (c.args.row.now) = typed (c.args.row.now) c.shared_slice_known-1.given in by)) ((let peer-acked-read : read_at u32 (c.args.row.now) (c.args.at) ≡ takes c.peer_acked-1.given.0.0 c.peer_acked-1.given.0.1.0 = learn u32_says c.u32_at.ensures c.peer_acked-1.given.1 in peer-acked-read)) in peer-acked-took)))).so ((let peer-read-took : Took u32 (c.args.row.now) ((field-yes (start).so ((let peer-acked-took : Took u32 (c.args.row.now) (c.args.at) c.peer_acked-1.given.0.0 c.peer_acked-1.given.0.1.0 = took _ _ u32 (number-lawful 4) ((let by : Bytes (c.args.row.now) = typed (c.args.row.now) c.shared_slice_known-1.given in by)) ((let peer-acked-read : read_at u32 (c.args.row.now) (c.args.at) ≡ takes c.peer_acked-1.given.0.0 c.peer_acked-1.given.0.1.0 = learn u32_says c.u32_at.ensures c.peer_acked-1.given.1 in peer-acked-read)) in peer-acked-took)))).here c.peer_read-1.given.0.0 c.peer_read-1.given.0.1.0 = took _ _ u32 (number-lawful 4) ((let by : Bytes (c.args.row.now) = typed (c.args.row.now) c.shared_slice_known-1.given in by)) ((let peer-read-read : read_at u32 (c.args.row.now) ((field-yes (start).so ((let peer-acked-took : Took u32 (c.args.row.now) (c.args.at) c.peer_acked-1.given.0.0 c.peer_acked-1.given.0.1.0 = took _ _ u32 (number-lawful 4) ((let by : Bytes (c.args.row.now) = typed (c.args.row.now) c.shared_slice_known-1.given in by)) ((let peer-acked-read : read_at u32 (c.args.row.now) (c.args.at) ≡ takes c.peer_acked-1.given.0.0 c.peer_acked-1.given.0.1.0 = learn u32_says c.u32_at.ensures c.peer_acked-1.given.1 in peer-acked-read)) in peer-acked-took)))).here ≡ takes c.peer_read-1.given.0.0 c.peer_read-1.given.0.1.0 = learn u32_says c.u32_at-2.ensures c.peer_read-1.given.1 in peer-read-read)) in peer-read-took)))).here ≡ takes c.read_marked-1.given.0.0 c.read_marked-1.given.0.1.0 = learn u32_says c.u32_at-3.ensures c.read_marked-1.given.1 in read-marked-read)) in read-marked-took)))).here c.contiguous-1.given.0.0 c.contiguous-1.given.0.1.0 = took _ _ u32 (number-lawful 4) ((let by : Bytes (c.args.row.now) = typed (c.args.row.now) c.shared_slice_known-1.given in by)) ((let contiguous-read : read_at u32 (c.args.row.now) ((field-yes ((field-yes ((field-yes (start).so ((let peer-acked-took : Took u32 (c.args.row.now) (c.args.at) c.peer_acked-1.given.0.0 c.peer_acked-1.given.0.1.0 = took _ _ u32 (number-lawful 4) ((let by : Bytes (c.args.row.now) = typed (c.args.row.now) c.shared_slice_known-1.given in by)) ((let peer-acked-read : read_at u32 (c.args.row.now) (c.args.at) ≡ takes c.peer_acked-1.given.0.0 c.peer_acked-1.given.0.1.0 = learn u32_says c.u32_at.ensures c.peer_acked-1.given.1 in peer-acked-read)) in peer-acked-took)))).so ((let peer-read-took : Took u32 (c.args.row.now) ((field-yes (start).so ((let peer-acked-took : Took u32 (c.args.row.now) (c.args.at) c.peer_acked-1.given.0.0 c.peer_acked-1.given.0.1.0 = took _ _ u32 (number-lawful 4) ((let by : Bytes (c.args.row.now) = typed (c.args.row.now) c.shared_slice_known-1.given in by)) ((let peer-acked-read : read_at u32 (c.args.row.now) (c.args.at) ≡ takes c.peer_acked-1.given.0.0 c.peer_acked-1.given.0.1.0 = learn u32_says c.u32_at.ensures c.peer_acked-1.given.1 in peer-acked-read)) in peer-acked-took)))).here c.peer_read-1.given.0.0 c.peer_read-1.given.0.1.0 = took _ _ u32 (number-lawful 4) ((let by : Bytes (c.args.row.now) = typed (c.args.row.now) c.shared_slice_known-1.given in by)) ((let peer-read-read : read_at u32 (c.args.row.now) ((field-yes (start).so ((let peer-acked-took : Took u32 (c.args.row.now) (c.args.at) c.peer_acked-1.given.0.0 c.peer_acked-1.given.0.1.0 = took _ _ u32 (number-lawful 4) ((let by : Bytes (c.args.row.now) = typed (c.args.row.now) c.shared_slice_known-1.given in by)) ((let peer-acked-read : read_at u32 (c.args.row.now) (c.args.at) ≡ takes c.peer_acked-1.given.0.0 c.peer_acked-1.given.0.1.0 = learn u32_says c.u32_at.ensures c.peer_acked-1.given.1 in peer-acked-read)) in peer-acked-took)))).here ≡ takes c.peer_read-1.given.0.0 c.peer_read-1.given.0.1.0 = learn u32_says c.u32_at-2.ensures c.peer_read-1.given.1 in peer-read-read)) in peer-read-took)))).so ((let read-marked-took : Took u32 (c.args.row.now) ((field-yes ((field-yes (start).so ((let peer-acked-took : Took u32 (c.args.row.now) (c.args.at) c.peer_acked-1.given.0.0 c.peer_acked-1.given.0.1.0 = took _ _ u32 (number-lawful 4) ((let by : Bytes (c.args.row.now) = typed (c.args.row.now) c.shared_slice_known-1.given in by)) ((let peer-acked-read : read_at u32 (c.args.row.now) (c.args.at) ≡ takes c.peer_acked-1.given.0.0 c.peer_acked-1.given.0.1.0 = learn u32_says c.u32_at.ensures c.peer_acked-1.given.1 in peer-acked-read)) in peer-acked-took)))).so ((let peer-read-took : Took u32 (c.args.row.now) ((field-yes (start).so ((let peer-acked-took : Took u32 (c.args.row.now) (c.args.at) c.peer_acked-1.given.0.0 c.peer_acked-1.given.0.1.0 = took _ _ u32 (number-lawful 4) ((let by : Bytes (c.args.row.now) = typed (c.args.row.now) c.shared_slice_known-1.given in by)) ((let peer-acked-read : read_at u32 (c.args.row.now) (c.args.at) ≡ takes c.peer_acked-1.given.0.0 c.peer_acked-1.given.0.1.0 = learn u32_says c.u32_at.ensures c.peer_acked-1.given.1 in peer-acked-read)) in peer-acked-took)))).here c.peer_read-1.given.0.0 c.peer_read-1.given.0.1.0 = took _ _ u32 (number-lawful 4) ((let by : Bytes (c.args.row.now) = typed (c.args.row.now) c.shared_slice_known-1.given in by)) ((let peer-read-read : read_at u32 (c.args.row.now) ((field-yes (start).so ((let peer-acked-took : Took u32 (c.args.row.now) (c.args.at) c.peer_acked-1.given.0.0 c.peer_acked-1.given.0.1.0 = took _ _ u32 (number-lawful 4) ((let by : Bytes (c.args.row.now) = typed (c.args.row.now) c.shared_slice_known-1.given in by)) ((let peer-acked-read : read_at u32 (c.args.row.now) (c.args.at) ≡ takes c.peer_acked-1.given.0.0 c.peer_acked-1.given.0.1.0 = learn u32_says c.u32_at.ensures c.peer_acked-1.given.1 in peer-acked-read)) in peer-acked-took)))).here ≡ takes c.peer_read-1.given.0.0 c.peer_read-1.given.0.1.0 = learn u32_says c.u32_at-2.ensures c.peer_read-1.given.1 in peer-read-read)) in peer-read-took)))).here c.read_marked-1.given.0.0 c.read_marked-1.given.0.1.0 = took _ _ u32 (number-lawful 4) ((let by : Bytes (c.args.row.now) = typed (c.args.row.now) c.shared_slice_known-1.given in by)) ((let read-marked-read : read_at u32 (c.args.row.now) ((field-yes ((field-yes (start).so ((let peer-acked-took : Took u32 (c.args.row.now) (c.args.at) c.peer_acked-1.given.0.0 c.peer_acked-1.given.0.1.0 = took _ _ u32 (number-lawful 4) ((let by : Bytes (c.args.row.now) = typed (c.args.row.now) c.shared_slice_known-1.given in by)) ((let peer-acked-read : read_at u32 (c.args.row.now) (c.args.at) ≡ takes c.peer_acked-1.given.0.0 c.peer_acked-1.given.0.1.0 = learn u32_says c.u32_at.ensures c.peer_acked-1.given.1 in peer-acked-read)) in peer-acked-took)))).so ((let peer-read-took : Took u32 (c.args.row.now) ((field-yes (start).so ((let peer-acked-took : Took u32 (c.args.row.now) (c.args.at) c.peer_acked-1.given.0.0 c.peer_acked-1.given.0.1.0 = took _ _ u32 (number-lawful 4) ((let by : Bytes (c.args.row.now) = typed (c.args.row.now) c.shared_slice_known-1.given in by)) ((let peer-acked-read : read_at u32 (c.args.row.now) (c.args.at) ≡ takes c.peer_acked-1.given.0.0 c.peer_acked-1.given.0.1.0 = learn u32_says c.u32_at.ensures c.peer_acked-1.given.1 in peer-acked-read)) in peer-acked-took)))).here c.peer_read-1.given.0.0 c.peer_read-1.given.0.1.0 = took _ _ u32 (number-lawful 4) ((let by : Bytes (c.args.row.now) = typed (c.args.row.now) c.shared_slice_known-1.given in by)) ((let peer-read-read : read_at u32 (c.args.row.now) ((field-yes (start).so ((let peer-acked-took : Took u32 (c.args.row.now) (c.args.at) c.peer_acked-1.given.0.0 c.peer_acked-1.given.0.1.0 = took _ _ u32 (number-lawful 4) ((let by : Bytes (c.args.row.now) = typed (c.args.row.now) c.shared_slice_known-1.given in by)) ((let peer-acked-read : read_at u32 (c.args.row.now) (c.args.at) ≡ takes c.peer_acked-1.given.0.0 c.peer_acked-1.given.0.1.0 = learn u32_says c.u32_at.ensures c.peer_acked-1.given.1 in peer-acked-read)) in peer-acked-took)))).here ≡ takes c.peer_read-1.given.0.0 c.peer_read-1.given.0.1.0 = learn u32_says c.u32_at-2.ensures c.peer_read-1.given.1 in peer-read-read)) in peer-read-took)))).here ≡ takes c.read_marked-1.given.0.0 c.read_marked-1.given.0.1.0 = learn u32_says c.u32_at-3.ensures c.read_marked-1.given.1 in read-marked-read)) in read-marked-took)))).here ≡ takes c.contiguous-1.given.0.0 c.contiguous-1.given.0.1.0 = learn u32_says c.u32_at-4.ensures c.contiguous-1.given.1 in contiguous-read)) in contiguous-took)))).here (list_in (group range) (c.args.row.now) c.above_field-1.given.0.0) c.above_field-1.given.0.0.next = list-took (group range) range-lawful (c.args.row.now) ((let by : Bytes (c.args.row.now) = typed (c.args.row.now) c.shared_slice_known-1.given in by)) _ c.ranges_at-above_field.ensures c.above_field-1.given.1 in above-took)).inside in unacked-next))))
+    (next} all inside is = ap (λ (place : NumbersAt). Value place next) is ∙ sym (ap (numbers_found c.args.at) (takes_at c.args.row.now c.args.at (group numbers) all inside))) (done-yes r7.so) expired-took.inside
+    (its-places c.args.at its
+    above-starts
+    (omega (arith, peer-acked-next, peer-read-next, read-marked-next, contiguous-next))
+    unacked-starts
+    (omega (arith, peer-acked-next, peer-read-next, read-marked-next, contiguous-next, above-next))
+    expired-starts
+    (omega (arith, peer-acked-next, peer-read-next, read-marked-next, contiguous-next, above-next, unacked-next)))

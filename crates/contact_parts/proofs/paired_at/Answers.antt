@@ -12,7 +12,7 @@ use Rattle.layout.specs.Field.{takes, read_at}
 use Rattle.layout.specs.RowLaws.{Bytes}
 use Rattle.layout.proofs.Derived.{sized-lawful}
 use Rattle.layout.proofs.At.{learn, Took, typed, took, took-next, refused-at, takes_at, refuses-at}
-use Rattle.layout.proofs.Steps.{start, field-yes, field-no, done-yes}
+use Rattle.layout.proofs.Steps.{Reached, start, field-yes, field-no, done-yes}
 use Rattle.rows.specs.Rows.{role, mode, verification, card}
 use Rattle.rows.proofs.Lawful.{role-lawful, mode-lawful, verification-lawful, card-lawful}
 use Rattle.fields.specs.Says.{role_says, mode_says, verification_says, role_refusal, mode_refusal, verification_refusal}
@@ -37,53 +37,135 @@ its-places from v pair-id-at th-at nonce-b-at card-at card-here = λ i. record {
 
 pub returns-in_default : goal.returns-in_default
 returns-in_default c =
-    let stop = field-no (start).so (refused-at _ _ role (learn role_says c.role_at-role_field.ensures c.enum_told-1.given.1)) in
-    rw (c.refusal.ensures ∙ ap role_refusal c.enum_told-1.given.1) ((sym (ap (paired_found (c.args.at)) (refuses-at (c.args.row.now) (c.args.at) (group paired) stop))))
+    let r0 : (Reached paired c.args.row.now c.args.at) = start in
+    let stop = field-no r0.so (refused-at _ _ role (learn role_says c.role_at-role_field.ensures c.in_default.is)) in
+    rw (c.refusal.ensures ∙ ap role_refusal c.in_default.is) ((sym (ap (paired_found c.args.at) (refuses-at c.args.row.now c.args.at (group paired) stop))))
 
 pub returns-in_default-mode_field : goal.returns-in_default-mode_field
 returns-in_default-mode_field c =
-    let stop = field-no ((field-yes (start).so ((let role-took : Took role (c.args.row.now) (c.args.at) c.role_field-1.given.0.0 c.role_field-1.given.0.1.0 = took _ _ role role-lawful ((let by : Bytes (c.args.row.now) = typed (c.args.row.now) c.shared_slice_known-1.given in by)) ((let role-read : read_at role (c.args.row.now) (c.args.at) ≡ takes c.role_field-1.given.0.0 c.role_field-1.given.0.1.0 = learn role_says c.role_at-role_field.ensures c.role_field-1.given.1 in role-read)) in role-took)))).so (refused-at _ _ mode (learn mode_says c.mode_at-mode_field.ensures c.enum_told-in_default-mode_field-1.given.1)) in
-    rw (c.refusal-in_default-mode_field.ensures ∙ ap mode_refusal c.enum_told-in_default-mode_field-1.given.1) ((sym (ap (paired_found (c.args.at)) (refuses-at (c.args.row.now) (c.args.at) (group paired) stop))))
+    let r0 : (Reached paired c.args.row.now c.args.at) = start in
+    let by : Bytes c.args.row.now = typed c.args.row.now c.type_inv.row in
+    let role-read : read_at role c.args.row.now c.args.at ≡ takes c.in-Value.role c.in-Value.at1 = learn role_says c.role_at-role_field.ensures c.in-Value.is in
+    let role-took : Took role c.args.row.now c.args.at c.in-Value.role c.in-Value.at1 = took _ _ role role-lawful by role-read in
+    let r1 : (Reached paired c.args.row.now c.args.at) = field-yes r0.so role-took in
+    let stop = field-no r1.so (refused-at _ _ mode (learn mode_says c.mode_at-mode_field.ensures c.in_default-mode_field.is)) in
+    rw (c.refusal-in_default-mode_field.ensures ∙ ap mode_refusal c.in_default-mode_field.is) ((sym (ap (paired_found c.args.at) (refuses-at c.args.row.now c.args.at (group paired) stop))))
 
 pub returns-in_default-verification_field : goal.returns-in_default-verification_field
 returns-in_default-verification_field c =
-    let stop = field-no ((field-yes ((field-yes (start).so ((let role-took : Took role (c.args.row.now) (c.args.at) c.role_field-1.given.0.0 c.role_field-1.given.0.1.0 = took _ _ role role-lawful ((let by : Bytes (c.args.row.now) = typed (c.args.row.now) c.shared_slice_known-1.given in by)) ((let role-read : read_at role (c.args.row.now) (c.args.at) ≡ takes c.role_field-1.given.0.0 c.role_field-1.given.0.1.0 = learn role_says c.role_at-role_field.ensures c.role_field-1.given.1 in role-read)) in role-took)))).so ((let mode-took : Took mode (c.args.row.now) ((field-yes (start).so ((let role-took : Took role (c.args.row.now) (c.args.at) c.role_field-1.given.0.0 c.role_field-1.given.0.1.0 = took _ _ role role-lawful ((let by : Bytes (c.args.row.now) = typed (c.args.row.now) c.shared_slice_known-1.given in by)) ((let role-read : read_at role (c.args.row.now) (c.args.at) ≡ takes c.role_field-1.given.0.0 c.role_field-1.given.0.1.0 = learn role_says c.role_at-role_field.ensures c.role_field-1.given.1 in role-read)) in role-took)))).here tt c.mode_field-1.given.0.0 = took _ _ mode mode-lawful ((let by : Bytes (c.args.row.now) = typed (c.args.row.now) c.shared_slice_known-1.given in by)) ((let mode-read : read_at mode (c.args.row.now) ((field-yes (start).so ((let role-took : Took role (c.args.row.now) (c.args.at) c.role_field-1.given.0.0 c.role_field-1.given.0.1.0 = took _ _ role role-lawful ((let by : Bytes (c.args.row.now) = typed (c.args.row.now) c.shared_slice_known-1.given in by)) ((let role-read : read_at role (c.args.row.now) (c.args.at) ≡ takes c.role_field-1.given.0.0 c.role_field-1.given.0.1.0 = learn role_says c.role_at-role_field.ensures c.role_field-1.given.1 in role-read)) in role-took)))).here ≡ takes tt c.mode_field-1.given.0.0 = learn mode_says c.mode_at-mode_field.ensures c.mode_field-1.given.1 in mode-read)) in mode-took)))).so (refused-at _ _ verification (learn verification_says c.verification_at-verification_field.ensures c.enum_told-in_default-verification_field-1.given.1)) in
-    rw (c.refusal-in_default-verification_field.ensures ∙ ap verification_refusal c.enum_told-in_default-verification_field-1.given.1) ((sym (ap (paired_found (c.args.at)) (refuses-at (c.args.row.now) (c.args.at) (group paired) stop))))
+    let r0 : (Reached paired c.args.row.now c.args.at) = start in
+    let by : Bytes c.args.row.now = typed c.args.row.now c.type_inv.row in
+    let role-read : read_at role c.args.row.now c.args.at ≡ takes c.in-Value.role c.in-Value.at1 = learn role_says c.role_at-role_field.ensures c.in-Value.is in
+    let role-took : Took role c.args.row.now c.args.at c.in-Value.role c.in-Value.at1 = took _ _ role role-lawful by role-read in
+    let r1 : (Reached paired c.args.row.now c.args.at) = field-yes r0.so role-took in
+    let mode-read : read_at mode c.args.row.now r1.here ≡ takes tt c.in-Value-mode_field.at2 = learn mode_says c.mode_at-mode_field.ensures c.in-Value-mode_field.is in
+    let mode-took : Took mode c.args.row.now r1.here tt c.in-Value-mode_field.at2 = took _ _ mode mode-lawful by mode-read in
+    let r2 : (Reached paired c.args.row.now c.args.at) = field-yes r1.so mode-took in
+    let stop = field-no r2.so (refused-at _ _ verification (learn verification_says c.verification_at-verification_field.ensures c.in_default-verification_field.is)) in
+    rw (c.refusal-in_default-verification_field.ensures ∙ ap verification_refusal c.in_default-verification_field.is) ((sym (ap (paired_found c.args.at) (refuses-at c.args.row.now c.args.at (group paired) stop))))
 
 pub returns-in_default-run_at : goal.returns-in_default-run_at
 returns-in_default-run_at c =
-    let stop = field-no ((field-yes ((field-yes ((field-yes (start).so ((let role-took : Took role (c.args.row.now) (c.args.at) c.role_field-1.given.0.0 c.role_field-1.given.0.1.0 = took _ _ role role-lawful ((let by : Bytes (c.args.row.now) = typed (c.args.row.now) c.shared_slice_known-1.given in by)) ((let role-read : read_at role (c.args.row.now) (c.args.at) ≡ takes c.role_field-1.given.0.0 c.role_field-1.given.0.1.0 = learn role_says c.role_at-role_field.ensures c.role_field-1.given.1 in role-read)) in role-took)))).so ((let mode-took : Took mode (c.args.row.now) ((field-yes (start).so ((let role-took : Took role (c.args.row.now) (c.args.at) c.role_field-1.given.0.0 c.role_field-1.given.0.1.0 = took _ _ role role-lawful ((let by : Bytes (c.args.row.now) = typed (c.args.row.now) c.shared_slice_known-1.given in by)) ((let role-read : read_at role (c.args.row.now) (c.args.at) ≡ takes c.role_field-1.given.0.0 c.role_field-1.given.0.1.0 = learn role_says c.role_at-role_field.ensures c.role_field-1.given.1 in role-read)) in role-took)))).here tt c.mode_field-1.given.0.0 = took _ _ mode mode-lawful ((let by : Bytes (c.args.row.now) = typed (c.args.row.now) c.shared_slice_known-1.given in by)) ((let mode-read : read_at mode (c.args.row.now) ((field-yes (start).so ((let role-took : Took role (c.args.row.now) (c.args.at) c.role_field-1.given.0.0 c.role_field-1.given.0.1.0 = took _ _ role role-lawful ((let by : Bytes (c.args.row.now) = typed (c.args.row.now) c.shared_slice_known-1.given in by)) ((let role-read : read_at role (c.args.row.now) (c.args.at) ≡ takes c.role_field-1.given.0.0 c.role_field-1.given.0.1.0 = learn role_says c.role_at-role_field.ensures c.role_field-1.given.1 in role-read)) in role-took)))).here ≡ takes tt c.mode_field-1.given.0.0 = learn mode_says c.mode_at-mode_field.ensures c.mode_field-1.given.1 in mode-read)) in mode-took)))).so (took _ _ verification verification-lawful ((let by : Bytes (c.args.row.now) = typed (c.args.row.now) c.shared_slice_known-1.given in by)) ((let verification-read : read_at verification (c.args.row.now) ((field-yes ((field-yes (start).so ((let role-took : Took role (c.args.row.now) (c.args.at) c.role_field-1.given.0.0 c.role_field-1.given.0.1.0 = took _ _ role role-lawful ((let by : Bytes (c.args.row.now) = typed (c.args.row.now) c.shared_slice_known-1.given in by)) ((let role-read : read_at role (c.args.row.now) (c.args.at) ≡ takes c.role_field-1.given.0.0 c.role_field-1.given.0.1.0 = learn role_says c.role_at-role_field.ensures c.role_field-1.given.1 in role-read)) in role-took)))).so ((let mode-took : Took mode (c.args.row.now) ((field-yes (start).so ((let role-took : Took role (c.args.row.now) (c.args.at) c.role_field-1.given.0.0 c.role_field-1.given.0.1.0 = took _ _ role role-lawful ((let by : Bytes (c.args.row.now) = typed (c.args.row.now) c.shared_slice_known-1.given in by)) ((let role-read : read_at role (c.args.row.now) (c.args.at) ≡ takes c.role_field-1.given.0.0 c.role_field-1.given.0.1.0 = learn role_says c.role_at-role_field.ensures c.role_field-1.given.1 in role-read)) in role-took)))).here tt c.mode_field-1.given.0.0 = took _ _ mode mode-lawful ((let by : Bytes (c.args.row.now) = typed (c.args.row.now) c.shared_slice_known-1.given in by)) ((let mode-read : read_at mode (c.args.row.now) ((field-yes (start).so ((let role-took : Took role (c.args.row.now) (c.args.at) c.role_field-1.given.0.0 c.role_field-1.given.0.1.0 = took _ _ role role-lawful ((let by : Bytes (c.args.row.now) = typed (c.args.row.now) c.shared_slice_known-1.given in by)) ((let role-read : read_at role (c.args.row.now) (c.args.at) ≡ takes c.role_field-1.given.0.0 c.role_field-1.given.0.1.0 = learn role_says c.role_at-role_field.ensures c.role_field-1.given.1 in role-read)) in role-took)))).here ≡ takes tt c.mode_field-1.given.0.0 = learn mode_says c.mode_at-mode_field.ensures c.mode_field-1.given.1 in mode-read)) in mode-took)))).here ≡ takes c.verification_field-1.given.0.0 c.verification_field-1.given.0.1.0 = learn verification_says c.verification_at-verification_field.ensures c.verification_field-1.given.1 in verification-read))))).so (run_short _ _ plain 16 c.run_at.ensures.0 c.enum_told-in_default-run_at-1.given.1) in
-    (sym (ap (paired_found (c.args.at)) (refuses-at (c.args.row.now) (c.args.at) (group paired) stop)))
+    let r0 : (Reached paired c.args.row.now c.args.at) = start in
+    let by : Bytes c.args.row.now = typed c.args.row.now c.type_inv.row in
+    let role-read : read_at role c.args.row.now c.args.at ≡ takes c.in-Value.role c.in-Value.at1 = learn role_says c.role_at-role_field.ensures c.in-Value.is in
+    let role-took : Took role c.args.row.now c.args.at c.in-Value.role c.in-Value.at1 = took _ _ role role-lawful by role-read in
+    let r1 : (Reached paired c.args.row.now c.args.at) = field-yes r0.so role-took in
+    let mode-read : read_at mode c.args.row.now r1.here ≡ takes tt c.in-Value-mode_field.at2 = learn mode_says c.mode_at-mode_field.ensures c.in-Value-mode_field.is in
+    let mode-took : Took mode c.args.row.now r1.here tt c.in-Value-mode_field.at2 = took _ _ mode mode-lawful by mode-read in
+    let r2 : (Reached paired c.args.row.now c.args.at) = field-yes r1.so mode-took in
+    let verification-read : read_at verification c.args.row.now r2.here ≡ takes c.in-Value-verification_field.verification c.in-Value-verification_field.at3 = learn verification_says c.verification_at-verification_field.ensures c.in-Value-verification_field.is in
+    let r3 : (Reached paired c.args.row.now c.args.at) = field-yes r2.so (took _ _ verification verification-lawful by verification-read) in
+    let stop = field-no r3.so (run_short _ _ plain 16 c.run_at.ensures.0 c.in_default-run_at.is) in
+    (sym (ap (paired_found c.args.at) (refuses-at c.args.row.now c.args.at (group paired) stop)))
 
 pub returns-in_default-run_at-2 : goal.returns-in_default-run_at-2
 returns-in_default-run_at-2 c =
-    let stop = field-no ((field-yes ((field-yes ((field-yes ((field-yes (start).so ((let role-took : Took role (c.args.row.now) (c.args.at) c.role_field-1.given.0.0 c.role_field-1.given.0.1.0 = took _ _ role role-lawful ((let by : Bytes (c.args.row.now) = typed (c.args.row.now) c.shared_slice_known-1.given in by)) ((let role-read : read_at role (c.args.row.now) (c.args.at) ≡ takes c.role_field-1.given.0.0 c.role_field-1.given.0.1.0 = learn role_says c.role_at-role_field.ensures c.role_field-1.given.1 in role-read)) in role-took)))).so ((let mode-took : Took mode (c.args.row.now) ((field-yes (start).so ((let role-took : Took role (c.args.row.now) (c.args.at) c.role_field-1.given.0.0 c.role_field-1.given.0.1.0 = took _ _ role role-lawful ((let by : Bytes (c.args.row.now) = typed (c.args.row.now) c.shared_slice_known-1.given in by)) ((let role-read : read_at role (c.args.row.now) (c.args.at) ≡ takes c.role_field-1.given.0.0 c.role_field-1.given.0.1.0 = learn role_says c.role_at-role_field.ensures c.role_field-1.given.1 in role-read)) in role-took)))).here tt c.mode_field-1.given.0.0 = took _ _ mode mode-lawful ((let by : Bytes (c.args.row.now) = typed (c.args.row.now) c.shared_slice_known-1.given in by)) ((let mode-read : read_at mode (c.args.row.now) ((field-yes (start).so ((let role-took : Took role (c.args.row.now) (c.args.at) c.role_field-1.given.0.0 c.role_field-1.given.0.1.0 = took _ _ role role-lawful ((let by : Bytes (c.args.row.now) = typed (c.args.row.now) c.shared_slice_known-1.given in by)) ((let role-read : read_at role (c.args.row.now) (c.args.at) ≡ takes c.role_field-1.given.0.0 c.role_field-1.given.0.1.0 = learn role_says c.role_at-role_field.ensures c.role_field-1.given.1 in role-read)) in role-took)))).here ≡ takes tt c.mode_field-1.given.0.0 = learn mode_says c.mode_at-mode_field.ensures c.mode_field-1.given.1 in mode-read)) in mode-took)))).so (took _ _ verification verification-lawful ((let by : Bytes (c.args.row.now) = typed (c.args.row.now) c.shared_slice_known-1.given in by)) ((let verification-read : read_at verification (c.args.row.now) ((field-yes ((field-yes (start).so ((let role-took : Took role (c.args.row.now) (c.args.at) c.role_field-1.given.0.0 c.role_field-1.given.0.1.0 = took _ _ role role-lawful ((let by : Bytes (c.args.row.now) = typed (c.args.row.now) c.shared_slice_known-1.given in by)) ((let role-read : read_at role (c.args.row.now) (c.args.at) ≡ takes c.role_field-1.given.0.0 c.role_field-1.given.0.1.0 = learn role_says c.role_at-role_field.ensures c.role_field-1.given.1 in role-read)) in role-took)))).so ((let mode-took : Took mode (c.args.row.now) ((field-yes (start).so ((let role-took : Took role (c.args.row.now) (c.args.at) c.role_field-1.given.0.0 c.role_field-1.given.0.1.0 = took _ _ role role-lawful ((let by : Bytes (c.args.row.now) = typed (c.args.row.now) c.shared_slice_known-1.given in by)) ((let role-read : read_at role (c.args.row.now) (c.args.at) ≡ takes c.role_field-1.given.0.0 c.role_field-1.given.0.1.0 = learn role_says c.role_at-role_field.ensures c.role_field-1.given.1 in role-read)) in role-took)))).here tt c.mode_field-1.given.0.0 = took _ _ mode mode-lawful ((let by : Bytes (c.args.row.now) = typed (c.args.row.now) c.shared_slice_known-1.given in by)) ((let mode-read : read_at mode (c.args.row.now) ((field-yes (start).so ((let role-took : Took role (c.args.row.now) (c.args.at) c.role_field-1.given.0.0 c.role_field-1.given.0.1.0 = took _ _ role role-lawful ((let by : Bytes (c.args.row.now) = typed (c.args.row.now) c.shared_slice_known-1.given in by)) ((let role-read : read_at role (c.args.row.now) (c.args.at) ≡ takes c.role_field-1.given.0.0 c.role_field-1.given.0.1.0 = learn role_says c.role_at-role_field.ensures c.role_field-1.given.1 in role-read)) in role-took)))).here ≡ takes tt c.mode_field-1.given.0.0 = learn mode_says c.mode_at-mode_field.ensures c.mode_field-1.given.1 in mode-read)) in mode-took)))).here ≡ takes c.verification_field-1.given.0.0 c.verification_field-1.given.0.1.0 = learn verification_says c.verification_at-verification_field.ensures c.verification_field-1.given.1 in verification-read))))).so (run-took _ _ plain 16 c.run_at.ensures.0 ((let by : Bytes (c.args.row.now) = typed (c.args.row.now) c.shared_slice_known-1.given in by)) c.pair_id-1.given.1))).so (run_short _ _ plain 48 c.run_at-2.ensures.0 c.enum_told-in_default-run_at-2-1.given.1) in
-    (sym (ap (paired_found (c.args.at)) (refuses-at (c.args.row.now) (c.args.at) (group paired) stop)))
+    let r0 : (Reached paired c.args.row.now c.args.at) = start in
+    let by : Bytes c.args.row.now = typed c.args.row.now c.type_inv.row in
+    let role-read : read_at role c.args.row.now c.args.at ≡ takes c.in-Value.role c.in-Value.at1 = learn role_says c.role_at-role_field.ensures c.in-Value.is in
+    let role-took : Took role c.args.row.now c.args.at c.in-Value.role c.in-Value.at1 = took _ _ role role-lawful by role-read in
+    let r1 : (Reached paired c.args.row.now c.args.at) = field-yes r0.so role-took in
+    let mode-read : read_at mode c.args.row.now r1.here ≡ takes tt c.in-Value-mode_field.at2 = learn mode_says c.mode_at-mode_field.ensures c.in-Value-mode_field.is in
+    let mode-took : Took mode c.args.row.now r1.here tt c.in-Value-mode_field.at2 = took _ _ mode mode-lawful by mode-read in
+    let r2 : (Reached paired c.args.row.now c.args.at) = field-yes r1.so mode-took in
+    let verification-read : read_at verification c.args.row.now r2.here ≡ takes c.in-Value-verification_field.verification c.in-Value-verification_field.at3 = learn verification_says c.verification_at-verification_field.ensures c.in-Value-verification_field.is in
+    let r3 : (Reached paired c.args.row.now c.args.at) = field-yes r2.so (took _ _ verification verification-lawful by verification-read) in
+    let r4 : (Reached paired c.args.row.now c.args.at) = field-yes r3.so (run-took _ _ plain 16 c.run_at.ensures.0 by c.in-Value-run_at.is) in
+    let stop = field-no r4.so (run_short _ _ plain 48 c.run_at-2.ensures.0 c.in_default-run_at-2.is) in
+    (sym (ap (paired_found c.args.at) (refuses-at c.args.row.now c.args.at (group paired) stop)))
 
 pub returns-in_default-run_at-3 : goal.returns-in_default-run_at-3
 returns-in_default-run_at-3 c =
-    let stop = field-no ((field-yes ((field-yes ((field-yes ((field-yes ((field-yes (start).so ((let role-took : Took role (c.args.row.now) (c.args.at) c.role_field-1.given.0.0 c.role_field-1.given.0.1.0 = took _ _ role role-lawful ((let by : Bytes (c.args.row.now) = typed (c.args.row.now) c.shared_slice_known-1.given in by)) ((let role-read : read_at role (c.args.row.now) (c.args.at) ≡ takes c.role_field-1.given.0.0 c.role_field-1.given.0.1.0 = learn role_says c.role_at-role_field.ensures c.role_field-1.given.1 in role-read)) in role-took)))).so ((let mode-took : Took mode (c.args.row.now) ((field-yes (start).so ((let role-took : Took role (c.args.row.now) (c.args.at) c.role_field-1.given.0.0 c.role_field-1.given.0.1.0 = took _ _ role role-lawful ((let by : Bytes (c.args.row.now) = typed (c.args.row.now) c.shared_slice_known-1.given in by)) ((let role-read : read_at role (c.args.row.now) (c.args.at) ≡ takes c.role_field-1.given.0.0 c.role_field-1.given.0.1.0 = learn role_says c.role_at-role_field.ensures c.role_field-1.given.1 in role-read)) in role-took)))).here tt c.mode_field-1.given.0.0 = took _ _ mode mode-lawful ((let by : Bytes (c.args.row.now) = typed (c.args.row.now) c.shared_slice_known-1.given in by)) ((let mode-read : read_at mode (c.args.row.now) ((field-yes (start).so ((let role-took : Took role (c.args.row.now) (c.args.at) c.role_field-1.given.0.0 c.role_field-1.given.0.1.0 = took _ _ role role-lawful ((let by : Bytes (c.args.row.now) = typed (c.args.row.now) c.shared_slice_known-1.given in by)) ((let role-read : read_at role (c.args.row.now) (c.args.at) ≡ takes c.role_field-1.given.0.0 c.role_field-1.given.0.1.0 = learn role_says c.role_at-role_field.ensures c.role_field-1.given.1 in role-read)) in role-took)))).here ≡ takes tt c.mode_field-1.given.0.0 = learn mode_says c.mode_at-mode_field.ensures c.mode_field-1.given.1 in mode-read)) in mode-took)))).so (took _ _ verification verification-lawful ((let by : Bytes (c.args.row.now) = typed (c.args.row.now) c.shared_slice_known-1.given in by)) ((let verification-read : read_at verification (c.args.row.now) ((field-yes ((field-yes (start).so ((let role-took : Took role (c.args.row.now) (c.args.at) c.role_field-1.given.0.0 c.role_field-1.given.0.1.0 = took _ _ role role-lawful ((let by : Bytes (c.args.row.now) = typed (c.args.row.now) c.shared_slice_known-1.given in by)) ((let role-read : read_at role (c.args.row.now) (c.args.at) ≡ takes c.role_field-1.given.0.0 c.role_field-1.given.0.1.0 = learn role_says c.role_at-role_field.ensures c.role_field-1.given.1 in role-read)) in role-took)))).so ((let mode-took : Took mode (c.args.row.now) ((field-yes (start).so ((let role-took : Took role (c.args.row.now) (c.args.at) c.role_field-1.given.0.0 c.role_field-1.given.0.1.0 = took _ _ role role-lawful ((let by : Bytes (c.args.row.now) = typed (c.args.row.now) c.shared_slice_known-1.given in by)) ((let role-read : read_at role (c.args.row.now) (c.args.at) ≡ takes c.role_field-1.given.0.0 c.role_field-1.given.0.1.0 = learn role_says c.role_at-role_field.ensures c.role_field-1.given.1 in role-read)) in role-took)))).here tt c.mode_field-1.given.0.0 = took _ _ mode mode-lawful ((let by : Bytes (c.args.row.now) = typed (c.args.row.now) c.shared_slice_known-1.given in by)) ((let mode-read : read_at mode (c.args.row.now) ((field-yes (start).so ((let role-took : Took role (c.args.row.now) (c.args.at) c.role_field-1.given.0.0 c.role_field-1.given.0.1.0 = took _ _ role role-lawful ((let by : Bytes (c.args.row.now) = typed (c.args.row.now) c.shared_slice_known-1.given in by)) ((let role-read : read_at role (c.args.row.now) (c.args.at) ≡ takes c.role_field-1.given.0.0 c.role_field-1.given.0.1.0 = learn role_says c.role_at-role_field.ensures c.role_field-1.given.1 in role-read)) in role-took)))).here ≡ takes tt c.mode_field-1.given.0.0 = learn mode_says c.mode_at-mode_field.ensures c.mode_field-1.given.1 in mode-read)) in mode-took)))).here ≡ takes c.verification_field-1.given.0.0 c.verification_field-1.given.0.1.0 = learn verification_says c.verification_at-verification_field.ensures c.verification_field-1.given.1 in verification-read))))).so (run-took _ _ plain 16 c.run_at.ensures.0 ((let by : Bytes (c.args.row.now) = typed (c.args.row.now) c.shared_slice_known-1.given in by)) c.pair_id-1.given.1))).so (run-took _ _ plain 48 c.run_at-2.ensures.0 ((let by : Bytes (c.args.row.now) = typed (c.args.row.now) c.shared_slice_known-1.given in by)) c.th-1.given.1))).so (run_short _ _ plain 16 c.run_at-3.ensures.0 c.enum_told-in_default-run_at-3-1.given.1) in
-    (sym (ap (paired_found (c.args.at)) (refuses-at (c.args.row.now) (c.args.at) (group paired) stop)))
+    let r0 : (Reached paired c.args.row.now c.args.at) = start in
+    let by : Bytes c.args.row.now = typed c.args.row.now c.type_inv.row in
+    let role-read : read_at role c.args.row.now c.args.at ≡ takes c.in-Value.role c.in-Value.at1 = learn role_says c.role_at-role_field.ensures c.in-Value.is in
+    let role-took : Took role c.args.row.now c.args.at c.in-Value.role c.in-Value.at1 = took _ _ role role-lawful by role-read in
+    let r1 : (Reached paired c.args.row.now c.args.at) = field-yes r0.so role-took in
+    let mode-read : read_at mode c.args.row.now r1.here ≡ takes tt c.in-Value-mode_field.at2 = learn mode_says c.mode_at-mode_field.ensures c.in-Value-mode_field.is in
+    let mode-took : Took mode c.args.row.now r1.here tt c.in-Value-mode_field.at2 = took _ _ mode mode-lawful by mode-read in
+    let r2 : (Reached paired c.args.row.now c.args.at) = field-yes r1.so mode-took in
+    let verification-read : read_at verification c.args.row.now r2.here ≡ takes c.in-Value-verification_field.verification c.in-Value-verification_field.at3 = learn verification_says c.verification_at-verification_field.ensures c.in-Value-verification_field.is in
+    let r3 : (Reached paired c.args.row.now c.args.at) = field-yes r2.so (took _ _ verification verification-lawful by verification-read) in
+    let r4 : (Reached paired c.args.row.now c.args.at) = field-yes r3.so (run-took _ _ plain 16 c.run_at.ensures.0 by c.in-Value-run_at.is) in
+    let r5 : (Reached paired c.args.row.now c.args.at) = field-yes r4.so (run-took _ _ plain 48 c.run_at-2.ensures.0 by c.in-Value-run_at-2.is) in
+    let stop = field-no r5.so (run_short _ _ plain 16 c.run_at-3.ensures.0 c.in_default-run_at-3.is) in
+    (sym (ap (paired_found c.args.at) (refuses-at c.args.row.now c.args.at (group paired) stop)))
 
 pub returns-in_default-card_field : goal.returns-in_default-card_field
 returns-in_default-card_field c =
-    let stop = field-no ((field-yes ((field-yes ((field-yes ((field-yes ((field-yes ((field-yes (start).so ((let role-took : Took role (c.args.row.now) (c.args.at) c.role_field-1.given.0.0 c.role_field-1.given.0.1.0 = took _ _ role role-lawful ((let by : Bytes (c.args.row.now) = typed (c.args.row.now) c.shared_slice_known-1.given in by)) ((let role-read : read_at role (c.args.row.now) (c.args.at) ≡ takes c.role_field-1.given.0.0 c.role_field-1.given.0.1.0 = learn role_says c.role_at-role_field.ensures c.role_field-1.given.1 in role-read)) in role-took)))).so ((let mode-took : Took mode (c.args.row.now) ((field-yes (start).so ((let role-took : Took role (c.args.row.now) (c.args.at) c.role_field-1.given.0.0 c.role_field-1.given.0.1.0 = took _ _ role role-lawful ((let by : Bytes (c.args.row.now) = typed (c.args.row.now) c.shared_slice_known-1.given in by)) ((let role-read : read_at role (c.args.row.now) (c.args.at) ≡ takes c.role_field-1.given.0.0 c.role_field-1.given.0.1.0 = learn role_says c.role_at-role_field.ensures c.role_field-1.given.1 in role-read)) in role-took)))).here tt c.mode_field-1.given.0.0 = took _ _ mode mode-lawful ((let by : Bytes (c.args.row.now) = typed (c.args.row.now) c.shared_slice_known-1.given in by)) ((let mode-read : read_at mode (c.args.row.now) ((field-yes (start).so ((let role-took : Took role (c.args.row.now) (c.args.at) c.role_field-1.given.0.0 c.role_field-1.given.0.1.0 = took _ _ role role-lawful ((let by : Bytes (c.args.row.now) = typed (c.args.row.now) c.shared_slice_known-1.given in by)) ((let role-read : read_at role (c.args.row.now) (c.args.at) ≡ takes c.role_field-1.given.0.0 c.role_field-1.given.0.1.0 = learn role_says c.role_at-role_field.ensures c.role_field-1.given.1 in role-read)) in role-took)))).here ≡ takes tt c.mode_field-1.given.0.0 = learn mode_says c.mode_at-mode_field.ensures c.mode_field-1.given.1 in mode-read)) in mode-took)))).so (took _ _ verification verification-lawful ((let by : Bytes (c.args.row.now) = typed (c.args.row.now) c.shared_slice_known-1.given in by)) ((let verification-read : read_at verification (c.args.row.now) ((field-yes ((field-yes (start).so ((let role-took : Took role (c.args.row.now) (c.args.at) c.role_field-1.given.0.0 c.role_field-1.given.0.1.0 = took _ _ role role-lawful ((let by : Bytes (c.args.row.now) = typed (c.args.row.now) c.shared_slice_known-1.given in by)) ((let role-read : read_at role (c.args.row.now) (c.args.at) ≡ takes c.role_field-1.given.0.0 c.role_field-1.given.0.1.0 = learn role_says c.role_at-role_field.ensures c.role_field-1.given.1 in role-read)) in role-took)))).so ((let mode-took : Took mode (c.args.row.now) ((field-yes (start).so ((let role-took : Took role (c.args.row.now) (c.args.at) c.role_field-1.given.0.0 c.role_field-1.given.0.1.0 = took _ _ role role-lawful ((let by : Bytes (c.args.row.now) = typed (c.args.row.now) c.shared_slice_known-1.given in by)) ((let role-read : read_at role (c.args.row.now) (c.args.at) ≡ takes c.role_field-1.given.0.0 c.role_field-1.given.0.1.0 = learn role_says c.role_at-role_field.ensures c.role_field-1.given.1 in role-read)) in role-took)))).here tt c.mode_field-1.given.0.0 = took _ _ mode mode-lawful ((let by : Bytes (c.args.row.now) = typed (c.args.row.now) c.shared_slice_known-1.given in by)) ((let mode-read : read_at mode (c.args.row.now) ((field-yes (start).so ((let role-took : Took role (c.args.row.now) (c.args.at) c.role_field-1.given.0.0 c.role_field-1.given.0.1.0 = took _ _ role role-lawful ((let by : Bytes (c.args.row.now) = typed (c.args.row.now) c.shared_slice_known-1.given in by)) ((let role-read : read_at role (c.args.row.now) (c.args.at) ≡ takes c.role_field-1.given.0.0 c.role_field-1.given.0.1.0 = learn role_says c.role_at-role_field.ensures c.role_field-1.given.1 in role-read)) in role-took)))).here ≡ takes tt c.mode_field-1.given.0.0 = learn mode_says c.mode_at-mode_field.ensures c.mode_field-1.given.1 in mode-read)) in mode-took)))).here ≡ takes c.verification_field-1.given.0.0 c.verification_field-1.given.0.1.0 = learn verification_says c.verification_at-verification_field.ensures c.verification_field-1.given.1 in verification-read))))).so (run-took _ _ plain 16 c.run_at.ensures.0 ((let by : Bytes (c.args.row.now) = typed (c.args.row.now) c.shared_slice_known-1.given in by)) c.pair_id-1.given.1))).so (run-took _ _ plain 48 c.run_at-2.ensures.0 ((let by : Bytes (c.args.row.now) = typed (c.args.row.now) c.shared_slice_known-1.given in by)) c.th-1.given.1))).so (run-took _ _ plain 16 c.run_at-3.ensures.0 ((let by : Bytes (c.args.row.now) = typed (c.args.row.now) c.shared_slice_known-1.given in by)) c.nonce_b-1.given.1))).so (refused-at _ _ (sized (group card) CARD_END) (located-not (card_at _) _ (learn card_says c.card_at-card_field.ensures c.enum_told-in_default-card_field-1.given.1))) in
-    rw (c.refusal-in_default-card_field.ensures ∙ ap card_refusal c.enum_told-in_default-card_field-1.given.1) ((sym (ap (paired_found (c.args.at)) (refuses-at (c.args.row.now) (c.args.at) (group paired) stop))))
+    let r0 : (Reached paired c.args.row.now c.args.at) = start in
+    let by : Bytes c.args.row.now = typed c.args.row.now c.type_inv.row in
+    let role-read : read_at role c.args.row.now c.args.at ≡ takes c.in-Value.role c.in-Value.at1 = learn role_says c.role_at-role_field.ensures c.in-Value.is in
+    let role-took : Took role c.args.row.now c.args.at c.in-Value.role c.in-Value.at1 = took _ _ role role-lawful by role-read in
+    let r1 : (Reached paired c.args.row.now c.args.at) = field-yes r0.so role-took in
+    let mode-read : read_at mode c.args.row.now r1.here ≡ takes tt c.in-Value-mode_field.at2 = learn mode_says c.mode_at-mode_field.ensures c.in-Value-mode_field.is in
+    let mode-took : Took mode c.args.row.now r1.here tt c.in-Value-mode_field.at2 = took _ _ mode mode-lawful by mode-read in
+    let r2 : (Reached paired c.args.row.now c.args.at) = field-yes r1.so mode-took in
+    let verification-read : read_at verification c.args.row.now r2.here ≡ takes c.in-Value-verification_field.verification c.in-Value-verification_field.at3 = learn verification_says c.verification_at-verification_field.ensures c.in-Value-verification_field.is in
+    let r3 : (Reached paired c.args.row.now c.args.at) = field-yes r2.so (took _ _ verification verification-lawful by verification-read) in
+    let r4 : (Reached paired c.args.row.now c.args.at) = field-yes r3.so (run-took _ _ plain 16 c.run_at.ensures.0 by c.in-Value-run_at.is) in
+    let r5 : (Reached paired c.args.row.now c.args.at) = field-yes r4.so (run-took _ _ plain 48 c.run_at-2.ensures.0 by c.in-Value-run_at-2.is) in
+    let r6 : (Reached paired c.args.row.now c.args.at) = field-yes r5.so (run-took _ _ plain 16 c.run_at-3.ensures.0 by c.in-Value-run_at-3.is) in
+    let stop = field-no r6.so (refused-at _ _ (sized (group card) CARD_END) (located-not (card_at _) _ (learn card_says c.card_at-card_field.ensures c.in_default-card_field.is))) in
+    rw (c.refusal-in_default-card_field.ensures ∙ ap card_refusal c.in_default-card_field.is) ((sym (ap (paired_found c.args.at) (refuses-at c.args.row.now c.args.at (group paired) stop))))
 
 pub returns : goal.returns
 returns c =
+    let r0 : (Reached paired c.args.row.now c.args.at) = start in
+    let by : Bytes c.args.row.now = typed c.args.row.now c.type_inv.row in
+    let role-read : read_at role c.args.row.now c.args.at ≡ takes c.in-Value.role c.in-Value.at1 = learn role_says c.role_at-role_field.ensures c.in-Value.is in
+    let role-took : Took role c.args.row.now c.args.at c.in-Value.role c.in-Value.at1 = took _ _ role role-lawful by role-read in
+    let r1 : (Reached paired c.args.row.now c.args.at) = field-yes r0.so role-took in
+    let mode-read : read_at mode c.args.row.now r1.here ≡ takes tt c.in-Value-mode_field.at2 = learn mode_says c.mode_at-mode_field.ensures c.in-Value-mode_field.is in
+    let mode-took : Took mode c.args.row.now r1.here tt c.in-Value-mode_field.at2 = took _ _ mode mode-lawful by mode-read in
+    let r2 : (Reached paired c.args.row.now c.args.at) = field-yes r1.so mode-took in
+    let verification-read : read_at verification c.args.row.now r2.here ≡ takes c.in-Value-verification_field.verification c.in-Value-verification_field.at3 = learn verification_says c.verification_at-verification_field.ensures c.in-Value-verification_field.is in
+    let r3 : (Reached paired c.args.row.now c.args.at) = field-yes r2.so (took _ _ verification verification-lawful by verification-read) in
+    let r4 : (Reached paired c.args.row.now c.args.at) = field-yes r3.so (run-took _ _ plain 16 c.run_at.ensures.0 by c.in-Value-run_at.is) in
+    let r5 : (Reached paired c.args.row.now c.args.at) = field-yes r4.so (run-took _ _ plain 48 c.run_at-2.ensures.0 by c.in-Value-run_at-2.is) in
+    let r6 : (Reached paired c.args.row.now c.args.at) = field-yes r5.so (run-took _ _ plain 16 c.run_at-3.ensures.0 by c.in-Value-run_at-3.is) in
+    let card-read : Located (card_at r6.here) (read_at (sized (group card) CARD_END) c.args.row.now r6.here) c.in-Value-card_field.card c.in-Value-card_field.at7 = located-at (card_at _) _ (learn card_says c.card_at-card_field.ensures c.in-Value-card_field.is) in
+    let card-took : Took (sized (group card) CARD_END) c.args.row.now r6.here card-read.value c.in-Value-card_field.at7 = took _ _ (sized (group card) CARD_END) (sized-lawful (group card) card-lawful CARD_END) by card-read.read in
+    let r7 : (Reached paired c.args.row.now c.args.at) = field-yes r6.so card-took in
+    let role-next : c.in-Value.at1 ≡ c.args.at + length (role.print c.in-Value.role) = took-next _ _ role role-lawful by role-read (not-past _ _ role refl role-read) in
+    let mode-next : c.in-Value-mode_field.at2 ≡ r1.here + length (mode.print tt) = took-next _ _ mode mode-lawful by mode-read role-took.inside in
+    let verification-next : c.in-Value-verification_field.at3 ≡ r2.here + length (verification.print c.in-Value-verification_field.verification) = took-next _ _ verification verification-lawful by verification-read mode-took.inside in
+    let pair-id-run : Run r3.here (take 16 (drop c.in-Value-run_at.pair_id c.args.row.now)) c.in-Value-run_at.pair_id c.in-Value-run_at.at4 = run-starts _ _ 16 by (omega arith) c.run_at.ensures c.in-Value-run_at.is in
+    let th-run : Run r4.here (take 48 (drop c.in-Value-run_at-2.th c.args.row.now)) c.in-Value-run_at-2.th c.in-Value-run_at-2.at5 = run-starts _ _ 48 by (omega arith) c.run_at-2.ensures c.in-Value-run_at-2.is in
+    let nonce-b-run : Run r5.here (take 16 (drop c.in-Value-run_at-3.nonce_b c.args.row.now)) c.in-Value-run_at-3.nonce_b c.in-Value-run_at-3.at6 = run-starts _ _ 16 by (omega arith) c.run_at-3.ensures c.in-Value-run_at-3.is in
     let its : Paired = record {
-      role = c.role_field-1.given.0.0;
-      verification = c.verification_field-1.given.0.0;
-      pair_id = take 16 (drop c.pair_id-1.given.0.0 (c.args.row.now));
-      th = take 48 (drop c.th-1.given.0.0 (c.args.row.now));
-      nonce_b = take 16 (drop c.nonce_b-1.given.0.0 (c.args.row.now));
-      card = ((let card-read : Located (card_at ((field-yes ((field-yes ((field-yes ((field-yes ((field-yes ((field-yes (start).so ((let role-took : Took role (c.args.row.now) (c.args.at) c.role_field-1.given.0.0 c.role_field-1.given.0.1.0 = took _ _ role role-lawful ((let by : Bytes (c.args.row.now) = typed (c.args.row.now) c.shared_slice_known-1.given in by)) ((let role-read : read_at role (c.args.row.now) (c.args.at) ≡ takes c.role_field-1.given.0.0 c.role_field-1.given.0.1.0 = learn role_says c.role_at-role_field.ensures c.role_field-1.given.1 in role-read)) in role-took)))).so ((let mode-took : Took mode (c.args.row.now) ((field-yes (start).so ((let role-took : Took role (c.args.row.now) (c.args.at) c.role_field-1.given.0.0 c.role_field-1.given.0.1.0 = took _ _ role role-lawful ((let by : Bytes (c.args.row.now) = typed (c.args.row.now) c.shared_slice_known-1.given in by)) ((let role-read : read_at role (c.args.row.now) (c.args.at) ≡ takes c.role_field-1.given.0.0 c.role_field-1.given.0.1.0 = learn role_says c.role_at-role_field.ensures c.role_field-1.given.1 in role-read)) in role-took)))).here tt c.mode_field-1.given.0.0 = took _ _ mode mode-lawful ((let by : Bytes (c.args.row.now) = typed (c.args.row.now) c.shared_slice_known-1.given in by)) ((let mode-read : read_at mode (c.args.row.now) ((field-yes (start).so ((let role-took : Took role (c.args.row.now) (c.args.at) c.role_field-1.given.0.0 c.role_field-1.given.0.1.0 = took _ _ role role-lawful ((let by : Bytes (c.args.row.now) = typed (c.args.row.now) c.shared_slice_known-1.given in by)) ((let role-read : read_at role (c.args.row.now) (c.args.at) ≡ takes c.role_field-1.given.0.0 c.role_field-1.given.0.1.0 = learn role_says c.role_at-role_field.ensures c.role_field-1.given.1 in role-read)) in role-took)))).here ≡ takes tt c.mode_field-1.given.0.0 = learn mode_says c.mode_at-mode_field.ensures c.mode_field-1.given.1 in mode-read)) in mode-took)))).so (took _ _ verification verification-lawful ((let by : Bytes (c.args.row.now) = typed (c.args.row.now) c.shared_slice_known-1.given in by)) ((let verification-read : read_at verification (c.args.row.now) ((field-yes ((field-yes (start).so ((let role-took : Took role (c.args.row.now) (c.args.at) c.role_field-1.given.0.0 c.role_field-1.given.0.1.0 = took _ _ role role-lawful ((let by : Bytes (c.args.row.now) = typed (c.args.row.now) c.shared_slice_known-1.given in by)) ((let role-read : read_at role (c.args.row.now) (c.args.at) ≡ takes c.role_field-1.given.0.0 c.role_field-1.given.0.1.0 = learn role_says c.role_at-role_field.ensures c.role_field-1.given.1 in role-read)) in role-took)))).so ((let mode-took : Took mode (c.args.row.now) ((field-yes (start).so ((let role-took : Took role (c.args.row.now) (c.args.at) c.role_field-1.given.0.0 c.role_field-1.given.0.1.0 = took _ _ role role-lawful ((let by : Bytes (c.args.row.now) = typed (c.args.row.now) c.shared_slice_known-1.given in by)) ((let role-read : read_at role (c.args.row.now) (c.args.at) ≡ takes c.role_field-1.given.0.0 c.role_field-1.given.0.1.0 = learn role_says c.role_at-role_field.ensures c.role_field-1.given.1 in role-read)) in role-took)))).here tt c.mode_field-1.given.0.0 = took _ _ mode mode-lawful ((let by : Bytes (c.args.row.now) = typed (c.args.row.now) c.shared_slice_known-1.given in by)) ((let mode-read : read_at mode (c.args.row.now) ((field-yes (start).so ((let role-took : Took role (c.args.row.now) (c.args.at) c.role_field-1.given.0.0 c.role_field-1.given.0.1.0 = took _ _ role role-lawful ((let by : Bytes (c.args.row.now) = typed (c.args.row.now) c.shared_slice_known-1.given in by)) ((let role-read : read_at role (c.args.row.now) (c.args.at) ≡ takes c.role_field-1.given.0.0 c.role_field-1.given.0.1.0 = learn role_says c.role_at-role_field.ensures c.role_field-1.given.1 in role-read)) in role-took)))).here ≡ takes tt c.mode_field-1.given.0.0 = learn mode_says c.mode_at-mode_field.ensures c.mode_field-1.given.1 in mode-read)) in mode-took)))).here ≡ takes c.verification_field-1.given.0.0 c.verification_field-1.given.0.1.0 = learn verification_says c.verification_at-verification_field.ensures c.verification_field-1.given.1 in verification-read))))).so (run-took _ _ plain 16 c.run_at.ensures.0 ((let by : Bytes (c.args.row.now) = typed (c.args.row.now) c.shared_slice_known-1.given in by)) c.pair_id-1.given.1))).so (run-took _ _ plain 48 c.run_at-2.ensures.0 ((let by : Bytes (c.args.row.now) = typed (c.args.row.now) c.shared_slice_known-1.given in by)) c.th-1.given.1))).so (run-took _ _ plain 16 c.run_at-3.ensures.0 ((let by : Bytes (c.args.row.now) = typed (c.args.row.now) c.shared_slice_known-1.given in by)) c.nonce_b-1.given.1))).here) (read_at (sized (group card) CARD_END) (c.args.row.now) ((field-yes ((field-yes ((field-yes ((field-yes ((field-yes ((field-yes (start).so ((let role-took : Took role (c.args.row.now) (c.args.at) c.role_field-1.given.0.0 c.role_field-1.given.0.1.0 = took _ _ role role-lawful ((let by : Bytes (c.args.row.now) = typed (c.args.row.now) c.shared_slice_known-1.given in by)) ((let role-read : read_at role (c.args.row.now) (c.args.at) ≡ takes c.role_field-1.given.0.0 c.role_field-1.given.0.1.0 = learn role_says c.role_at-role_field.ensures c.role_field-1.given.1 in role-read)) in role-took)))).so ((let mode-took : Took mode (c.args.row.now) ((field-yes (start).so ((let role-took : Took role (c.args.row.now) (c.args.at) c.role_field-1.given.0.0 c.role_field-1.given.0.1.0 = took _ _ role role-lawful ((let by : Bytes (c.args.row.now) = typed (c.args.row.now) c.shared_slice_known-1.given in by)) ((let role-read : read_at role (c.args.row.now) (c.args.at) ≡ takes c.role_field-1.given.0.0 c.role_field-1.given.0.1.0 = learn role_says c.role_at-role_field.ensures c.role_field-1.given.1 in role-read)) in role-took)))).here tt c.mode_field-1.given.0.0 = took _ _ mode mode-lawful ((let by : Bytes (c.args.row.now) = typed (c.args.row.now) c.shared_slice_known-1.given in by)) ((let mode-read : read_at mode (c.args.row.now) ((field-yes (start).so ((let role-took : Took role (c.args.row.now) (c.args.at) c.role_field-1.given.0.0 c.role_field-1.given.0.1.0 = took _ _ role role-lawful ((let by : Bytes (c.args.row.now) = typed (c.args.row.now) c.shared_slice_known-1.given in by)) ((let role-read : read_at role (c.args.row.now) (c.args.at) ≡ takes c.role_field-1.given.0.0 c.role_field-1.given.0.1.0 = learn role_says c.role_at-role_field.ensures c.role_field-1.given.1 in role-read)) in role-took)))).here ≡ takes tt c.mode_field-1.given.0.0 = learn mode_says c.mode_at-mode_field.ensures c.mode_field-1.given.1 in mode-read)) in mode-took)))).so (took _ _ verification verification-lawful ((let by : Bytes (c.args.row.now) = typed (c.args.row.now) c.shared_slice_known-1.given in by)) ((let verification-read : read_at verification (c.args.row.now) ((field-yes ((field-yes (start).so ((let role-took : Took role (c.args.row.now) (c.args.at) c.role_field-1.given.0.0 c.role_field-1.given.0.1.0 = took _ _ role role-lawful ((let by : Bytes (c.args.row.now) = typed (c.args.row.now) c.shared_slice_known-1.given in by)) ((let role-read : read_at role (c.args.row.now) (c.args.at) ≡ takes c.role_field-1.given.0.0 c.role_field-1.given.0.1.0 = learn role_says c.role_at-role_field.ensures c.role_field-1.given.1 in role-read)) in role-took)))).so ((let mode-took : Took mode (c.args.row.now) ((field-yes (start).so ((let role-took : Took role (c.args.row.now) (c.args.at) c.role_field-1.given.0.0 c.role_field-1.given.0.1.0 = took _ _ role role-lawful ((let by : Bytes (c.args.row.now) = typed (c.args.row.now) c.shared_slice_known-1.given in by)) ((let role-read : read_at role (c.args.row.now) (c.args.at) ≡ takes c.role_field-1.given.0.0 c.role_field-1.given.0.1.0 = learn role_says c.role_at-role_field.ensures c.role_field-1.given.1 in role-read)) in role-took)))).here tt c.mode_field-1.given.0.0 = took _ _ mode mode-lawful ((let by : Bytes (c.args.row.now) = typed (c.args.row.now) c.shared_slice_known-1.given in by)) ((let mode-read : read_at mode (c.args.row.now) ((field-yes (start).so ((let role-took : Took role (c.args.row.now) (c.args.at) c.role_field-1.given.0.0 c.role_field-1.given.0.1.0 = took _ _ role role-lawful ((let by : Bytes (c.args.row.now) = typed (c.args.row.now) c.shared_slice_known-1.given in by)) ((let role-read : read_at role (c.args.row.now) (c.args.at) ≡ takes c.role_field-1.given.0.0 c.role_field-1.given.0.1.0 = learn role_says c.role_at-role_field.ensures c.role_field-1.given.1 in role-read)) in role-took)))).here ≡ takes tt c.mode_field-1.given.0.0 = learn mode_says c.mode_at-mode_field.ensures c.mode_field-1.given.1 in mode-read)) in mode-took)))).here ≡ takes c.verification_field-1.given.0.0 c.verification_field-1.given.0.1.0 = learn verification_says c.verification_at-verification_field.ensures c.verification_field-1.given.1 in verification-read))))).so (run-took _ _ plain 16 c.run_at.ensures.0 ((let by : Bytes (c.args.row.now) = typed (c.args.row.now) c.shared_slice_known-1.given in by)) c.pair_id-1.given.1))).so (run-took _ _ plain 48 c.run_at-2.ensures.0 ((let by : Bytes (c.args.row.now) = typed (c.args.row.now) c.shared_slice_known-1.given in by)) c.th-1.given.1))).so (run-took _ _ plain 16 c.run_at-3.ensures.0 ((let by : Bytes (c.args.row.now) = typed (c.args.row.now) c.shared_slice_known-1.given in by)) c.nonce_b-1.given.1))).here) c.card_field-1.given.0.0 c.card_field-1.given.0.1.0 = located-at (card_at _) _ (learn card_says c.card_at-card_field.ensures c.card_field-1.given.1) in card-read)).value;
+      role = c.in-Value.role;
+      verification = c.in-Value-verification_field.verification;
+      pair_id = take 16 (drop c.in-Value-run_at.pair_id c.args.row.now);
+      th = take 48 (drop c.in-Value-run_at-2.th c.args.row.now);
+      nonce_b = take 16 (drop c.in-Value-run_at-3.nonce_b c.args.row.now);
+      card = card-read.value;
     } in
-    (next} all inside is = ap (λ (place : PairedAt). Value place next) is ∙ sym (ap (paired_found (c.args.at)) (takes_at (c.args.row.now) (c.args.at) (group paired) all inside))) (done-yes ((field-yes ((field-yes ((field-yes ((field-yes ((field-yes ((field-yes ((field-yes (start).so ((let role-took : Took role (c.args.row.now) (c.args.at) c.role_field-1.given.0.0 c.role_field-1.given.0.1.0 = took _ _ role role-lawful ((let by : Bytes (c.args.row.now) = typed (c.args.row.now) c.shared_slice_known-1.given in by)) ((let role-read : read_at role (c.args.row.now) (c.args.at) ≡ takes c.role_field-1.given.0.0 c.role_field-1.given.0.1.0 = learn role_says c.role_at-role_field.ensures c.role_field-1.given.1 in role-read)) in role-took)))).so ((let mode-took : Took mode (c.args.row.now) ((field-yes (start).so ((let role-took : Took role (c.args.row.now) (c.args.at) c.role_field-1.given.0.0 c.role_field-1.given.0.1.0 = took _ _ role role-lawful ((let by : Bytes (c.args.row.now) = typed (c.args.row.now) c.shared_slice_known-1.given in by)) ((let role-read : read_at role (c.args.row.now) (c.args.at) ≡ takes c.role_field-1.given.0.0 c.role_field-1.given.0.1.0 = learn role_says c.role_at-role_field.ensures c.role_field-1.given.1 in role-read)) in role-took)))).here tt c.mode_field-1.given.0.0 = took _ _ mode mode-lawful ((let by : Bytes (c.args.row.now) = typed (c.args.row.now) c.shared_slice_known-1.given in by)) ((let mode-read : read_at mode (c.args.row.now) ((field-yes (start).so ((let role-took : Took role (c.args.row.now) (c.args.at) c.role_field-1.given.0.0 c.role_field-1.given.0.1.0 = took _ _ role role-lawful ((let by : Bytes (c.args.row.now) = typed (c.args.row.now) c.shared_slice_known-1.given in by)) ((let role-read : read_at role (c.args.row.now) (c.args.at) ≡ takes c.role_field-1.given.0.0 c.role_field-1.given.0.1.0 = learn role_says c.role_at-role_field.ensures c.role_field-1.given.1 in role-read)) in role-took)))).here ≡ takes tt c.mode_field-1.given.0.0 = learn mode_says c.mode_at-mode_field.ensures c.mode_field-1.given.1 in mode-read)) in mode-took)))).so (took _ _ verification verification-lawful ((let by : Bytes (c.args.row.now) = typed (c.args.row.now) c.shared_slice_known-1.given in by)) ((let verification-read : read_at verification (c.args.row.now) ((field-yes ((field-yes (start).so ((let role-took : Took role (c.args.row.now) (c.args.at) c.role_field-1.given.0.0 c.role_field-1.given.0.1.0 = took _ _ role role-lawful ((let by : Bytes (c.args.row.now) = typed (c.args.row.now) c.shared_slice_known-1.given in by)) ((let role-read : read_at role (c.args.row.now) (c.args.at) ≡ takes c.role_field-1.given.0.0 c.role_field-1.given.0.1.0 = learn role_says c.role_at-role_field.ensures c.role_field-1.given.1 in role-read)) in role-took)))).so ((let mode-took : Took mode (c.args.row.now) ((field-yes (start).so ((let role-took : Took role (c.args.row.now) (c.args.at) c.role_field-1.given.0.0 c.role_field-1.given.0.1.0 = took _ _ role role-lawful ((let by : Bytes (c.args.row.now) = typed (c.args.row.now) c.shared_slice_known-1.given in by)) ((let role-read : read_at role (c.args.row.now) (c.args.at) ≡ takes c.role_field-1.given.0.0 c.role_field-1.given.0.1.0 = learn role_says c.role_at-role_field.ensures c.role_field-1.given.1 in role-read)) in role-took)))).here tt c.mode_field-1.given.0.0 = took _ _ mode mode-lawful ((let by : Bytes (c.args.row.now) = typed (c.args.row.now) c.shared_slice_known-1.given in by)) ((let mode-read : read_at mode (c.args.row.now) ((field-yes (start).so ((let role-took : Took role (c.args.row.now) (c.args.at) c.role_field-1.given.0.0 c.role_field-1.given.0.1.0 = took _ _ role role-lawful ((let by : Bytes (c.args.row.now) = typed (c.args.row.now) c.shared_slice_known-1.given in by)) ((let role-read : read_at role (c.args.row.now) (c.args.at) ≡ takes c.role_field-1.given.0.0 c.role_field-1.given.0.1.0 = learn role_says c.role_at-role_field.ensures c.role_field-1.given.1 in role-read)) in role-took)))).here ≡ takes tt c.mode_field-1.given.0.0 = learn mode_says c.mode_at-mode_field.ensures c.mode_field-1.given.1 in mode-read)) in mode-took)))).here ≡ takes c.verification_field-1.given.0.0 c.verification_field-1.given.0.1.0 = learn verification_says c.verification_at-verification_field.ensures c.verification_field-1.given.1 in verification-read))))).so (run-took _ _ plain 16 c.run_at.ensures.0 ((let by : Bytes (c.args.row.now) = typed (c.args.row.now) c.shared_slice_known-1.given in by)) c.pair_id-1.given.1))).so (run-took _ _ plain 48 c.run_at-2.ensures.0 ((let by : Bytes (c.args.row.now) = typed (c.args.row.now) c.shared_slice_known-1.given in by)) c.th-1.given.1))).so (run-took _ _ plain 16 c.run_at-3.ensures.0 ((let by : Bytes (c.args.row.now) = typed (c.args.row.now) c.shared_slice_known-1.given in by)) c.nonce_b-1.given.1))).so ((let card-took : Took (sized (group card) CARD_END) (c.args.row.now) ((field-yes ((field-yes ((field-yes ((field-yes ((field-yes ((field-yes (start).so ((let role-took : Took role (c.args.row.now) (c.args.at) c.role_field-1.given.0.0 c.role_field-1.given.0.1.0 = took _ _ role role-lawful ((let by : Bytes (c.args.row.now) = typed (c.args.row.now) c.shared_slice_known-1.given in by)) ((let role-read : read_at role (c.args.row.now) (c.args.at) ≡ takes c.role_field-1.given.0.0 c.role_field-1.given.0.1.0 = learn role_says c.role_at-role_field.ensures c.role_field-1.given.1 in role-read)) in role-took)))).so ((let mode-took : Took mode (c.args.row.now) ((field-yes (start).so ((let role-took : Took role (c.args.row.now) (c.args.at) c.role_field-1.given.0.0 c.role_field-1.given.0.1.0 = took _ _ role role-lawful ((let by : Bytes (c.args.row.now) = typed (c.args.row.now) c.shared_slice_known-1.given in by)) ((let role-read : read_at role (c.args.row.now) (c.args.at) ≡ takes c.role_field-1.given.0.0 c.role_field-1.given.0.1.0 = learn role_says c.role_at-role_field.ensures c.role_field-1.given.1 in role-read)) in role-took)))).here tt c.mode_field-1.given.0.0 = took _ _ mode mode-lawful ((let by : Bytes (c.args.row.now) = typed (c.args.row.now) c.shared_slice_known-1.given in by)) ((let mode-read : read_at mode (c.args.row.now) ((field-yes (start).so ((let role-took : Took role (c.args.row.now) (c.args.at) c.role_field-1.given.0.0 c.role_field-1.given.0.1.0 = took _ _ role role-lawful ((let by : Bytes (c.args.row.now) = typed (c.args.row.now) c.shared_slice_known-1.given in by)) ((let role-read : read_at role (c.args.row.now) (c.args.at) ≡ takes c.role_field-1.given.0.0 c.role_field-1.given.0.1.0 = learn role_says c.role_at-role_field.ensures c.role_field-1.given.1 in role-read)) in role-took)))).here ≡ takes tt c.mode_field-1.given.0.0 = learn mode_says c.mode_at-mode_field.ensures c.mode_field-1.given.1 in mode-read)) in mode-took)))).so (took _ _ verification verification-lawful ((let by : Bytes (c.args.row.now) = typed (c.args.row.now) c.shared_slice_known-1.given in by)) ((let verification-read : read_at verification (c.args.row.now) ((field-yes ((field-yes (start).so ((let role-took : Took role (c.args.row.now) (c.args.at) c.role_field-1.given.0.0 c.role_field-1.given.0.1.0 = took _ _ role role-lawful ((let by : Bytes (c.args.row.now) = typed (c.args.row.now) c.shared_slice_known-1.given in by)) ((let role-read : read_at role (c.args.row.now) (c.args.at) ≡ takes c.role_field-1.given.0.0 c.role_field-1.given.0.1.0 = learn role_says c.role_at-role_field.ensures c.role_field-1.given.1 in role-read)) in role-took)))).so ((let mode-took : Took mode (c.args.row.now) ((field-yes (start).so ((let role-took : Took role (c.args.row.now) (c.args.at) c.role_field-1.given.0.0 c.role_field-1.given.0.1.0 = took _ _ role role-lawful ((let by : Bytes (c.args.row.now) = typed (c.args.row.now) c.shared_slice_known-1.given in by)) ((let role-read : read_at role (c.args.row.now) (c.args.at) ≡ takes c.role_field-1.given.0.0 c.role_field-1.given.0.1.0 = learn role_says c.role_at-role_field.ensures c.role_field-1.given.1 in role-read)) in role-took)))).here tt c.mode_field-1.given.0.0 = took _ _ mode mode-lawful ((let by : Bytes (c.args.row.now) = typed (c.args.row.now) c.shared_slice_known-1.given in by)) ((let mode-read : read_at mode (c.args.row.now) ((field-yes (start).so ((let role-took : Took role (c.args.row.now) (c.args.at) c.role_field-1.given.0.0 c.role_field-1.given.0.1.0 = took _ _ role role-lawful ((let by : Bytes (c.args.row.now) = typed (c.args.row.now) c.shared_slice_known-1.given in by)) ((let role-read : read_at role (c.args.row.now) (c.args.at) ≡ takes c.role_field-1.given.0.0 c.role_field-1.given.0.1.0 = learn role_says c.role_at-role_field.ensures c.role_field-1.given.1 in role-read)) in role-took)))).here ≡ takes tt c.mode_field-1.given.0.0 = learn mode_says c.mode_at-mode_field.ensures c.mode_field-1.given.1 in mode-read)) in mode-took)))).here ≡ takes c.verification_field-1.given.0.0 c.verification_field-1.given.0.1.0 = learn verification_says c.verification_at-verification_field.ensures c.verification_field-1.given.1 in verification-read))))).so (run-took _ _ plain 16 c.run_at.ensures.0 ((let by : Bytes (c.args.row.now) = typed (c.args.row.now) c.shared_slice_known-1.given in by)) c.pair_id-1.given.1))).so (run-took _ _ plain 48 c.run_at-2.ensures.0 ((let by : Bytes (c.args.row.now) = typed (c.args.row.now) c.shared_slice_known-1.given in by)) c.th-1.given.1))).so (run-took _ _ plain 16 c.run_at-3.ensures.0 ((let by : Bytes (c.args.row.now) = typed (c.args.row.now) c.shared_slice_known-1.given in by)) c.nonce_b-1.given.1))).here ((let card-read : Located (card_at ((field-yes ((field-yes ((field-yes ((field-yes ((field-yes ((field-yes (start).so ((let role-took : Took role (c.args.row.now) (c.args.at) c.role_field-1.given.0.0 c.role_field-1.given.0.1.0 = took _ _ role role-lawful ((let by : Bytes (c.args.row.now) = typed (c.args.row.now) c.shared_slice_known-1.given in by)) ((let role-read : read_at role (c.args.row.now) (c.args.at) ≡ takes c.role_field-1.given.0.0 c.role_field-1.given.0.1.0 = learn role_says c.role_at-role_field.ensures c.role_field-1.given.1 in role-read)) in role-took)))).so ((let mode-took : Took mode (c.args.row.now) ((field-yes (start).so ((let role-took : Took role (c.args.row.now) (c.args.at) c.role_field-1.given.0.0 c.role_field-1.given.0.1.0 = took _ _ role role-lawful ((let by : Bytes (c.args.row.now) = typed (c.args.row.now) c.shared_slice_known-1.given in by)) ((let role-read : read_at role (c.args.row.now) (c.args.at) ≡ takes c.role_field-1.given.0.0 c.role_field-1.given.0.1.0 = learn role_says c.role_at-role_field.ensures c.role_field-1.given.1 in role-read)) in role-took)))).here tt c.mode_field-1.given.0.0 = took _ _ mode mode-lawful ((let by : Bytes (c.args.row.now) = typed (c.args.row.now) c.shared_slice_known-1.given in by)) ((let mode-read : read_at mode (c.args.row.now) ((field-yes (start).so ((let role-took : Took role (c.args.row.now) (c.args.at) c.role_field-1.given.0.0 c.role_field-1.given.0.1.0 = took _ _ role role-lawful ((let by : Bytes (c.args.row.now) = typed (c.args.row.now) c.shared_slice_known-1.given in by)) ((let role-read : read_at role (c.args.row.now) (c.args.at) ≡ takes c.role_field-1.given.0.0 c.role_field-1.given.0.1.0 = learn role_says c.role_at-role_field.ensures c.role_field-1.given.1 in role-read)) in role-took)))).here ≡ takes tt c.mode_field-1.given.0.0 = learn mode_says c.mode_at-mode_field.ensures c.mode_field-1.given.1 in mode-read)) in mode-took)))).so (took _ _ verification verification-lawful ((let by : Bytes (c.args.row.now) = typed (c.args.row.now) c.shared_slice_known-1.given in by)) ((let verification-read : read_at verification (c.args.row.now) ((field-yes ((field-yes (start).so ((let role-took : Took role (c.args.row.now) (c.args.at) c.role_field-1.given.0.0 c.role_field-1.given.0.1.0 = took _ _ role role-lawful ((let by : Bytes (c.args.row.now) = typed (c.args.row.now) c.shared_slice_known-1.given in by)) ((let role-read : read_at role (c.args.row.now) (c.args.at) ≡ takes c.role_field-1.given.0.0 c.role_field-1.given.0.1.0 = learn role_says c.role_at-role_field.ensures c.role_field-1.given.1 in role-read)) in role-took)))).so ((let mode-took : Took mode (c.args.row.now) ((field-yes (start).so ((let role-took : Took role (c.args.row.now) (c.args.at) c.role_field-1.given.0.0 c.role_field-1.given.0.1.0 = took _ _ role role-lawful ((let by : Bytes (c.args.row.now) = typed (c.args.row.now) c.shared_slice_known-1.given in by)) ((let role-read : read_at role (c.args.row.now) (c.args.at) ≡ takes c.role_field-1.given.0.0 c.role_field-1.given.0.1.0 = learn role_says c.role_at-role_field.ensures c.role_field-1.given.1 in role-read)) in role-took)))).here tt c.mode_field-1.given.0.0 = took _ _ mode mode-lawful ((let by : Bytes (c.args.row.now) = typed (c.args.row.now) c.shared_slice_known-1.given in by)) ((let mode-read : read_at mode (c.args.row.now) ((field-yes (start).so ((let role-took : Took role (c.args.row.now) (c.args.at) c.role_field-1.given.0.0 c.role_field-1.given.0.1.0 = took _ _ role role-lawful ((let by : Bytes (c.args.row.now) = typed (c.args.row.now) c.shared_slice_known-1.given in by)) ((let role-read : read_at role (c.args.row.now) (c.args.at) ≡ takes c.role_field-1.given.0.0 c.role_field-1.given.0.1.0 = learn role_says c.role_at-role_field.ensures c.role_field-1.given.1 in role-read)) in role-took)))).here ≡ takes tt c.mode_field-1.given.0.0 = learn mode_says c.mode_at-mode_field.ensures c.mode_field-1.given.1 in mode-read)) in mode-took)))).here ≡ takes c.verification_field-1.given.0.0 c.verification_field-1.given.0.1.0 = learn verification_says c.verification_at-verification_field.ensures c.verification_field-1.given.1 in verification-read))))).so (run-took _ _ plain 16 c.run_at.ensures.0 ((let by : Bytes (c.args.row.now) = typed (c.args.row.now) c.shared_slice_known-1.given in by)) c.pair_id-1.given.1))).so (run-took _ _ plain 48 c.run_at-2.ensures.0 ((let by : Bytes (c.args.row.now) = typed (c.args.row.now) c.shared_slice_known-1.given in by)) c.th-1.given.1))).so (run-took _ _ plain 16 c.run_at-3.ensures.0 ((let by : Bytes (c.args.row.now) = typed (c.args.row.now) c.shared_slice_known-1.given in by)) c.nonce_b-1.given.1))).here) (read_at (sized (group card) CARD_END) (c.args.row.now) ((field-yes ((field-yes ((field-yes ((field-yes ((field-yes ((field-yes (start).so ((let role-took : Took role (c.args.row.now) (c.args.at) c.role_field-1.given.0.0 c.role_field-1.given.0.1.0 = took _ _ role role-lawful ((let by : Bytes (c.args.row.now) = typed (c.args.row.now) c.shared_slice_known-1.given in by)) ((let role-read : read_at role (c.args.row.now) (c.args.at) ≡ takes c.role_field-1.given.0.0 c.role_field-1.given.0.1.0 = learn role_says c.role_at-role_field.ensures c.role_field-1.given.1 in role-read)) in role-took)))).so ((let mode-took : Took mode (c.args.row.now) ((field-yes (start).so ((let role-took : Took role (c.args.row.now) (c.args.at) c.role_field-1.given.0.0 c.role_field-1.given.0.1.0 = took _ _ role role-lawful ((let by : Bytes (c.args.row.now) = typed (c.args.row.now) c.shared_slice_known-1.given in by)) ((let role-read : read_at role (c.args.row.now) (c.args.at) ≡ takes c.role_field-1.given.0.0 c.role_field-1.given.0.1.0 = learn role_says c.role_at-role_field.ensures c.role_field-1.given.1 in role-read)) in role-took)))).here tt c.mode_field-1.given.0.0 = took _ _ mode mode-lawful ((let by : Bytes (c.args.row.now) = typed (c.args.row.now) c.shared_slice_known-1.given in by)) ((let mode-read : read_at mode (c.args.row.now) ((field-yes (start).so ((let role-took : Took role (c.args.row.now) (c.args.at) c.role_field-1.given.0.0 c.role_field-1.given.0.1.0 = took _ _ role role-lawful ((let by : Bytes (c.args.row.now) = typed (c.args.row.now) c.shared_slice_known-1.given in by)) ((let role-read : read_at role (c.args.row.now) (c.args.at) ≡ takes c.role_field-1.given.0.0 c.role_field-1.given.0.1.0 = learn role_says c.role_at-role_field.ensures c.role_field-1.given.1 in role-read)) in role-took)))).here ≡ takes tt c.mode_field-1.given.0.0 = learn mode_says c.mode_at-mode_field.ensures c.mode_field-1.given.1 in mode-read)) in mode-took)))).so (took _ _ verification verification-lawful ((let by : Bytes (c.args.row.now) = typed (c.args.row.now) c.shared_slice_known-1.given in by)) ((let verification-read : read_at verification (c.args.row.now) ((field-yes ((field-yes (start).so ((let role-took : Took role (c.args.row.now) (c.args.at) c.role_field-1.given.0.0 c.role_field-1.given.0.1.0 = took _ _ role role-lawful ((let by : Bytes (c.args.row.now) = typed (c.args.row.now) c.shared_slice_known-1.given in by)) ((let role-read : read_at role (c.args.row.now) (c.args.at) ≡ takes c.role_field-1.given.0.0 c.role_field-1.given.0.1.0 = learn role_says c.role_at-role_field.ensures c.role_field-1.given.1 in role-read)) in role-took)))).so ((let mode-took : Took mode (c.args.row.now) ((field-yes (start).so ((let role-took : Took role (c.args.row.now) (c.args.at) c.role_field-1.given.0.0 c.role_field-1.given.0.1.0 = took _ _ role role-lawful ((let by : Bytes (c.args.row.now) = typed (c.args.row.now) c.shared_slice_known-1.given in by)) ((let role-read : read_at role (c.args.row.now) (c.args.at) ≡ takes c.role_field-1.given.0.0 c.role_field-1.given.0.1.0 = learn role_says c.role_at-role_field.ensures c.role_field-1.given.1 in role-read)) in role-took)))).here tt c.mode_field-1.given.0.0 = took _ _ mode mode-lawful ((let by : Bytes (c.args.row.now) = typed (c.args.row.now) c.shared_slice_known-1.given in by)) ((let mode-read : read_at mode (c.args.row.now) ((field-yes (start).so ((let role-took : Took role (c.args.row.now) (c.args.at) c.role_field-1.given.0.0 c.role_field-1.given.0.1.0 = took _ _ role role-lawful ((let by : Bytes (c.args.row.now) = typed (c.args.row.now) c.shared_slice_known-1.given in by)) ((let role-read : read_at role (c.args.row.now) (c.args.at) ≡ takes c.role_field-1.given.0.0 c.role_field-1.given.0.1.0 = learn role_says c.role_at-role_field.ensures c.role_field-1.given.1 in role-read)) in role-took)))).here ≡ takes tt c.mode_field-1.given.0.0 = learn mode_says c.mode_at-mode_field.ensures c.mode_field-1.given.1 in mode-read)) in mode-took)))).here ≡ takes c.verification_field-1.given.0.0 c.verification_field-1.given.0.1.0 = learn verification_says c.verification_at-verification_field.ensures c.verification_field-1.given.1 in verification-read))))).so (run-took _ _ plain 16 c.run_at.ensures.0 ((let by : Bytes (c.args.row.now) = typed (c.args.row.now) c.shared_slice_known-1.given in by)) c.pair_id-1.given.1))).so (run-took _ _ plain 48 c.run_at-2.ensures.0 ((let by : Bytes (c.args.row.now) = typed (c.args.row.now) c.shared_slice_known-1.given in by)) c.th-1.given.1))).so (run-took _ _ plain 16 c.run_at-3.ensures.0 ((let by : Bytes (c.args.row.now) = typed (c.args.row.now) c.shared_slice_known-1.given in by)) c.nonce_b-1.given.1))).here) c.card_field-1.given.0.0 c.card_field-1.given.0.1.0 = located-at (card_at _) _ (learn card_says c.card_at-card_field.ensures c.card_field-1.given.1) in card-read)).value c.card_field-1.given.0.1.0 = took _ _ (sized (group card) CARD_END) (sized-lawful (group card) card-lawful CARD_END) ((let by : Bytes (c.args.row.now) = typed (c.args.row.now) c.shared_slice_known-1.given in by)) ((let card-read : Located (card_at ((field-yes ((field-yes ((field-yes ((field-yes ((field-yes ((field-yes (start).so ((let role-took : Took role (c.args.row.now) (c.args.at) c.role_field-1.given.0.0 c.role_field-1.given.0.1.0 = took _ _ role role-lawful ((let by : Bytes (c.args.row.now) = typed (c.args.row.now) c.shared_slice_known-1.given in by)) ((let role-read : read_at role (c.args.row.now) (c.args.at) ≡ takes c.role_field-1.given.0.0 c.role_field-1.given.0.1.0 = learn role_says c.role_at-role_field.ensures c.role_field-1.given.1 in role-read)) in role-took)))).so ((let mode-took : Took mode (c.args.row.now) ((field-yes (start).so ((let role-took : Took role (c.args.row.now) (c.args.at) c.role_field-1.given.0.0 c.role_field-1.given.0.1.0 = took _ _ role role-lawful ((let by : Bytes (c.args.row.now) = typed (c.args.row.now) c.shared_slice_known-1.given in by)) ((let role-read : read_at role (c.args.row.now) (c.args.at) ≡ takes c.role_field-1.given.0.0 c.role_field-1.given.0.1.0 = learn role_says c.role_at-role_field.ensures c.role_field-1.given.1 in role-read)) in role-took)))).here tt c.mode_field-1.given.0.0 = took _ _ mode mode-lawful ((let by : Bytes (c.args.row.now) = typed (c.args.row.now) c.shared_slice_known-1.given in by)) ((let mode-read : read_at mode (c.args.row.now) ((field-yes (start).so ((let role-took : Took role (c.args.row.now) (c.args.at) c.role_field-1.given.0.0 c.role_field-1.given.0.1.0 = took _ _ role role-lawful ((let by : Bytes (c.args.row.now) = typed (c.args.row.now) c.shared_slice_known-1.given in by)) ((let role-read : read_at role (c.args.row.now) (c.args.at) ≡ takes c.role_field-1.given.0.0 c.role_field-1.given.0.1.0 = learn role_says c.role_at-role_field.ensures c.role_field-1.given.1 in role-read)) in role-took)))).here ≡ takes tt c.mode_field-1.given.0.0 = learn mode_says c.mode_at-mode_field.ensures c.mode_field-1.given.1 in mode-read)) in mode-took)))).so (took _ _ verification verification-lawful ((let by : Bytes (c.args.row.now) = typed (c.args.row.now) c.shared_slice_known-1.given in by)) ((let verification-read : read_at verification (c.args.row.now) ((field-yes ((field-yes (start).so ((let role-took : Took role (c.args.row.now) (c.args.at) c.role_field-1.given.0.0 c.role_field-1.given.0.1.0 = took _ _ role role-lawful ((let by : Bytes (c.args.row.now) = typed (c.args.row.now) c.shared_slice_known-1.given in by)) ((let role-read : read_at role (c.args.row.now) (c.args.at) ≡ takes c.role_field-1.given.0.0 c.role_field-1.given.0.1.0 = learn role_says c.role_at-role_field.ensures c.role_field-1.given.1 in role-read)) in role-took)))).so ((let mode-took : Took mode (c.args.row.now) ((field-yes (start).so ((let role-took : Took role (c.args.row.now) (c.args.at) c.role_field-1.given.0.0 c.role_field-1.given.0.1.0 = took _ _ role role-lawful ((let by : Bytes (c.args.row.now) = typed (c.args.row.now) c.shared_slice_known-1.given in by)) ((let role-read : read_at role (c.args.row.now) (c.args.at) ≡ takes c.role_field-1.given.0.0 c.role_field-1.given.0.1.0 = learn role_says c.role_at-role_field.ensures c.role_field-1.given.1 in role-read)) in role-took)))).here tt c.mode_field-1.given.0.0 = took _ _ mode mode-lawful ((let by : Bytes (c.args.row.now) = typed (c.args.row.now) c.shared_slice_known-1.given in by)) ((let mode-read : read_at mode (c.args.row.now) ((field-yes (start).so ((let role-took : Took role (c.args.row.now) (c.args.at) c.role_field-1.given.0.0 c.role_field-1.given.0.1.0 = took _ _ role role-lawful ((let by : Bytes (c.args.row.now) = typed (c.args.row.now) c.shared_slice_known-1.given in by)) ((let role-read : read_at role (c.args.row.now) (c.args.at) ≡ takes c.role_field-1.given.0.0 c.role_field-1.given.0.1.0 = learn role_says c.role_at-role_field.ensures c.role_field-1.given.1 in role-read)) in role-took)))).here ≡ takes tt c.mode_field-1.given.0.0 = learn mode_says c.mode_at-mode_field.ensures c.mode_field-1.given.1 in mode-read)) in mode-took)))).here ≡ takes c.verification_field-1.given.0.0 c.verification_field-1.given.0.1.0 = learn verification_says c.verification_at-verification_field.ensures c.verification_field-1.given.1 in verification-read))))).so (run-took _ _ plain 16 c.run_at.ensures.0 ((let by : Bytes (c.args.row.now) = typed (c.args.row.now) c.shared_slice_known-1.given in by)) c.pair_id-1.given.1))).so (run-took _ _ plain 48 c.run_at-2.ensures.0 ((let by : Bytes (c.args.row.now) = typed (c.args.row.now) c.shared_slice_known-1.given in by)) c.th-1.given.1))).so (run-took _ _ plain 16 c.run_at-3.ensures.0 ((let by : Bytes (c.args.row.now) = typed (c.args.row.now) c.shared_slice_known-1.given in by)) c.nonce_b-1.given.1))).here) (read_at (sized (group card) CARD_END) (c.args.row.now) ((field-yes ((field-yes ((field-yes ((field-yes ((field-yes ((field-yes (start).so ((let role-took : Took role (c.args.row.now) (c.args.at) c.role_field-1.given.0.0 c.role_field-1.given.0.1.0 = took _ _ role role-lawful ((let by : Bytes (c.args.row.now) = typed (c.args.row.now) c.shared_slice_known-1.given in by)) ((let role-read : read_at role (c.args.row.now) (c.args.at) ≡ takes c.role_field-1.given.0.0 c.role_field-1.given.0.1.0 = learn role_says c.role_at-role_field.ensures c.role_field-1.given.1 in role-read)) in role-took)))).so ((let mode-took : Took mode (c.args.row.now) ((field-yes (start).so ((let role-took : Took role (c.args.row.now) (c.args.at) c.role_field-1.given.0.0 c.role_field-1.given.0.1.0 = took _ _ role role-lawful ((let by : Bytes (c.args.row.now) = typed (c.args.row.now) c.shared_slice_known-1.given in by)) ((let role-read : read_at role (c.args.row.now) (c.args.at) ≡ takes c.role_field-1.given.0.0 c.role_field-1.given.0.1.0 = learn role_says c.role_at-role_field.ensures c.role_field-1.given.1 in role-read)) in role-took)))).here tt c.mode_field-1.given.0.0 = took _ _ mode mode-lawful ((let by : Bytes (c.args.row.now) = typed (c.args.row.now) c.shared_slice_known-1.given in by)) ((let mode-read : read_at mode (c.args.row.now) ((field-yes (start).so ((let role-took : Took role (c.args.row.now) (c.args.at) c.role_field-1.given.0.0 c.role_field-1.given.0.1.0 = took _ _ role role-lawful ((let by : Bytes (c.args.row.now) = typed (c.args.row.now) c.shared_slice_known-1.given in by)) ((let role-read : read_at role (c.args.row.now) (c.args.at) ≡ takes c.role_field-1.given.0.0 c.role_field-1.given.0.1.0 = learn role_says c.role_at-role_field.ensures c.role_field-1.given.1 in role-read)) in role-took)))).here ≡ takes tt c.mode_field-1.given.0.0 = learn mode_says c.mode_at-mode_field.ensures c.mode_field-1.given.1 in mode-read)) in mode-took)))).so (took _ _ verification verification-lawful ((let by : Bytes (c.args.row.now) = typed (c.args.row.now) c.shared_slice_known-1.given in by)) ((let verification-read : read_at verification (c.args.row.now) ((field-yes ((field-yes (start).so ((let role-took : Took role (c.args.row.now) (c.args.at) c.role_field-1.given.0.0 c.role_field-1.given.0.1.0 = took _ _ role role-lawful ((let by : Bytes (c.args.row.now) = typed (c.args.row.now) c.shared_slice_known-1.given in by)) ((let role-read : read_at role (c.args.row.now) (c.args.at) ≡ takes c.role_field-1.given.0.0 c.role_field-1.given.0.1.0 = learn role_says c.role_at-role_field.ensures c.role_field-1.given.1 in role-read)) in role-took)))).so ((let mode-took : Took mode (c.args.row.now) ((field-yes (start).so ((let role-took : Took role (c.args.row.now) (c.args.at) c.role_field-1.given.0.0 c.role_field-1.given.0.1.0 = took _ _ role role-lawful ((let by : Bytes (c.args.row.now) = typed (c.args.row.now) c.shared_slice_known-1.given in by)) ((let role-read : read_at role (c.args.row.now) (c.args.at) ≡ takes c.role_field-1.given.0.0 c.role_field-1.given.0.1.0 = learn role_says c.role_at-role_field.ensures c.role_field-1.given.1 in role-read)) in role-took)))).here tt c.mode_field-1.given.0.0 = took _ _ mode mode-lawful ((let by : Bytes (c.args.row.now) = typed (c.args.row.now) c.shared_slice_known-1.given in by)) ((let mode-read : read_at mode (c.args.row.now) ((field-yes (start).so ((let role-took : Took role (c.args.row.now) (c.args.at) c.role_field-1.given.0.0 c.role_field-1.given.0.1.0 = took _ _ role role-lawful ((let by : Bytes (c.args.row.now) = typed (c.args.row.now) c.shared_slice_known-1.given in by)) ((let role-read : read_at role (c.args.row.now) (c.args.at) ≡ takes c.role_field-1.given.0.0 c.role_field-1.given.0.1.0 = learn role_says c.role_at-role_field.ensures c.role_field-1.given.1 in role-read)) in role-took)))).here ≡ takes tt c.mode_field-1.given.0.0 = learn mode_says c.mode_at-mode_field.ensures c.mode_field-1.given.1 in mode-read)) in mode-took)))).here ≡ takes c.verification_field-1.given.0.0 c.verification_field-1.given.0.1.0 = learn verification_says c.verification_at-verification_field.ensures c.verification_field-1.given.1 in verification-read))))).so (run-took _ _ plain 16 c.run_at.ensures.0 ((let by : Bytes (c.args.row.now) = typed (c.args.row.now) c.shared_slice_known-1.given in by)) c.pair_id-1.given.1))).so (run-took _ _ plain 48 c.run_at-2.ensures.0 ((let by : Bytes (c.args.row.now) = typed (c.args.row.now) c.shared_slice_known-1.given in by)) c.th-1.given.1))).so (run-took _ _ plain 16 c.run_at-3.ensures.0 ((let by : Bytes (c.args.row.now) = typed (c.args.row.now) c.shared_slice_known-1.given in by)) c.nonce_b-1.given.1))).here) c.card_field-1.given.0.0 c.card_field-1.given.0.1.0 = located-at (card_at _) _ (learn card_says c.card_at-card_field.ensures c.card_field-1.given.1) in card-read)).read in card-took)))).so) ((let card-took : Took (sized (group card) CARD_END) (c.args.row.now) ((field-yes ((field-yes ((field-yes ((field-yes ((field-yes ((field-yes (start).so ((let role-took : Took role (c.args.row.now) (c.args.at) c.role_field-1.given.0.0 c.role_field-1.given.0.1.0 = took _ _ role role-lawful ((let by : Bytes (c.args.row.now) = typed (c.args.row.now) c.shared_slice_known-1.given in by)) ((let role-read : read_at role (c.args.row.now) (c.args.at) ≡ takes c.role_field-1.given.0.0 c.role_field-1.given.0.1.0 = learn role_says c.role_at-role_field.ensures c.role_field-1.given.1 in role-read)) in role-took)))).so ((let mode-took : Took mode (c.args.row.now) ((field-yes (start).so ((let role-took : Took role (c.args.row.now) (c.args.at) c.role_field-1.given.0.0 c.role_field-1.given.0.1.0 = took _ _ role role-lawful ((let by : Bytes (c.args.row.now) = typed (c.args.row.now) c.shared_slice_known-1.given in by)) ((let role-read : read_at role (c.args.row.now) (c.args.at) ≡ takes c.role_field-1.given.0.0 c.role_field-1.given.0.1.0 = learn role_says c.role_at-role_field.ensures c.role_field-1.given.1 in role-read)) in role-took)))).here tt c.mode_field-1.given.0.0 = took _ _ mode mode-lawful ((let by : Bytes (c.args.row.now) = typed (c.args.row.now) c.shared_slice_known-1.given in by)) ((let mode-read : read_at mode (c.args.row.now) ((field-yes (start).so ((let role-took : Took role (c.args.row.now) (c.args.at) c.role_field-1.given.0.0 c.role_field-1.given.0.1.0 = took _ _ role role-lawful ((let by : Bytes (c.args.row.now) = typed (c.args.row.now) c.shared_slice_known-1.given in by)) ((let role-read : read_at role (c.args.row.now) (c.args.at) ≡ takes c.role_field-1.given.0.0 c.role_field-1.given.0.1.0 = learn role_says c.role_at-role_field.ensures c.role_field-1.given.1 in role-read)) in role-took)))).here ≡ takes tt c.mode_field-1.given.0.0 = learn mode_says c.mode_at-mode_field.ensures c.mode_field-1.given.1 in mode-read)) in mode-took)))).so (took _ _ verification verification-lawful ((let by : Bytes (c.args.row.now) = typed (c.args.row.now) c.shared_slice_known-1.given in by)) ((let verification-read : read_at verification (c.args.row.now) ((field-yes ((field-yes (start).so ((let role-took : Took role (c.args.row.now) (c.args.at) c.role_field-1.given.0.0 c.role_field-1.given.0.1.0 = took _ _ role role-lawful ((let by : Bytes (c.args.row.now) = typed (c.args.row.now) c.shared_slice_known-1.given in by)) ((let role-read : read_at role (c.args.row.now) (c.args.at) ≡ takes c.role_field-1.given.0.0 c.role_field-1.given.0.1.0 = learn role_says c.role_at-role_field.ensures c.role_field-1.given.1 in role-read)) in role-took)))).so ((let mode-took : Took mode (c.args.row.now) ((field-yes (start).so ((let role-took : Took role (c.args.row.now) (c.args.at) c.role_field-1.given.0.0 c.role_field-1.given.0.1.0 = took _ _ role role-lawful ((let by : Bytes (c.args.row.now) = typed (c.args.row.now) c.shared_slice_known-1.given in by)) ((let role-read : read_at role (c.args.row.now) (c.args.at) ≡ takes c.role_field-1.given.0.0 c.role_field-1.given.0.1.0 = learn role_says c.role_at-role_field.ensures c.role_field-1.given.1 in role-read)) in role-took)))).here tt c.mode_field-1.given.0.0 = took _ _ mode mode-lawful ((let by : Bytes (c.args.row.now) = typed (c.args.row.now) c.shared_slice_known-1.given in by)) ((let mode-read : read_at mode (c.args.row.now) ((field-yes (start).so ((let role-took : Took role (c.args.row.now) (c.args.at) c.role_field-1.given.0.0 c.role_field-1.given.0.1.0 = took _ _ role role-lawful ((let by : Bytes (c.args.row.now) = typed (c.args.row.now) c.shared_slice_known-1.given in by)) ((let role-read : read_at role (c.args.row.now) (c.args.at) ≡ takes c.role_field-1.given.0.0 c.role_field-1.given.0.1.0 = learn role_says c.role_at-role_field.ensures c.role_field-1.given.1 in role-read)) in role-took)))).here ≡ takes tt c.mode_field-1.given.0.0 = learn mode_says c.mode_at-mode_field.ensures c.mode_field-1.given.1 in mode-read)) in mode-took)))).here ≡ takes c.verification_field-1.given.0.0 c.verification_field-1.given.0.1.0 = learn verification_says c.verification_at-verification_field.ensures c.verification_field-1.given.1 in verification-read))))).so (run-took _ _ plain 16 c.run_at.ensures.0 ((let by : Bytes (c.args.row.now) = typed (c.args.row.now) c.shared_slice_known-1.given in by)) c.pair_id-1.given.1))).so (run-took _ _ plain 48 c.run_at-2.ensures.0 ((let by : Bytes (c.args.row.now) = typed (c.args.row.now) c.shared_slice_known-1.given in by)) c.th-1.given.1))).so (run-took _ _ plain 16 c.run_at-3.ensures.0 ((let by : Bytes (c.args.row.now) = typed (c.args.row.now) c.shared_slice_known-1.given in by)) c.nonce_b-1.given.1))).here ((let card-read : Located (card_at ((field-yes ((field-yes ((field-yes ((field-yes ((field-yes ((field-yes (start).so ((let role-took : Took role (c.args.row.now) (c.args.at) c.role_field-1.given.0.0 c.role_field-1.given.0.1.0 = took _ _ role role-lawful ((let by : Bytes (c.args.row.now) = typed (c.args.row.now) c.shared_slice_known-1.given in by)) ((let role-read : read_at role (c.args.row.now) (c.args.at) ≡ takes c.role_field-1.given.0.0 c.role_field-1.given.0.1.0 = learn role_says c.role_at-role_field.ensures c.role_field-1.given.1 in role-read)) in role-took)))).so ((let mode-took : Took mode (c.args.row.now) ((field-yes (start).so ((let role-took : Took role (c.args.row.now) (c.args.at) c.role_field-1.given.0.0 c.role_field-1.given.0.1.0 = took _ _ role role-lawful ((let by : Bytes (c.args.row.now) = typed (c.args.row.now) c.shared_slice_known-1.given in by)) ((let role-read : read_at role (c.args.row.now) (c.args.at) ≡ takes c.role_field-1.given.0.0 c.role_field-1.given.0.1.0 = learn role_says c.role_at-role_field.ensures c.role_field-1.given.1 in role-read)) in role-took)))).here tt c.mode_field-1.given.0.0 = took _ _ mode mode-lawful ((let by : Bytes (c.args.row.now) = typed (c.args.row.now) c.shared_slice_known-1.given in by)) ((let mode-read : read_at mode (c.args.row.now) ((field-yes (start).so ((let role-took : Took role (c.args.row.now) (c.args.at) c.role_field-1.given.0.0 c.role_field-1.given.0.1.0 = took _ _ role role-lawful ((let by : Bytes (c.args.row.now) = typed (c.args.row.now) c.shared_slice_known-1.given in by)) ((let role-read : read_at role (c.args.row.now) (c.args.at) ≡ takes c.role_field-1.given.0.0 c.role_field-1.given.0.1.0 = learn role_says c.role_at-role_field.ensures c.role_field-1.given.1 in role-read)) in role-took)))).here ≡ takes tt c.mode_field-1.given.0.0 = learn mode_says c.mode_at-mode_field.ensures c.mode_field-1.given.1 in mode-read)) in mode-took)))).so (took _ _ verification verification-lawful ((let by : Bytes (c.args.row.now) = typed (c.args.row.now) c.shared_slice_known-1.given in by)) ((let verification-read : read_at verification (c.args.row.now) ((field-yes ((field-yes (start).so ((let role-took : Took role (c.args.row.now) (c.args.at) c.role_field-1.given.0.0 c.role_field-1.given.0.1.0 = took _ _ role role-lawful ((let by : Bytes (c.args.row.now) = typed (c.args.row.now) c.shared_slice_known-1.given in by)) ((let role-read : read_at role (c.args.row.now) (c.args.at) ≡ takes c.role_field-1.given.0.0 c.role_field-1.given.0.1.0 = learn role_says c.role_at-role_field.ensures c.role_field-1.given.1 in role-read)) in role-took)))).so ((let mode-took : Took mode (c.args.row.now) ((field-yes (start).so ((let role-took : Took role (c.args.row.now) (c.args.at) c.role_field-1.given.0.0 c.role_field-1.given.0.1.0 = took _ _ role role-lawful ((let by : Bytes (c.args.row.now) = typed (c.args.row.now) c.shared_slice_known-1.given in by)) ((let role-read : read_at role (c.args.row.now) (c.args.at) ≡ takes c.role_field-1.given.0.0 c.role_field-1.given.0.1.0 = learn role_says c.role_at-role_field.ensures c.role_field-1.given.1 in role-read)) in role-took)))).here tt c.mode_field-1.given.0.0 = took _ _ mode mode-lawful ((let by : Bytes (c.args.row.now) = typed (c.args.row.now) c.shared_slice_known-1.given in by)) ((let mode-read : read_at mode (c.args.row.now) ((field-yes (start).so ((let role-took : Took role (c.args.row.now) (c.args.at) c.role_field-1.given.0.0 c.role_field-1.given.0.1.0 = took _ _ role role-lawful ((let by : Bytes (c.args.row.now) = typed (c.args.row.now) c.shared_slice_known-1.given in by)) ((let role-read : read_at role (c.args.row.now) (c.args.at) ≡ takes c.role_field-1.given.0.0 c.role_field-1.given.0.1.0 = learn role_says c.role_at-role_field.ensures c.role_field-1.given.1 in role-read)) in role-took)))).here ≡ takes tt c.mode_field-1.given.0.0 = learn mode_says c.mode_at-mode_field.ensures c.mode_field-1.given.1 in mode-read)) in mode-took)))).here ≡ takes c.verification_field-1.given.0.0 c.verification_field-1.given.0.1.0 = learn verification_says c.verification_at-verification_field.ensures c.verification_field-1.given.1 in verification-read))))).so (run-took _ _ plain 16 c.run_at.ensures.0 ((let by : Bytes (c.args.row.now) = typed (c.args.row.now) c.shared_slice_known-1.given in by)) c.pair_id-1.given.1))).so (run-took _ _ plain 48 c.run_at-2.ensures.0 ((let by : Bytes (c.args.row.now) = typed (c.args.row.now) c.shared_slice_known-1.given in by)) c.th-1.given.1))).so (run-took _ _ plain 16 c.run_at-3.ensures.0 ((let by : Bytes (c.args.row.now) = typed (c.args.row.now) c.shared_slice_known-1.given in by)) c.nonce_b-1.given.1))).here) (read_at (sized (group card) CARD_END) (c.args.row.now) ((field-yes ((field-yes ((field-yes ((field-yes ((field-yes ((field-yes (start).so ((let role-took : Took role (c.args.row.now) (c.args.at) c.role_field-1.given.0.0 c.role_field-1.given.0.1.0 = took _ _ role role-lawful ((let by : Bytes (c.args.row.now) = typed (c.args.row.now) c.shared_slice_known-1.given in by)) ((let role-read : read_at role (c.args.row.now) (c.args.at) ≡ takes c.role_field-1.given.0.0 c.role_field-1.given.0.1.0 = learn role_says c.role_at-role_field.ensures c.role_field-1.given.1 in role-read)) in role-took)))).so ((let mode-took : Took mode (c.args.row.now) ((field-yes (start).so ((let role-took : Took role (c.args.row.now) (c.args.at) c.role_field-1.given.0.0 c.role_field-1.given.0.1.0 = took _ _ role role-lawful ((let by : Bytes (c.args.row.now) = typed (c.args.row.now) c.shared_slice_known-1.given in by)) ((let role-read : read_at role (c.args.row.now) (c.args.at) ≡ takes c.role_field-1.given.0.0 c.role_field-1.given.0.1.0 = learn role_says c.role_at-role_field.ensures c.role_field-1.given.1 in role-read)) in role-took)))).here tt c.mode_field-1.given.0.0 = took _ _ mode mode-lawful ((let by : Bytes (c.args.row.now) = typed (c.args.row.now) c.shared_slice_known-1.given in by)) ((let mode-read : read_at mode (c.args.row.now) ((field-yes (start).so ((let role-took : Took role (c.args.row.now) (c.args.at) c.role_field-1.given.0.0 c.role_field-1.given.0.1.0 = took _ _ role role-lawful ((let by : Bytes (c.args.row.now) = typed (c.args.row.now) c.shared_slice_known-1.given in by)) ((let role-read : read_at role (c.args.row.now) (c.args.at) ≡ takes c.role_field-1.given.0.0 c.role_field-1.given.0.1.0 = learn role_says c.role_at-role_field.ensures c.role_field-1.given.1 in role-read)) in role-took)))).here ≡ takes tt c.mode_field-1.given.0.0 = learn mode_says c.mode_at-mode_field.ensures c.mode_field-1.given.1 in mode-read)) in mode-took)))).so (took _ _ verification verification-lawful ((let by : Bytes (c.args.row.now) = typed (c.args.row.now) c.shared_slice_known-1.given in by)) ((let verification-read : read_at verification (c.args.row.now) ((field-yes ((field-yes (start).so ((let role-took : Took role (c.args.row.now) (c.args.at) c.role_field-1.given.0.0 c.role_field-1.given.0.1.0 = took _ _ role role-lawful ((let by : Bytes (c.args.row.now) = typed (c.args.row.now) c.shared_slice_known-1.given in by)) ((let role-read : read_at role (c.args.row.now) (c.args.at) ≡ takes c.role_field-1.given.0.0 c.role_field-1.given.0.1.0 = learn role_says c.role_at-role_field.ensures c.role_field-1.given.1 in role-read)) in role-took)))).so ((let mode-took : Took mode (c.args.row.now) ((field-yes (start).so ((let role-took : Took role (c.args.row.now) (c.args.at) c.role_field-1.given.0.0 c.role_field-1.given.0.1.0 = took _ _ role role-lawful ((let by : Bytes (c.args.row.now) = typed (c.args.row.now) c.shared_slice_known-1.given in by)) ((let role-read : read_at role (c.args.row.now) (c.args.at) ≡ takes c.role_field-1.given.0.0 c.role_field-1.given.0.1.0 = learn role_says c.role_at-role_field.ensures c.role_field-1.given.1 in role-read)) in role-took)))).here tt c.mode_field-1.given.0.0 = took _ _ mode mode-lawful ((let by : Bytes (c.args.row.now) = typed (c.args.row.now) c.shared_slice_known-1.given in by)) ((let mode-read : read_at mode (c.args.row.now) ((field-yes (start).so ((let role-took : Took role (c.args.row.now) (c.args.at) c.role_field-1.given.0.0 c.role_field-1.given.0.1.0 = took _ _ role role-lawful ((let by : Bytes (c.args.row.now) = typed (c.args.row.now) c.shared_slice_known-1.given in by)) ((let role-read : read_at role (c.args.row.now) (c.args.at) ≡ takes c.role_field-1.given.0.0 c.role_field-1.given.0.1.0 = learn role_says c.role_at-role_field.ensures c.role_field-1.given.1 in role-read)) in role-took)))).here ≡ takes tt c.mode_field-1.given.0.0 = learn mode_says c.mode_at-mode_field.ensures c.mode_field-1.given.1 in mode-read)) in mode-took)))).here ≡ takes c.verification_field-1.given.0.0 c.verification_field-1.given.0.1.0 = learn verification_says c.verification_at-verification_field.ensures c.verification_field-1.given.1 in verification-read))))).so (run-took _ _ plain 16 c.run_at.ensures.0 ((let by : Bytes (c.args.row.now) = typed (c.args.row.now) c.shared_slice_known-1.given in by)) c.pair_id-1.given.1))).so (run-took _ _ plain 48 c.run_at-2.ensures.0 ((let by : Bytes (c.args.row.now) = typed (c.args.row.now) c.shared_slice_known-1.given in by)) c.th-1.given.1))).so (run-took _ _ plain 16 c.run_at-3.ensures.0 ((let by : Bytes (c.args.row.now) = typed (c.args.row.now) c.shared_slice_known-1.given in by)) c.nonce_b-1.given.1))).here) c.card_field-1.given.0.0 c.card_field-1.given.0.1.0 = located-at (card_at _) _ (learn card_says c.card_at-card_field.ensures c.card_field-1.given.1) in card-read)).value c.card_field-1.given.0.1.0 = took _ _ (sized (group card) CARD_END) (sized-lawful (group card) card-lawful CARD_END) ((let by : Bytes (c.args.row.now) = typed (c.args.row.now) c.shared_slice_known-1.given in by)) ((let card-read : Located (card_at ((field-yes ((field-yes ((field-yes ((field-yes ((field-yes ((field-yes (start).so ((let role-took : Took role (c.args.row.now) (c.args.at) c.role_field-1.given.0.0 c.role_field-1.given.0.1.0 = took _ _ role role-lawful ((let by : Bytes (c.args.row.now) = typed (c.args.row.now) c.shared_slice_known-1.given in by)) ((let role-read : read_at role (c.args.row.now) (c.args.at) ≡ takes c.role_field-1.given.0.0 c.role_field-1.given.0.1.0 = learn role_says c.role_at-role_field.ensures c.role_field-1.given.1 in role-read)) in role-took)))).so ((let mode-took : Took mode (c.args.row.now) ((field-yes (start).so ((let role-took : Took role (c.args.row.now) (c.args.at) c.role_field-1.given.0.0 c.role_field-1.given.0.1.0 = took _ _ role role-lawful ((let by : Bytes (c.args.row.now) = typed (c.args.row.now) c.shared_slice_known-1.given in by)) ((let role-read : read_at role (c.args.row.now) (c.args.at) ≡ takes c.role_field-1.given.0.0 c.role_field-1.given.0.1.0 = learn role_says c.role_at-role_field.ensures c.role_field-1.given.1 in role-read)) in role-took)))).here tt c.mode_field-1.given.0.0 = took _ _ mode mode-lawful ((let by : Bytes (c.args.row.now) = typed (c.args.row.now) c.shared_slice_known-1.given in by)) ((let mode-read : read_at mode (c.args.row.now) ((field-yes (start).so ((let role-took : Took role (c.args.row.now) (c.args.at) c.role_field-1.given.0.0 c.role_field-1.given.0.1.0 = took _ _ role role-lawful ((let by : Bytes (c.args.row.now) = typed (c.args.row.now) c.shared_slice_known-1.given in by)) ((let role-read : read_at role (c.args.row.now) (c.args.at) ≡ takes c.role_field-1.given.0.0 c.role_field-1.given.0.1.0 = learn role_says c.role_at-role_field.ensures c.role_field-1.given.1 in role-read)) in role-took)))).here ≡ takes tt c.mode_field-1.given.0.0 = learn mode_says c.mode_at-mode_field.ensures c.mode_field-1.given.1 in mode-read)) in mode-took)))).so (took _ _ verification verification-lawful ((let by : Bytes (c.args.row.now) = typed (c.args.row.now) c.shared_slice_known-1.given in by)) ((let verification-read : read_at verification (c.args.row.now) ((field-yes ((field-yes (start).so ((let role-took : Took role (c.args.row.now) (c.args.at) c.role_field-1.given.0.0 c.role_field-1.given.0.1.0 = took _ _ role role-lawful ((let by : Bytes (c.args.row.now) = typed (c.args.row.now) c.shared_slice_known-1.given in by)) ((let role-read : read_at role (c.args.row.now) (c.args.at) ≡ takes c.role_field-1.given.0.0 c.role_field-1.given.0.1.0 = learn role_says c.role_at-role_field.ensures c.role_field-1.given.1 in role-read)) in role-took)))).so ((let mode-took : Took mode (c.args.row.now) ((field-yes (start).so ((let role-took : Took role (c.args.row.now) (c.args.at) c.role_field-1.given.0.0 c.role_field-1.given.0.1.0 = took _ _ role role-lawful ((let by : Bytes (c.args.row.now) = typed (c.args.row.now) c.shared_slice_known-1.given in by)) ((let role-read : read_at role (c.args.row.now) (c.args.at) ≡ takes c.role_field-1.given.0.0 c.role_field-1.given.0.1.0 = learn role_says c.role_at-role_field.ensures c.role_field-1.given.1 in role-read)) in role-took)))).here tt c.mode_field-1.given.0.0 = took _ _ mode mode-lawful ((let by : Bytes (c.args.row.now) = typed (c.args.row.now) c.shared_slice_known-1.given in by)) ((let mode-read : read_at mode (c.args.row.now) ((field-yes (start).so ((let role-took : Took role (c.args.row.now) (c.args.at) c.role_field-1.given.0.0 c.role_field-1.given.0.1.0 = took _ _ role role-lawful ((let by : Bytes (c.args.row.now) = typed (c.args.row.now) c.shared_slice_known-1.given in by)) ((let role-read : read_at role (c.args.row.now) (c.args.at) ≡ takes c.role_field-1.given.0.0 c.role_field-1.given.0.1.0 = learn role_says c.role_at-role_field.ensures c.role_field-1.given.1 in role-read)) in role-took)))).here ≡ takes tt c.mode_field-1.given.0.0 = learn mode_says c.mode_at-mode_field.ensures c.mode_field-1.given.1 in mode-read)) in mode-took)))).here ≡ takes c.verification_field-1.given.0.0 c.verification_field-1.given.0.1.0 = learn verification_says c.verification_at-verification_field.ensures c.verification_field-1.given.1 in verification-read))))).so (run-took _ _ plain 16 c.run_at.ensures.0 ((let by : Bytes (c.args.row.now) = typed (c.args.row.now) c.shared_slice_known-1.given in by)) c.pair_id-1.given.1))).so (run-took _ _ plain 48 c.run_at-2.ensures.0 ((let by : Bytes (c.args.row.now) = typed (c.args.row.now) c.shared_slice_known-1.given in by)) c.th-1.given.1))).so (run-took _ _ plain 16 c.run_at-3.ensures.0 ((let by : Bytes (c.args.row.now) = typed (c.args.row.now) c.shared_slice_known-1.given in by)) c.nonce_b-1.given.1))).here) (read_at (sized (group card) CARD_END) (c.args.row.now) ((field-yes ((field-yes ((field-yes ((field-yes ((field-yes ((field-yes (start).so ((let role-took : Took role (c.args.row.now) (c.args.at) c.role_field-1.given.0.0 c.role_field-1.given.0.1.0 = took _ _ role role-lawful ((let by : Bytes (c.args.row.now) = typed (c.args.row.now) c.shared_slice_known-1.given in by)) ((let role-read : read_at role (c.args.row.now) (c.args.at) ≡ takes c.role_field-1.given.0.0 c.role_field-1.given.0.1.0 = learn role_says c.role_at-role_field.ensures c.role_field-1.given.1 in role-read)) in role-took)))).so ((let mode-took : Took mode (c.args.row.now) ((field-yes (start).so ((let role-took : Took role (c.args.row.now) (c.args.at) c.role_field-1.given.0.0 c.role_field-1.given.0.1.0 = took _ _ role role-lawful ((let by : Bytes (c.args.row.now) = typed (c.args.row.now) c.shared_slice_known-1.given in by)) ((let role-read : read_at role (c.args.row.now) (c.args.at) ≡ takes c.role_field-1.given.0.0 c.role_field-1.given.0.1.0 = learn role_says c.role_at-role_field.ensures c.role_field-1.given.1 in role-read)) in role-took)))).here tt c.mode_field-1.given.0.0 = took _ _ mode mode-lawful ((let by : Bytes (c.args.row.now) = typed (c.args.row.now) c.shared_slice_known-1.given in by)) ((let mode-read : read_at mode (c.args.row.now) ((field-yes (start).so ((let role-took : Took role (c.args.row.now) (c.args.at) c.role_field-1.given.0.0 c.role_field-1.given.0.1.0 = took _ _ role role-lawful ((let by : Bytes (c.args.row.now) = typed (c.args.row.now) c.shared_slice_known-1.given in by)) ((let role-read : read_at role (c.args.row.now) (c.args.at) ≡ takes c.role_field-1.given.0.0 c.role_field-1.given.0.1.0 = learn role_says c.role_at-role_field.ensures c.role_field-1.given.1 in role-read)) in role-took)))).here ≡ takes tt c.mode_field-1.given.0.0 = learn mode_says c.mode_at-mode_field.ensures c.mode_field-1.given.1 in mode-read)) in mode-took)))).so (took _ _ verification verification-lawful ((let by : Bytes (c.args.row.now) = typed (c.args.row.now) c.shared_slice_known-1.given in by)) ((let verification-read : read_at verification (c.args.row.now) ((field-yes ((field-yes (start).so ((let role-took : Took role (c.args.row.now) (c.args.at) c.role_field-1.given.0.0 c.role_field-1.given.0.1.0 = took _ _ role role-lawful ((let by : Bytes (c.args.row.now) = typed (c.args.row.now) c.shared_slice_known-1.given in by)) ((let role-read : read_at role (c.args.row.now) (c.args.at) ≡ takes c.role_field-1.given.0.0 c.role_field-1.given.0.1.0 = learn role_says c.role_at-role_field.ensures c.role_field-1.given.1 in role-read)) in role-took)))).so ((let mode-took : Took mode (c.args.row.now) ((field-yes (start).so ((let role-took : Took role (c.args.row.now) (c.args.at) c.role_field-1.given.0.0 c.role_field-1.given.0.1.0 = took _ _ role role-lawful ((let by : Bytes (c.args.row.now) = typed (c.args.row.now) c.shared_slice_known-1.given in by)) ((let role-read : read_at role (c.args.row.now) (c.args.at) ≡ takes c.role_field-1.given.0.0 c.role_field-1.given.0.1.0 = learn role_says c.role_at-role_field.ensures c.role_field-1.given.1 in role-read)) in role-took)))).here tt c.mode_field-1.given.0.0 = took _ _ mode mode-lawful ((let by : Bytes (c.args.row.now) = typed (c.args.row.now) c.shared_slice_known-1.given in by)) ((let mode-read : read_at mode (c.args.row.now) ((field-yes (start).so ((let role-took : Took role (c.args.row.now) (c.args.at) c.role_field-1.given.0.0 c.role_field-1.given.0.1.0 = took _ _ role role-lawful ((let by : Bytes (c.args.row.now) = typed (c.args.row.now) c.shared_slice_known-1.given in by)) ((let role-read : read_at role (c.args.row.now) (c.args.at) ≡ takes c.role_field-1.given.0.0 c.role_field-1.given.0.1.0 = learn role_says c.role_at-role_field.ensures c.role_field-1.given.1 in role-read)) in role-took)))).here ≡ takes tt c.mode_field-1.given.0.0 = learn mode_says c.mode_at-mode_field.ensures c.mode_field-1.given.1 in mode-read)) in mode-took)))).here ≡ takes c.verification_field-1.given.0.0 c.verification_field-1.given.0.1.0 = learn verification_says c.verification_at-verification_field.ensures c.verification_field-1.given.1 in verification-read))))).so (run-took _ _ plain 16 c.run_at.ensures.0 ((let by : Bytes (c.args.row.now) = typed (c.args.row.now) c.shared_slice_known-1.given in by)) c.pair_id-1.given.1))).so (run-took _ _ plain 48 c.run_at-2.ensures.0 ((let by : Bytes (c.args.row.now) = typed (c.args.row.now) c.shared_slice_known-1.given in by)) c.th-1.given.1))).so (run-took _ _ plain 16 c.run_at-3.ensures.0 ((let by : Bytes (c.args.row.now) = typed (c.args.row.now) c.shared_slice_known-1.given in by)) c.nonce_b-1.given.1))).here) c.card_field-1.given.0.0 c.card_field-1.given.0.1.0 = located-at (card_at _) _ (learn card_says c.card_at-card_field.ensures c.card_field-1.given.1) in card-read)).read in card-took)).inside
-    (its-places (c.args.at) its
-    (omega (arith, (let role-next : c.role_field-1.given.0.1.0 ≡ c.args.at + length (role.print c.role_field-1.given.0.0) = took-next _ _ role role-lawful ((let by : Bytes (c.args.row.now) = typed (c.args.row.now) c.shared_slice_known-1.given in by)) ((let role-read : read_at role (c.args.row.now) (c.args.at) ≡ takes c.role_field-1.given.0.0 c.role_field-1.given.0.1.0 = learn role_says c.role_at-role_field.ensures c.role_field-1.given.1 in role-read)) (not-past _ _ role refl ((let role-read : read_at role (c.args.row.now) (c.args.at) ≡ takes c.role_field-1.given.0.0 c.role_field-1.given.0.1.0 = learn role_says c.role_at-role_field.ensures c.role_field-1.given.1 in role-read))) in role-next), (let mode-next : c.mode_field-1.given.0.0 ≡ ((field-yes (start).so ((let role-took : Took role (c.args.row.now) (c.args.at) c.role_field-1.given.0.0 c.role_field-1.given.0.1.0 = took _ _ role role-lawful ((let by : Bytes (c.args.row.now) = typed (c.args.row.now) c.shared_slice_known-1.given in by)) ((let role-read : read_at role (c.args.row.now) (c.args.at) ≡ takes c.role_field-1.given.0.0 c.role_field-1.given.0.1.0 = learn role_says c.role_at-role_field.ensures c.role_field-1.given.1 in role-read)) in role-took)))).here + length (mode.print tt) = took-next _ _ mode mode-lawful ((let by : Bytes (c.args.row.now) = typed (c.args.row.now) c.shared_slice_known-1.given in by)) ((let mode-read : read_at mode (c.args.row.now) ((field-yes (start).so ((let role-took : Took role (c.args.row.now) (c.args.at) c.role_field-1.given.0.0 c.role_field-1.given.0.1.0 = took _ _ role role-lawful ((let by : Bytes (c.args.row.now) = typed (c.args.row.now) c.shared_slice_known-1.given in by)) ((let role-read : read_at role (c.args.row.now) (c.args.at) ≡ takes c.role_field-1.given.0.0 c.role_field-1.given.0.1.0 = learn role_says c.role_at-role_field.ensures c.role_field-1.given.1 in role-read)) in role-took)))).here ≡ takes tt c.mode_field-1.given.0.0 = learn mode_says c.mode_at-mode_field.ensures c.mode_field-1.given.1 in mode-read)) ((let role-took : Took role (c.args.row.now) (c.args.at) c.role_field-1.given.0.0 c.role_field-1.given.0.1.0 = took _ _ role role-lawful ((let by : Bytes (c.args.row.now) = typed (c.args.row.now) c.shared_slice_known-1.given in by)) ((let role-read : read_at role (c.args.row.now) (c.args.at) ≡ takes c.role_field-1.given.0.0 c.role_field-1.given.0.1.0 = learn role_says c.role_at-role_field.ensures c.role_field-1.given.1 in role-read)) in role-took)).inside in mode-next), (let verification-next : c.verification_field-1.given.0.1.0 ≡ ((field-yes ((field-yes (start).so ((let role-took : Took role (c.args.row.now) (c.args.at) c.role_field-1.given.0.0 c.role_field-1.given.0.1.0 = took _ _ role role-lawful ((let by : Bytes (c.args.row.now) = typed (c.args.row.now) c.shared_slice_known-1.given in by)) ((let role-read : read_at role (c.args.row.now) (c.args.at) ≡ takes c.role_field-1.given.0.0 c.role_field-1.given.0.1.0 = learn role_says c.role_at-role_field.ensures c.role_field-1.given.1 in role-read)) in role-took)))).so ((let mode-took : Took mode (c.args.row.now) ((field-yes (start).so ((let role-took : Took role (c.args.row.now) (c.args.at) c.role_field-1.given.0.0 c.role_field-1.given.0.1.0 = took _ _ role role-lawful ((let by : Bytes (c.args.row.now) = typed (c.args.row.now) c.shared_slice_known-1.given in by)) ((let role-read : read_at role (c.args.row.now) (c.args.at) ≡ takes c.role_field-1.given.0.0 c.role_field-1.given.0.1.0 = learn role_says c.role_at-role_field.ensures c.role_field-1.given.1 in role-read)) in role-took)))).here tt c.mode_field-1.given.0.0 = took _ _ mode mode-lawful ((let by : Bytes (c.args.row.now) = typed (c.args.row.now) c.shared_slice_known-1.given in by)) ((let mode-read : read_at mode (c.args.row.now) ((field-yes (start).so ((let role-took : Took role (c.args.row.now) (c.args.at) c.role_field-1.given.0.0 c.role_field-1.given.0.1.0 = took _ _ role role-lawful ((let by : Bytes (c.args.row.now) = typed (c.args.row.now) c.shared_slice_known-1.given in by)) ((let role-read : read_at role (c.args.row.now) (c.args.at) ≡ takes c.role_field-1.given.0.0 c.role_field-1.given.0.1.0 = learn role_says c.role_at-role_field.ensures c.role_field-1.given.1 in role-read)) in role-took)))).here ≡ takes tt c.mode_field-1.given.0.0 = learn mode_says c.mode_at-mode_field.ensures c.mode_field-1.given.1 in mode-read)) in mode-took)))).here + length (verification.print c.verification_field-1.given.0.0) = took-next _ _ verification verification-lawful ((let by : Bytes (c.args.row.now) = typed (c.args.row.now) c.shared_slice_known-1.given in by)) ((let verification-read : read_at verification (c.args.row.now) ((field-yes ((field-yes (start).so ((let role-took : Took role (c.args.row.now) (c.args.at) c.role_field-1.given.0.0 c.role_field-1.given.0.1.0 = took _ _ role role-lawful ((let by : Bytes (c.args.row.now) = typed (c.args.row.now) c.shared_slice_known-1.given in by)) ((let role-read : read_at role (c.args.row.now) (c.args.at) ≡ takes c.role_field-1.given.0.0 c.role_field-1.given.0.1.0 = learn role_says c.role_at-role_field.ensures c.role_field-1.given.1 in role-read)) in role-took)))).so ((let mode-took : Took mode (c.args.row.now) ((field-yes (start).so ((let role-took : Took role (c.args.row.now) (c.args.at) c.role_field-1.given.0.0 c.role_field-1.given.0.1.0 = took _ _ role role-lawful ((let by : Bytes (c.args.row.now) = typed (c.args.row.now) c.shared_slice_known-1.given in by)) ((let role-read : read_at role (c.args.row.now) (c.args.at) ≡ takes c.role_field-1.given.0.0 c.role_field-1.given.0.1.0 = learn role_says c.role_at-role_field.ensures c.role_field-1.given.1 in role-read)) in role-took)))).here tt c.mode_field-1.given.0.0 = took _ _ mode mode-lawful ((let by : Bytes (c.args.row.now) = typed (c.args.row.now) c.shared_slice_known-1.given in by)) ((let mode-read : read_at mode (c.args.row.now) ((field-yes (start).so ((let role-took : Took role (c.args.row.now) (c.args.at) c.role_field-1.given.0.0 c.role_field-1.given.0.1.0 = took _ _ role role-lawful ((let by : Bytes (c.args.row.now) = typed (c.args.row.now) c.shared_slice_known-1.given in by)) ((let role-read : read_at role (c.args.row.now) (c.args.at) ≡ takes c.role_field-1.given.0.0 c.role_field-1.given.0.1.0 = learn role_says c.role_at-role_field.ensures c.role_field-1.given.1 in role-read)) in role-took)))).here ≡ takes tt c.mode_field-1.given.0.0 = learn mode_says c.mode_at-mode_field.ensures c.mode_field-1.given.1 in mode-read)) in mode-took)))).here ≡ takes c.verification_field-1.given.0.0 c.verification_field-1.given.0.1.0 = learn verification_says c.verification_at-verification_field.ensures c.verification_field-1.given.1 in verification-read)) ((let mode-took : Took mode (c.args.row.now) ((field-yes (start).so ((let role-took : Took role (c.args.row.now) (c.args.at) c.role_field-1.given.0.0 c.role_field-1.given.0.1.0 = took _ _ role role-lawful ((let by : Bytes (c.args.row.now) = typed (c.args.row.now) c.shared_slice_known-1.given in by)) ((let role-read : read_at role (c.args.row.now) (c.args.at) ≡ takes c.role_field-1.given.0.0 c.role_field-1.given.0.1.0 = learn role_says c.role_at-role_field.ensures c.role_field-1.given.1 in role-read)) in role-took)))).here tt c.mode_field-1.given.0.0 = took _ _ mode mode-lawful ((let by : Bytes (c.args.row.now) = typed (c.args.row.now) c.shared_slice_known-1.given in by)) ((let mode-read : read_at mode (c.args.row.now) ((field-yes (start).so ((let role-took : Took role (c.args.row.now) (c.args.at) c.role_field-1.given.0.0 c.role_field-1.given.0.1.0 = took _ _ role role-lawful ((let by : Bytes (c.args.row.now) = typed (c.args.row.now) c.shared_slice_known-1.given in by)) ((let role-read : read_at role (c.args.row.now) (c.args.at) ≡ takes c.role_field-1.given.0.0 c.role_field-1.given.0.1.0 = learn role_says c.role_at-role_field.ensures c.role_field-1.given.1 in role-read)) in role-took)))).here ≡ takes tt c.mode_field-1.given.0.0 = learn mode_says c.mode_at-mode_field.ensures c.mode_field-1.given.1 in mode-read)) in mode-took)).inside in verification-next), ((let pair-id-run : Run ((field-yes ((field-yes ((field-yes (start).so ((let role-took : Took role (c.args.row.now) (c.args.at) c.role_field-1.given.0.0 c.role_field-1.given.0.1.0 = took _ _ role role-lawful ((let by : Bytes (c.args.row.now) = typed (c.args.row.now) c.shared_slice_known-1.given in by)) ((let role-read : read_at role (c.args.row.now) (c.args.at) ≡ takes c.role_field-1.given.0.0 c.role_field-1.given.0.1.0 = learn role_says c.role_at-role_field.ensures c.role_field-1.given.1 in role-read)) in role-took)))).so ((let mode-took : Took mode (c.args.row.now) ((field-yes (start).so ((let role-took : Took role (c.args.row.now) (c.args.at) c.role_field-1.given.0.0 c.role_field-1.given.0.1.0 = took _ _ role role-lawful ((let by : Bytes (c.args.row.now) = typed (c.args.row.now) c.shared_slice_known-1.given in by)) ((let role-read : read_at role (c.args.row.now) (c.args.at) ≡ takes c.role_field-1.given.0.0 c.role_field-1.given.0.1.0 = learn role_says c.role_at-role_field.ensures c.role_field-1.given.1 in role-read)) in role-took)))).here tt c.mode_field-1.given.0.0 = took _ _ mode mode-lawful ((let by : Bytes (c.args.row.now) = typed (c.args.row.now) c.shared_slice_known-1.given in by)) ((let mode-read : read_at mode (c.args.row.now) ((field-yes (start).so ((let role-took : Took role (c.args.row.now) (c.args.at) c.role_field-1.given.0.0 c.role_field-1.given.0.1.0 = took _ _ role role-lawful ((let by : Bytes (c.args.row.now) = typed (c.args.row.now) c.shared_slice_known-1.given in by)) ((let role-read : read_at role (c.args.row.now) (c.args.at) ≡ takes c.role_field-1.given.0.0 c.role_field-1.given.0.1.0 = learn role_says c.role_at-role_field.ensures c.role_field-1.given.1 in role-read)) in role-took)))).here ≡ takes tt c.mode_field-1.given.0.0 = learn mode_says c.mode_at-mode_field.ensures c.mode_field-1.given.1 in mode-read)) in mode-took)))).so (took _ _ verification verification-lawful ((let by : Bytes (c.args.row.now) = typed (c.args.row.now) c.shared_slice_known-1.given in by)) ((let verification-read : read_at verification (c.args.row.now) ((field-yes ((field-yes (start).so ((let role-took : Took role (c.args.row.now) (c.args.at) c.role_field-1.given.0.0 c.role_field-1.given.0.1.0 = took _ _ role role-lawful ((let by : Bytes (c.args.row.now) = typed (c.args.row.now) c.shared_slice_known-1.given in by)) ((let role-read : read_at role (c.args.row.now) (c.args.at) ≡ takes c.role_field-1.given.0.0 c.role_field-1.given.0.1.0 = learn role_says c.role_at-role_field.ensures c.role_field-1.given.1 in role-read)) in role-took)))).so ((let mode-took : Took mode (c.args.row.now) ((field-yes (start).so ((let role-took : Took role (c.args.row.now) (c.args.at) c.role_field-1.given.0.0 c.role_field-1.given.0.1.0 = took _ _ role role-lawful ((let by : Bytes (c.args.row.now) = typed (c.args.row.now) c.shared_slice_known-1.given in by)) ((let role-read : read_at role (c.args.row.now) (c.args.at) ≡ takes c.role_field-1.given.0.0 c.role_field-1.given.0.1.0 = learn role_says c.role_at-role_field.ensures c.role_field-1.given.1 in role-read)) in role-took)))).here tt c.mode_field-1.given.0.0 = took _ _ mode mode-lawful ((let by : Bytes (c.args.row.now) = typed (c.args.row.now) c.shared_slice_known-1.given in by)) ((let mode-read : read_at mode (c.args.row.now) ((field-yes (start).so ((let role-took : Took role (c.args.row.now) (c.args.at) c.role_field-1.given.0.0 c.role_field-1.given.0.1.0 = took _ _ role role-lawful ((let by : Bytes (c.args.row.now) = typed (c.args.row.now) c.shared_slice_known-1.given in by)) ((let role-read : read_at role (c.args.row.now) (c.args.at) ≡ takes c.role_field-1.given.0.0 c.role_field-1.given.0.1.0 = learn role_says c.role_at-role_field.ensures c.role_field-1.given.1 in role-read)) in role-took)))).here ≡ takes tt c.mode_field-1.given.0.0 = learn mode_says c.mode_at-mode_field.ensures c.mode_field-1.given.1 in mode-read)) in mode-took)))).here ≡ takes c.verification_field-1.given.0.0 c.verification_field-1.given.0.1.0 = learn verification_says c.verification_at-verification_field.ensures c.verification_field-1.given.1 in verification-read))))).here (take 16 (drop c.pair_id-1.given.0.0 (c.args.row.now))) c.pair_id-1.given.0.0 c.pair_id-1.given.0.1.0 = run-starts _ _ 16 ((let by : Bytes (c.args.row.now) = typed (c.args.row.now) c.shared_slice_known-1.given in by)) (omega arith) c.run_at.ensures c.pair_id-1.given.1 in pair-id-run)).starts))
-    (omega (arith, (let role-next : c.role_field-1.given.0.1.0 ≡ c.args.at + length (role.print c.role_field-1.given.0.0) = took-next _ _ role role-lawful ((let by : Bytes (c.args.row.now) = typed (c.args.row.now) c.shared_slice_known-1.given in by)) ((let role-read : read_at role (c.args.row.now) (c.args.at) ≡ takes c.role_field-1.given.0.0 c.role_field-1.given.0.1.0 = learn role_says c.role_at-role_field.ensures c.role_field-1.given.1 in role-read)) (not-past _ _ role refl ((let role-read : read_at role (c.args.row.now) (c.args.at) ≡ takes c.role_field-1.given.0.0 c.role_field-1.given.0.1.0 = learn role_says c.role_at-role_field.ensures c.role_field-1.given.1 in role-read))) in role-next), (let mode-next : c.mode_field-1.given.0.0 ≡ ((field-yes (start).so ((let role-took : Took role (c.args.row.now) (c.args.at) c.role_field-1.given.0.0 c.role_field-1.given.0.1.0 = took _ _ role role-lawful ((let by : Bytes (c.args.row.now) = typed (c.args.row.now) c.shared_slice_known-1.given in by)) ((let role-read : read_at role (c.args.row.now) (c.args.at) ≡ takes c.role_field-1.given.0.0 c.role_field-1.given.0.1.0 = learn role_says c.role_at-role_field.ensures c.role_field-1.given.1 in role-read)) in role-took)))).here + length (mode.print tt) = took-next _ _ mode mode-lawful ((let by : Bytes (c.args.row.now) = typed (c.args.row.now) c.shared_slice_known-1.given in by)) ((let mode-read : read_at mode (c.args.row.now) ((field-yes (start).so ((let role-took : Took role (c.args.row.now) (c.args.at) c.role_field-1.given.0.0 c.role_field-1.given.0.1.0 = took _ _ role role-lawful ((let by : Bytes (c.args.row.now) = typed (c.args.row.now) c.shared_slice_known-1.given in by)) ((let role-read : read_at role (c.args.row.now) (c.args.at) ≡ takes c.role_field-1.given.0.0 c.role_field-1.given.0.1.0 = learn role_says c.role_at-role_field.ensures c.role_field-1.given.1 in role-read)) in role-took)))).here ≡ takes tt c.mode_field-1.given.0.0 = learn mode_says c.mode_at-mode_field.ensures c.mode_field-1.given.1 in mode-read)) ((let role-took : Took role (c.args.row.now) (c.args.at) c.role_field-1.given.0.0 c.role_field-1.given.0.1.0 = took _ _ role role-lawful ((let by : Bytes (c.args.row.now) = typed (c.args.row.now) c.shared_slice_known-1.given in by)) ((let role-read : read_at role (c.args.row.now) (c.args.at) ≡ takes c.role_field-1.given.0.0 c.role_field-1.given.0.1.0 = learn role_says c.role_at-role_field.ensures c.role_field-1.given.1 in role-read)) in role-took)).inside in mode-next), (let verification-next : c.verification_field-1.given.0.1.0 ≡ ((field-yes ((field-yes (start).so ((let role-took : Took role (c.args.row.now) (c.args.at) c.role_field-1.given.0.0 c.role_field-1.given.0.1.0 = took _ _ role role-lawful ((let by : Bytes (c.args.row.now) = typed (c.args.row.now) c.shared_slice_known-1.given in by)) ((let role-read : read_at role (c.args.row.now) (c.args.at) ≡ takes c.role_field-1.given.0.0 c.role_field-1.given.0.1.0 = learn role_says c.role_at-role_field.ensures c.role_field-1.given.1 in role-read)) in role-took)))).so ((let mode-took : Took mode (c.args.row.now) ((field-yes (start).so ((let role-took : Took role (c.args.row.now) (c.args.at) c.role_field-1.given.0.0 c.role_field-1.given.0.1.0 = took _ _ role role-lawful ((let by : Bytes (c.args.row.now) = typed (c.args.row.now) c.shared_slice_known-1.given in by)) ((let role-read : read_at role (c.args.row.now) (c.args.at) ≡ takes c.role_field-1.given.0.0 c.role_field-1.given.0.1.0 = learn role_says c.role_at-role_field.ensures c.role_field-1.given.1 in role-read)) in role-took)))).here tt c.mode_field-1.given.0.0 = took _ _ mode mode-lawful ((let by : Bytes (c.args.row.now) = typed (c.args.row.now) c.shared_slice_known-1.given in by)) ((let mode-read : read_at mode (c.args.row.now) ((field-yes (start).so ((let role-took : Took role (c.args.row.now) (c.args.at) c.role_field-1.given.0.0 c.role_field-1.given.0.1.0 = took _ _ role role-lawful ((let by : Bytes (c.args.row.now) = typed (c.args.row.now) c.shared_slice_known-1.given in by)) ((let role-read : read_at role (c.args.row.now) (c.args.at) ≡ takes c.role_field-1.given.0.0 c.role_field-1.given.0.1.0 = learn role_says c.role_at-role_field.ensures c.role_field-1.given.1 in role-read)) in role-took)))).here ≡ takes tt c.mode_field-1.given.0.0 = learn mode_says c.mode_at-mode_field.ensures c.mode_field-1.given.1 in mode-read)) in mode-took)))).here + length (verification.print c.verification_field-1.given.0.0) = took-next _ _ verification verification-lawful ((let by : Bytes (c.args.row.now) = typed (c.args.row.now) c.shared_slice_known-1.given in by)) ((let verification-read : read_at verification (c.args.row.now) ((field-yes ((field-yes (start).so ((let role-took : Took role (c.args.row.now) (c.args.at) c.role_field-1.given.0.0 c.role_field-1.given.0.1.0 = took _ _ role role-lawful ((let by : Bytes (c.args.row.now) = typed (c.args.row.now) c.shared_slice_known-1.given in by)) ((let role-read : read_at role (c.args.row.now) (c.args.at) ≡ takes c.role_field-1.given.0.0 c.role_field-1.given.0.1.0 = learn role_says c.role_at-role_field.ensures c.role_field-1.given.1 in role-read)) in role-took)))).so ((let mode-took : Took mode (c.args.row.now) ((field-yes (start).so ((let role-took : Took role (c.args.row.now) (c.args.at) c.role_field-1.given.0.0 c.role_field-1.given.0.1.0 = took _ _ role role-lawful ((let by : Bytes (c.args.row.now) = typed (c.args.row.now) c.shared_slice_known-1.given in by)) ((let role-read : read_at role (c.args.row.now) (c.args.at) ≡ takes c.role_field-1.given.0.0 c.role_field-1.given.0.1.0 = learn role_says c.role_at-role_field.ensures c.role_field-1.given.1 in role-read)) in role-took)))).here tt c.mode_field-1.given.0.0 = took _ _ mode mode-lawful ((let by : Bytes (c.args.row.now) = typed (c.args.row.now) c.shared_slice_known-1.given in by)) ((let mode-read : read_at mode (c.args.row.now) ((field-yes (start).so ((let role-took : Took role (c.args.row.now) (c.args.at) c.role_field-1.given.0.0 c.role_field-1.given.0.1.0 = took _ _ role role-lawful ((let by : Bytes (c.args.row.now) = typed (c.args.row.now) c.shared_slice_known-1.given in by)) ((let role-read : read_at role (c.args.row.now) (c.args.at) ≡ takes c.role_field-1.given.0.0 c.role_field-1.given.0.1.0 = learn role_says c.role_at-role_field.ensures c.role_field-1.given.1 in role-read)) in role-took)))).here ≡ takes tt c.mode_field-1.given.0.0 = learn mode_says c.mode_at-mode_field.ensures c.mode_field-1.given.1 in mode-read)) in mode-took)))).here ≡ takes c.verification_field-1.given.0.0 c.verification_field-1.given.0.1.0 = learn verification_says c.verification_at-verification_field.ensures c.verification_field-1.given.1 in verification-read)) ((let mode-took : Took mode (c.args.row.now) ((field-yes (start).so ((let role-took : Took role (c.args.row.now) (c.args.at) c.role_field-1.given.0.0 c.role_field-1.given.0.1.0 = took _ _ role role-lawful ((let by : Bytes (c.args.row.now) = typed (c.args.row.now) c.shared_slice_known-1.given in by)) ((let role-read : read_at role (c.args.row.now) (c.args.at) ≡ takes c.role_field-1.given.0.0 c.role_field-1.given.0.1.0 = learn role_says c.role_at-role_field.ensures c.role_field-1.given.1 in role-read)) in role-took)))).here tt c.mode_field-1.given.0.0 = took _ _ mode mode-lawful ((let by : Bytes (c.args.row.now) = typed (c.args.row.now) c.shared_slice_known-1.given in by)) ((let mode-read : read_at mode (c.args.row.now) ((field-yes (start).so ((let role-took : Took role (c.args.row.now) (c.args.at) c.role_field-1.given.0.0 c.role_field-1.given.0.1.0 = took _ _ role role-lawful ((let by : Bytes (c.args.row.now) = typed (c.args.row.now) c.shared_slice_known-1.given in by)) ((let role-read : read_at role (c.args.row.now) (c.args.at) ≡ takes c.role_field-1.given.0.0 c.role_field-1.given.0.1.0 = learn role_says c.role_at-role_field.ensures c.role_field-1.given.1 in role-read)) in role-took)))).here ≡ takes tt c.mode_field-1.given.0.0 = learn mode_says c.mode_at-mode_field.ensures c.mode_field-1.given.1 in mode-read)) in mode-took)).inside in verification-next), ((let pair-id-run : Run ((field-yes ((field-yes ((field-yes (start).so ((let role-took : Took role (c.args.row.now) (c.args.at) c.role_field-1.given.0.0 c.role_field-1.given.0.1.0 = took _ _ role role-lawful ((let by : Bytes (c.args.row.now) = typed (c.args.row.now) c.shared_slice_known-1.given in by)) ((let role-read : read_at role (c.args.row.now) (c.args.at) ≡ takes c.role_field-1.given.0.0 c.role_field-1.given.0.1.0 = learn role_says c.role_at-role_field.ensures c.role_field-1.given.1 in role-read)) in role-took)))).so ((let mode-took : Took mode (c.args.row.now) ((field-yes (start).so ((let role-took : Took role (c.args.row.now) (c.args.at) c.role_field-1.given.0.0 c.role_field-1.given.0.1.0 = took _ _ role role-lawful ((let by : Bytes (c.args.row.now) = typed (c.args.row.now) c.shared_slice_known-1.given in by)) ((let role-read : read_at role (c.args.row.now) (c.args.at) ≡ takes c.role_field-1.given.0.0 c.role_field-1.given.0.1.0 = learn role_says c.role_at-role_field.ensures c.role_field-1.given.1 in role-read)) in role-took)))).here tt c.mode_field-1.given.0.0 = took _ _ mode mode-lawful ((let by : Bytes (c.args.row.now) = typed (c.args.row.now) c.shared_slice_known-1.given in by)) ((let mode-read : read_at mode (c.args.row.now) ((field-yes (start).so ((let role-took : Took role (c.args.row.now) (c.args.at) c.role_field-1.given.0.0 c.role_field-1.given.0.1.0 = took _ _ role role-lawful ((let by : Bytes (c.args.row.now) = typed (c.args.row.now) c.shared_slice_known-1.given in by)) ((let role-read : read_at role (c.args.row.now) (c.args.at) ≡ takes c.role_field-1.given.0.0 c.role_field-1.given.0.1.0 = learn role_says c.role_at-role_field.ensures c.role_field-1.given.1 in role-read)) in role-took)))).here ≡ takes tt c.mode_field-1.given.0.0 = learn mode_says c.mode_at-mode_field.ensures c.mode_field-1.given.1 in mode-read)) in mode-took)))).so (took _ _ verification verification-lawful ((let by : Bytes (c.args.row.now) = typed (c.args.row.now) c.shared_slice_known-1.given in by)) ((let verification-read : read_at verification (c.args.row.now) ((field-yes ((field-yes (start).so ((let role-took : Took role (c.args.row.now) (c.args.at) c.role_field-1.given.0.0 c.role_field-1.given.0.1.0 = took _ _ role role-lawful ((let by : Bytes (c.args.row.now) = typed (c.args.row.now) c.shared_slice_known-1.given in by)) ((let role-read : read_at role (c.args.row.now) (c.args.at) ≡ takes c.role_field-1.given.0.0 c.role_field-1.given.0.1.0 = learn role_says c.role_at-role_field.ensures c.role_field-1.given.1 in role-read)) in role-took)))).so ((let mode-took : Took mode (c.args.row.now) ((field-yes (start).so ((let role-took : Took role (c.args.row.now) (c.args.at) c.role_field-1.given.0.0 c.role_field-1.given.0.1.0 = took _ _ role role-lawful ((let by : Bytes (c.args.row.now) = typed (c.args.row.now) c.shared_slice_known-1.given in by)) ((let role-read : read_at role (c.args.row.now) (c.args.at) ≡ takes c.role_field-1.given.0.0 c.role_field-1.given.0.1.0 = learn role_says c.role_at-role_field.ensures c.role_field-1.given.1 in role-read)) in role-took)))).here tt c.mode_field-1.given.0.0 = took _ _ mode mode-lawful ((let by : Bytes (c.args.row.now) = typed (c.args.row.now) c.shared_slice_known-1.given in by)) ((let mode-read : read_at mode (c.args.row.now) ((field-yes (start).so ((let role-took : Took role (c.args.row.now) (c.args.at) c.role_field-1.given.0.0 c.role_field-1.given.0.1.0 = took _ _ role role-lawful ((let by : Bytes (c.args.row.now) = typed (c.args.row.now) c.shared_slice_known-1.given in by)) ((let role-read : read_at role (c.args.row.now) (c.args.at) ≡ takes c.role_field-1.given.0.0 c.role_field-1.given.0.1.0 = learn role_says c.role_at-role_field.ensures c.role_field-1.given.1 in role-read)) in role-took)))).here ≡ takes tt c.mode_field-1.given.0.0 = learn mode_says c.mode_at-mode_field.ensures c.mode_field-1.given.1 in mode-read)) in mode-took)))).here ≡ takes c.verification_field-1.given.0.0 c.verification_field-1.given.0.1.0 = learn verification_says c.verification_at-verification_field.ensures c.verification_field-1.given.1 in verification-read))))).here (take 16 (drop c.pair_id-1.given.0.0 (c.args.row.now))) c.pair_id-1.given.0.0 c.pair_id-1.given.0.1.0 = run-starts _ _ 16 ((let by : Bytes (c.args.row.now) = typed (c.args.row.now) c.shared_slice_known-1.given in by)) (omega arith) c.run_at.ensures c.pair_id-1.given.1 in pair-id-run)).ends, ((let th-run : Run ((field-yes ((field-yes ((field-yes ((field-yes (start).so ((let role-took : Took role (c.args.row.now) (c.args.at) c.role_field-1.given.0.0 c.role_field-1.given.0.1.0 = took _ _ role role-lawful ((let by : Bytes (c.args.row.now) = typed (c.args.row.now) c.shared_slice_known-1.given in by)) ((let role-read : read_at role (c.args.row.now) (c.args.at) ≡ takes c.role_field-1.given.0.0 c.role_field-1.given.0.1.0 = learn role_says c.role_at-role_field.ensures c.role_field-1.given.1 in role-read)) in role-took)))).so ((let mode-took : Took mode (c.args.row.now) ((field-yes (start).so ((let role-took : Took role (c.args.row.now) (c.args.at) c.role_field-1.given.0.0 c.role_field-1.given.0.1.0 = took _ _ role role-lawful ((let by : Bytes (c.args.row.now) = typed (c.args.row.now) c.shared_slice_known-1.given in by)) ((let role-read : read_at role (c.args.row.now) (c.args.at) ≡ takes c.role_field-1.given.0.0 c.role_field-1.given.0.1.0 = learn role_says c.role_at-role_field.ensures c.role_field-1.given.1 in role-read)) in role-took)))).here tt c.mode_field-1.given.0.0 = took _ _ mode mode-lawful ((let by : Bytes (c.args.row.now) = typed (c.args.row.now) c.shared_slice_known-1.given in by)) ((let mode-read : read_at mode (c.args.row.now) ((field-yes (start).so ((let role-took : Took role (c.args.row.now) (c.args.at) c.role_field-1.given.0.0 c.role_field-1.given.0.1.0 = took _ _ role role-lawful ((let by : Bytes (c.args.row.now) = typed (c.args.row.now) c.shared_slice_known-1.given in by)) ((let role-read : read_at role (c.args.row.now) (c.args.at) ≡ takes c.role_field-1.given.0.0 c.role_field-1.given.0.1.0 = learn role_says c.role_at-role_field.ensures c.role_field-1.given.1 in role-read)) in role-took)))).here ≡ takes tt c.mode_field-1.given.0.0 = learn mode_says c.mode_at-mode_field.ensures c.mode_field-1.given.1 in mode-read)) in mode-took)))).so (took _ _ verification verification-lawful ((let by : Bytes (c.args.row.now) = typed (c.args.row.now) c.shared_slice_known-1.given in by)) ((let verification-read : read_at verification (c.args.row.now) ((field-yes ((field-yes (start).so ((let role-took : Took role (c.args.row.now) (c.args.at) c.role_field-1.given.0.0 c.role_field-1.given.0.1.0 = took _ _ role role-lawful ((let by : Bytes (c.args.row.now) = typed (c.args.row.now) c.shared_slice_known-1.given in by)) ((let role-read : read_at role (c.args.row.now) (c.args.at) ≡ takes c.role_field-1.given.0.0 c.role_field-1.given.0.1.0 = learn role_says c.role_at-role_field.ensures c.role_field-1.given.1 in role-read)) in role-took)))).so ((let mode-took : Took mode (c.args.row.now) ((field-yes (start).so ((let role-took : Took role (c.args.row.now) (c.args.at) c.role_field-1.given.0.0 c.role_field-1.given.0.1.0 = took _ _ role role-lawful ((let by : Bytes (c.args.row.now) = typed (c.args.row.now) c.shared_slice_known-1.given in by)) ((let role-read : read_at role (c.args.row.now) (c.args.at) ≡ takes c.role_field-1.given.0.0 c.role_field-1.given.0.1.0 = learn role_says c.role_at-role_field.ensures c.role_field-1.given.1 in role-read)) in role-took)))).here tt c.mode_field-1.given.0.0 = took _ _ mode mode-lawful ((let by : Bytes (c.args.row.now) = typed (c.args.row.now) c.shared_slice_known-1.given in by)) ((let mode-read : read_at mode (c.args.row.now) ((field-yes (start).so ((let role-took : Took role (c.args.row.now) (c.args.at) c.role_field-1.given.0.0 c.role_field-1.given.0.1.0 = took _ _ role role-lawful ((let by : Bytes (c.args.row.now) = typed (c.args.row.now) c.shared_slice_known-1.given in by)) ((let role-read : read_at role (c.args.row.now) (c.args.at) ≡ takes c.role_field-1.given.0.0 c.role_field-1.given.0.1.0 = learn role_says c.role_at-role_field.ensures c.role_field-1.given.1 in role-read)) in role-took)))).here ≡ takes tt c.mode_field-1.given.0.0 = learn mode_says c.mode_at-mode_field.ensures c.mode_field-1.given.1 in mode-read)) in mode-took)))).here ≡ takes c.verification_field-1.given.0.0 c.verification_field-1.given.0.1.0 = learn verification_says c.verification_at-verification_field.ensures c.verification_field-1.given.1 in verification-read))))).so (run-took _ _ plain 16 c.run_at.ensures.0 ((let by : Bytes (c.args.row.now) = typed (c.args.row.now) c.shared_slice_known-1.given in by)) c.pair_id-1.given.1))).here (take 48 (drop c.th-1.given.0.0 (c.args.row.now))) c.th-1.given.0.0 c.th-1.given.0.1.0 = run-starts _ _ 48 ((let by : Bytes (c.args.row.now) = typed (c.args.row.now) c.shared_slice_known-1.given in by)) (omega arith) c.run_at-2.ensures c.th-1.given.1 in th-run)).starts))
-    (omega (arith, (let role-next : c.role_field-1.given.0.1.0 ≡ c.args.at + length (role.print c.role_field-1.given.0.0) = took-next _ _ role role-lawful ((let by : Bytes (c.args.row.now) = typed (c.args.row.now) c.shared_slice_known-1.given in by)) ((let role-read : read_at role (c.args.row.now) (c.args.at) ≡ takes c.role_field-1.given.0.0 c.role_field-1.given.0.1.0 = learn role_says c.role_at-role_field.ensures c.role_field-1.given.1 in role-read)) (not-past _ _ role refl ((let role-read : read_at role (c.args.row.now) (c.args.at) ≡ takes c.role_field-1.given.0.0 c.role_field-1.given.0.1.0 = learn role_says c.role_at-role_field.ensures c.role_field-1.given.1 in role-read))) in role-next), (let mode-next : c.mode_field-1.given.0.0 ≡ ((field-yes (start).so ((let role-took : Took role (c.args.row.now) (c.args.at) c.role_field-1.given.0.0 c.role_field-1.given.0.1.0 = took _ _ role role-lawful ((let by : Bytes (c.args.row.now) = typed (c.args.row.now) c.shared_slice_known-1.given in by)) ((let role-read : read_at role (c.args.row.now) (c.args.at) ≡ takes c.role_field-1.given.0.0 c.role_field-1.given.0.1.0 = learn role_says c.role_at-role_field.ensures c.role_field-1.given.1 in role-read)) in role-took)))).here + length (mode.print tt) = took-next _ _ mode mode-lawful ((let by : Bytes (c.args.row.now) = typed (c.args.row.now) c.shared_slice_known-1.given in by)) ((let mode-read : read_at mode (c.args.row.now) ((field-yes (start).so ((let role-took : Took role (c.args.row.now) (c.args.at) c.role_field-1.given.0.0 c.role_field-1.given.0.1.0 = took _ _ role role-lawful ((let by : Bytes (c.args.row.now) = typed (c.args.row.now) c.shared_slice_known-1.given in by)) ((let role-read : read_at role (c.args.row.now) (c.args.at) ≡ takes c.role_field-1.given.0.0 c.role_field-1.given.0.1.0 = learn role_says c.role_at-role_field.ensures c.role_field-1.given.1 in role-read)) in role-took)))).here ≡ takes tt c.mode_field-1.given.0.0 = learn mode_says c.mode_at-mode_field.ensures c.mode_field-1.given.1 in mode-read)) ((let role-took : Took role (c.args.row.now) (c.args.at) c.role_field-1.given.0.0 c.role_field-1.given.0.1.0 = took _ _ role role-lawful ((let by : Bytes (c.args.row.now) = typed (c.args.row.now) c.shared_slice_known-1.given in by)) ((let role-read : read_at role (c.args.row.now) (c.args.at) ≡ takes c.role_field-1.given.0.0 c.role_field-1.given.0.1.0 = learn role_says c.role_at-role_field.ensures c.role_field-1.given.1 in role-read)) in role-took)).inside in mode-next), (let verification-next : c.verification_field-1.given.0.1.0 ≡ ((field-yes ((field-yes (start).so ((let role-took : Took role (c.args.row.now) (c.args.at) c.role_field-1.given.0.0 c.role_field-1.given.0.1.0 = took _ _ role role-lawful ((let by : Bytes (c.args.row.now) = typed (c.args.row.now) c.shared_slice_known-1.given in by)) ((let role-read : read_at role (c.args.row.now) (c.args.at) ≡ takes c.role_field-1.given.0.0 c.role_field-1.given.0.1.0 = learn role_says c.role_at-role_field.ensures c.role_field-1.given.1 in role-read)) in role-took)))).so ((let mode-took : Took mode (c.args.row.now) ((field-yes (start).so ((let role-took : Took role (c.args.row.now) (c.args.at) c.role_field-1.given.0.0 c.role_field-1.given.0.1.0 = took _ _ role role-lawful ((let by : Bytes (c.args.row.now) = typed (c.args.row.now) c.shared_slice_known-1.given in by)) ((let role-read : read_at role (c.args.row.now) (c.args.at) ≡ takes c.role_field-1.given.0.0 c.role_field-1.given.0.1.0 = learn role_says c.role_at-role_field.ensures c.role_field-1.given.1 in role-read)) in role-took)))).here tt c.mode_field-1.given.0.0 = took _ _ mode mode-lawful ((let by : Bytes (c.args.row.now) = typed (c.args.row.now) c.shared_slice_known-1.given in by)) ((let mode-read : read_at mode (c.args.row.now) ((field-yes (start).so ((let role-took : Took role (c.args.row.now) (c.args.at) c.role_field-1.given.0.0 c.role_field-1.given.0.1.0 = took _ _ role role-lawful ((let by : Bytes (c.args.row.now) = typed (c.args.row.now) c.shared_slice_known-1.given in by)) ((let role-read : read_at role (c.args.row.now) (c.args.at) ≡ takes c.role_field-1.given.0.0 c.role_field-1.given.0.1.0 = learn role_says c.role_at-role_field.ensures c.role_field-1.given.1 in role-read)) in role-took)))).here ≡ takes tt c.mode_field-1.given.0.0 = learn mode_says c.mode_at-mode_field.ensures c.mode_field-1.given.1 in mode-read)) in mode-took)))).here + length (verification.print c.verification_field-1.given.0.0) = took-next _ _ verification verification-lawful ((let by : Bytes (c.args.row.now) = typed (c.args.row.now) c.shared_slice_known-1.given in by)) ((let verification-read : read_at verification (c.args.row.now) ((field-yes ((field-yes (start).so ((let role-took : Took role (c.args.row.now) (c.args.at) c.role_field-1.given.0.0 c.role_field-1.given.0.1.0 = took _ _ role role-lawful ((let by : Bytes (c.args.row.now) = typed (c.args.row.now) c.shared_slice_known-1.given in by)) ((let role-read : read_at role (c.args.row.now) (c.args.at) ≡ takes c.role_field-1.given.0.0 c.role_field-1.given.0.1.0 = learn role_says c.role_at-role_field.ensures c.role_field-1.given.1 in role-read)) in role-took)))).so ((let mode-took : Took mode (c.args.row.now) ((field-yes (start).so ((let role-took : Took role (c.args.row.now) (c.args.at) c.role_field-1.given.0.0 c.role_field-1.given.0.1.0 = took _ _ role role-lawful ((let by : Bytes (c.args.row.now) = typed (c.args.row.now) c.shared_slice_known-1.given in by)) ((let role-read : read_at role (c.args.row.now) (c.args.at) ≡ takes c.role_field-1.given.0.0 c.role_field-1.given.0.1.0 = learn role_says c.role_at-role_field.ensures c.role_field-1.given.1 in role-read)) in role-took)))).here tt c.mode_field-1.given.0.0 = took _ _ mode mode-lawful ((let by : Bytes (c.args.row.now) = typed (c.args.row.now) c.shared_slice_known-1.given in by)) ((let mode-read : read_at mode (c.args.row.now) ((field-yes (start).so ((let role-took : Took role (c.args.row.now) (c.args.at) c.role_field-1.given.0.0 c.role_field-1.given.0.1.0 = took _ _ role role-lawful ((let by : Bytes (c.args.row.now) = typed (c.args.row.now) c.shared_slice_known-1.given in by)) ((let role-read : read_at role (c.args.row.now) (c.args.at) ≡ takes c.role_field-1.given.0.0 c.role_field-1.given.0.1.0 = learn role_says c.role_at-role_field.ensures c.role_field-1.given.1 in role-read)) in role-took)))).here ≡ takes tt c.mode_field-1.given.0.0 = learn mode_says c.mode_at-mode_field.ensures c.mode_field-1.given.1 in mode-read)) in mode-took)))).here ≡ takes c.verification_field-1.given.0.0 c.verification_field-1.given.0.1.0 = learn verification_says c.verification_at-verification_field.ensures c.verification_field-1.given.1 in verification-read)) ((let mode-took : Took mode (c.args.row.now) ((field-yes (start).so ((let role-took : Took role (c.args.row.now) (c.args.at) c.role_field-1.given.0.0 c.role_field-1.given.0.1.0 = took _ _ role role-lawful ((let by : Bytes (c.args.row.now) = typed (c.args.row.now) c.shared_slice_known-1.given in by)) ((let role-read : read_at role (c.args.row.now) (c.args.at) ≡ takes c.role_field-1.given.0.0 c.role_field-1.given.0.1.0 = learn role_says c.role_at-role_field.ensures c.role_field-1.given.1 in role-read)) in role-took)))).here tt c.mode_field-1.given.0.0 = took _ _ mode mode-lawful ((let by : Bytes (c.args.row.now) = typed (c.args.row.now) c.shared_slice_known-1.given in by)) ((let mode-read : read_at mode (c.args.row.now) ((field-yes (start).so ((let role-took : Took role (c.args.row.now) (c.args.at) c.role_field-1.given.0.0 c.role_field-1.given.0.1.0 = took _ _ role role-lawful ((let by : Bytes (c.args.row.now) = typed (c.args.row.now) c.shared_slice_known-1.given in by)) ((let role-read : read_at role (c.args.row.now) (c.args.at) ≡ takes c.role_field-1.given.0.0 c.role_field-1.given.0.1.0 = learn role_says c.role_at-role_field.ensures c.role_field-1.given.1 in role-read)) in role-took)))).here ≡ takes tt c.mode_field-1.given.0.0 = learn mode_says c.mode_at-mode_field.ensures c.mode_field-1.given.1 in mode-read)) in mode-took)).inside in verification-next), ((let pair-id-run : Run ((field-yes ((field-yes ((field-yes (start).so ((let role-took : Took role (c.args.row.now) (c.args.at) c.role_field-1.given.0.0 c.role_field-1.given.0.1.0 = took _ _ role role-lawful ((let by : Bytes (c.args.row.now) = typed (c.args.row.now) c.shared_slice_known-1.given in by)) ((let role-read : read_at role (c.args.row.now) (c.args.at) ≡ takes c.role_field-1.given.0.0 c.role_field-1.given.0.1.0 = learn role_says c.role_at-role_field.ensures c.role_field-1.given.1 in role-read)) in role-took)))).so ((let mode-took : Took mode (c.args.row.now) ((field-yes (start).so ((let role-took : Took role (c.args.row.now) (c.args.at) c.role_field-1.given.0.0 c.role_field-1.given.0.1.0 = took _ _ role role-lawful ((let by : Bytes (c.args.row.now) = typed (c.args.row.now) c.shared_slice_known-1.given in by)) ((let role-read : read_at role (c.args.row.now) (c.args.at) ≡ takes c.role_field-1.given.0.0 c.role_field-1.given.0.1.0 = learn role_says c.role_at-role_field.ensures c.role_field-1.given.1 in role-read)) in role-took)))).here tt c.mode_field-1.given.0.0 = took _ _ mode mode-lawful ((let by : Bytes (c.args.row.now) = typed (c.args.row.now) c.shared_slice_known-1.given in by)) ((let mode-read : read_at mode (c.args.row.now) ((field-yes (start).so ((let role-took : Took role (c.args.row.now) (c.args.at) c.role_field-1.given.0.0 c.role_field-1.given.0.1.0 = took _ _ role role-lawful ((let by : Bytes (c.args.row.now) = typed (c.args.row.now) c.shared_slice_known-1.given in by)) ((let role-read : read_at role (c.args.row.now) (c.args.at) ≡ takes c.role_field-1.given.0.0 c.role_field-1.given.0.1.0 = learn role_says c.role_at-role_field.ensures c.role_field-1.given.1 in role-read)) in role-took)))).here ≡ takes tt c.mode_field-1.given.0.0 = learn mode_says c.mode_at-mode_field.ensures c.mode_field-1.given.1 in mode-read)) in mode-took)))).so (took _ _ verification verification-lawful ((let by : Bytes (c.args.row.now) = typed (c.args.row.now) c.shared_slice_known-1.given in by)) ((let verification-read : read_at verification (c.args.row.now) ((field-yes ((field-yes (start).so ((let role-took : Took role (c.args.row.now) (c.args.at) c.role_field-1.given.0.0 c.role_field-1.given.0.1.0 = took _ _ role role-lawful ((let by : Bytes (c.args.row.now) = typed (c.args.row.now) c.shared_slice_known-1.given in by)) ((let role-read : read_at role (c.args.row.now) (c.args.at) ≡ takes c.role_field-1.given.0.0 c.role_field-1.given.0.1.0 = learn role_says c.role_at-role_field.ensures c.role_field-1.given.1 in role-read)) in role-took)))).so ((let mode-took : Took mode (c.args.row.now) ((field-yes (start).so ((let role-took : Took role (c.args.row.now) (c.args.at) c.role_field-1.given.0.0 c.role_field-1.given.0.1.0 = took _ _ role role-lawful ((let by : Bytes (c.args.row.now) = typed (c.args.row.now) c.shared_slice_known-1.given in by)) ((let role-read : read_at role (c.args.row.now) (c.args.at) ≡ takes c.role_field-1.given.0.0 c.role_field-1.given.0.1.0 = learn role_says c.role_at-role_field.ensures c.role_field-1.given.1 in role-read)) in role-took)))).here tt c.mode_field-1.given.0.0 = took _ _ mode mode-lawful ((let by : Bytes (c.args.row.now) = typed (c.args.row.now) c.shared_slice_known-1.given in by)) ((let mode-read : read_at mode (c.args.row.now) ((field-yes (start).so ((let role-took : Took role (c.args.row.now) (c.args.at) c.role_field-1.given.0.0 c.role_field-1.given.0.1.0 = took _ _ role role-lawful ((let by : Bytes (c.args.row.now) = typed (c.args.row.now) c.shared_slice_known-1.given in by)) ((let role-read : read_at role (c.args.row.now) (c.args.at) ≡ takes c.role_field-1.given.0.0 c.role_field-1.given.0.1.0 = learn role_says c.role_at-role_field.ensures c.role_field-1.given.1 in role-read)) in role-took)))).here ≡ takes tt c.mode_field-1.given.0.0 = learn mode_says c.mode_at-mode_field.ensures c.mode_field-1.given.1 in mode-read)) in mode-took)))).here ≡ takes c.verification_field-1.given.0.0 c.verification_field-1.given.0.1.0 = learn verification_says c.verification_at-verification_field.ensures c.verification_field-1.given.1 in verification-read))))).here (take 16 (drop c.pair_id-1.given.0.0 (c.args.row.now))) c.pair_id-1.given.0.0 c.pair_id-1.given.0.1.0 = run-starts _ _ 16 ((let by : Bytes (c.args.row.now) = typed (c.args.row.now) c.shared_slice_known-1.given in by)) (omega arith) c.run_at.ensures c.pair_id-1.given.1 in pair-id-run)).ends, ((let th-run : Run ((field-yes ((field-yes ((field-yes ((field-yes (start).so ((let role-took : Took role (c.args.row.now) (c.args.at) c.role_field-1.given.0.0 c.role_field-1.given.0.1.0 = took _ _ role role-lawful ((let by : Bytes (c.args.row.now) = typed (c.args.row.now) c.shared_slice_known-1.given in by)) ((let role-read : read_at role (c.args.row.now) (c.args.at) ≡ takes c.role_field-1.given.0.0 c.role_field-1.given.0.1.0 = learn role_says c.role_at-role_field.ensures c.role_field-1.given.1 in role-read)) in role-took)))).so ((let mode-took : Took mode (c.args.row.now) ((field-yes (start).so ((let role-took : Took role (c.args.row.now) (c.args.at) c.role_field-1.given.0.0 c.role_field-1.given.0.1.0 = took _ _ role role-lawful ((let by : Bytes (c.args.row.now) = typed (c.args.row.now) c.shared_slice_known-1.given in by)) ((let role-read : read_at role (c.args.row.now) (c.args.at) ≡ takes c.role_field-1.given.0.0 c.role_field-1.given.0.1.0 = learn role_says c.role_at-role_field.ensures c.role_field-1.given.1 in role-read)) in role-took)))).here tt c.mode_field-1.given.0.0 = took _ _ mode mode-lawful ((let by : Bytes (c.args.row.now) = typed (c.args.row.now) c.shared_slice_known-1.given in by)) ((let mode-read : read_at mode (c.args.row.now) ((field-yes (start).so ((let role-took : Took role (c.args.row.now) (c.args.at) c.role_field-1.given.0.0 c.role_field-1.given.0.1.0 = took _ _ role role-lawful ((let by : Bytes (c.args.row.now) = typed (c.args.row.now) c.shared_slice_known-1.given in by)) ((let role-read : read_at role (c.args.row.now) (c.args.at) ≡ takes c.role_field-1.given.0.0 c.role_field-1.given.0.1.0 = learn role_says c.role_at-role_field.ensures c.role_field-1.given.1 in role-read)) in role-took)))).here ≡ takes tt c.mode_field-1.given.0.0 = learn mode_says c.mode_at-mode_field.ensures c.mode_field-1.given.1 in mode-read)) in mode-took)))).so (took _ _ verification verification-lawful ((let by : Bytes (c.args.row.now) = typed (c.args.row.now) c.shared_slice_known-1.given in by)) ((let verification-read : read_at verification (c.args.row.now) ((field-yes ((field-yes (start).so ((let role-took : Took role (c.args.row.now) (c.args.at) c.role_field-1.given.0.0 c.role_field-1.given.0.1.0 = took _ _ role role-lawful ((let by : Bytes (c.args.row.now) = typed (c.args.row.now) c.shared_slice_known-1.given in by)) ((let role-read : read_at role (c.args.row.now) (c.args.at) ≡ takes c.role_field-1.given.0.0 c.role_field-1.given.0.1.0 = learn role_says c.role_at-role_field.ensures c.role_field-1.given.1 in role-read)) in role-took)))).so ((let mode-took : Took mode (c.args.row.now) ((field-yes (start).so ((let role-took : Took role (c.args.row.now) (c.args.at) c.role_field-1.given.0.0 c.role_field-1.given.0.1.0 = took _ _ role role-lawful ((let by : Bytes (c.args.row.now) = typed (c.args.row.now) c.shared_slice_known-1.given in by)) ((let role-read : read_at role (c.args.row.now) (c.args.at) ≡ takes c.role_field-1.given.0.0 c.role_field-1.given.0.1.0 = learn role_says c.role_at-role_field.ensures c.role_field-1.given.1 in role-read)) in role-took)))).here tt c.mode_field-1.given.0.0 = took _ _ mode mode-lawful ((let by : Bytes (c.args.row.now) = typed (c.args.row.now) c.shared_slice_known-1.given in by)) ((let mode-read : read_at mode (c.args.row.now) ((field-yes (start).so ((let role-took : Took role (c.args.row.now) (c.args.at) c.role_field-1.given.0.0 c.role_field-1.given.0.1.0 = took _ _ role role-lawful ((let by : Bytes (c.args.row.now) = typed (c.args.row.now) c.shared_slice_known-1.given in by)) ((let role-read : read_at role (c.args.row.now) (c.args.at) ≡ takes c.role_field-1.given.0.0 c.role_field-1.given.0.1.0 = learn role_says c.role_at-role_field.ensures c.role_field-1.given.1 in role-read)) in role-took)))).here ≡ takes tt c.mode_field-1.given.0.0 = learn mode_says c.mode_at-mode_field.ensures c.mode_field-1.given.1 in mode-read)) in mode-took)))).here ≡ takes c.verification_field-1.given.0.0 c.verification_field-1.given.0.1.0 = learn verification_says c.verification_at-verification_field.ensures c.verification_field-1.given.1 in verification-read))))).so (run-took _ _ plain 16 c.run_at.ensures.0 ((let by : Bytes (c.args.row.now) = typed (c.args.row.now) c.shared_slice_known-1.given in by)) c.pair_id-1.given.1))).here (take 48 (drop c.th-1.given.0.0 (c.args.row.now))) c.th-1.given.0.0 c.th-1.given.0.1.0 = run-starts _ _ 48 ((let by : Bytes (c.args.row.now) = typed (c.args.row.now) c.shared_slice_known-1.given in by)) (omega arith) c.run_at-2.ensures c.th-1.given.1 in th-run)).ends, ((let nonce-b-run : Run ((field-yes ((field-yes ((field-yes ((field-yes ((field-yes (start).so ((let role-took : Took role (c.args.row.now) (c.args.at) c.role_field-1.given.0.0 c.role_field-1.given.0.1.0 = took _ _ role role-lawful ((let by : Bytes (c.args.row.now) = typed (c.args.row.now) c.shared_slice_known-1.given in by)) ((let role-read : read_at role (c.args.row.now) (c.args.at) ≡ takes c.role_field-1.given.0.0 c.role_field-1.given.0.1.0 = learn role_says c.role_at-role_field.ensures c.role_field-1.given.1 in role-read)) in role-took)))).so ((let mode-took : Took mode (c.args.row.now) ((field-yes (start).so ((let role-took : Took role (c.args.row.now) (c.args.at) c.role_field-1.given.0.0 c.role_field-1.given.0.1.0 = took _ _ role role-lawful ((let by : Bytes (c.args.row.now) = typed (c.args.row.now) c.shared_slice_known-1.given in by)) ((let role-read : read_at role (c.args.row.now) (c.args.at) ≡ takes c.role_field-1.given.0.0 c.role_field-1.given.0.1.0 = learn role_says c.role_at-role_field.ensures c.role_field-1.given.1 in role-read)) in role-took)))).here tt c.mode_field-1.given.0.0 = took _ _ mode mode-lawful ((let by : Bytes (c.args.row.now) = typed (c.args.row.now) c.shared_slice_known-1.given in by)) ((let mode-read : read_at mode (c.args.row.now) ((field-yes (start).so ((let role-took : Took role (c.args.row.now) (c.args.at) c.role_field-1.given.0.0 c.role_field-1.given.0.1.0 = took _ _ role role-lawful ((let by : Bytes (c.args.row.now) = typed (c.args.row.now) c.shared_slice_known-1.given in by)) ((let role-read : read_at role (c.args.row.now) (c.args.at) ≡ takes c.role_field-1.given.0.0 c.role_field-1.given.0.1.0 = learn role_says c.role_at-role_field.ensures c.role_field-1.given.1 in role-read)) in role-took)))).here ≡ takes tt c.mode_field-1.given.0.0 = learn mode_says c.mode_at-mode_field.ensures c.mode_field-1.given.1 in mode-read)) in mode-took)))).so (took _ _ verification verification-lawful ((let by : Bytes (c.args.row.now) = typed (c.args.row.now) c.shared_slice_known-1.given in by)) ((let verification-read : read_at verification (c.args.row.now) ((field-yes ((field-yes (start).so ((let role-took : Took role (c.args.row.now) (c.args.at) c.role_field-1.given.0.0 c.role_field-1.given.0.1.0 = took _ _ role role-lawful ((let by : Bytes (c.args.row.now) = typed (c.args.row.now) c.shared_slice_known-1.given in by)) ((let role-read : read_at role (c.args.row.now) (c.args.at) ≡ takes c.role_field-1.given.0.0 c.role_field-1.given.0.1.0 = learn role_says c.role_at-role_field.ensures c.role_field-1.given.1 in role-read)) in role-took)))).so ((let mode-took : Took mode (c.args.row.now) ((field-yes (start).so ((let role-took : Took role (c.args.row.now) (c.args.at) c.role_field-1.given.0.0 c.role_field-1.given.0.1.0 = took _ _ role role-lawful ((let by : Bytes (c.args.row.now) = typed (c.args.row.now) c.shared_slice_known-1.given in by)) ((let role-read : read_at role (c.args.row.now) (c.args.at) ≡ takes c.role_field-1.given.0.0 c.role_field-1.given.0.1.0 = learn role_says c.role_at-role_field.ensures c.role_field-1.given.1 in role-read)) in role-took)))).here tt c.mode_field-1.given.0.0 = took _ _ mode mode-lawful ((let by : Bytes (c.args.row.now) = typed (c.args.row.now) c.shared_slice_known-1.given in by)) ((let mode-read : read_at mode (c.args.row.now) ((field-yes (start).so ((let role-took : Took role (c.args.row.now) (c.args.at) c.role_field-1.given.0.0 c.role_field-1.given.0.1.0 = took _ _ role role-lawful ((let by : Bytes (c.args.row.now) = typed (c.args.row.now) c.shared_slice_known-1.given in by)) ((let role-read : read_at role (c.args.row.now) (c.args.at) ≡ takes c.role_field-1.given.0.0 c.role_field-1.given.0.1.0 = learn role_says c.role_at-role_field.ensures c.role_field-1.given.1 in role-read)) in role-took)))).here ≡ takes tt c.mode_field-1.given.0.0 = learn mode_says c.mode_at-mode_field.ensures c.mode_field-1.given.1 in mode-read)) in mode-took)))).here ≡ takes c.verification_field-1.given.0.0 c.verification_field-1.given.0.1.0 = learn verification_says c.verification_at-verification_field.ensures c.verification_field-1.given.1 in verification-read))))).so (run-took _ _ plain 16 c.run_at.ensures.0 ((let by : Bytes (c.args.row.now) = typed (c.args.row.now) c.shared_slice_known-1.given in by)) c.pair_id-1.given.1))).so (run-took _ _ plain 48 c.run_at-2.ensures.0 ((let by : Bytes (c.args.row.now) = typed (c.args.row.now) c.shared_slice_known-1.given in by)) c.th-1.given.1))).here (take 16 (drop c.nonce_b-1.given.0.0 (c.args.row.now))) c.nonce_b-1.given.0.0 c.nonce_b-1.given.0.1.0 = run-starts _ _ 16 ((let by : Bytes (c.args.row.now) = typed (c.args.row.now) c.shared_slice_known-1.given in by)) (omega arith) c.run_at-3.ensures c.nonce_b-1.given.1 in nonce-b-run)).starts))
-    ((let card-read : Located (card_at ((field-yes ((field-yes ((field-yes ((field-yes ((field-yes ((field-yes (start).so ((let role-took : Took role (c.args.row.now) (c.args.at) c.role_field-1.given.0.0 c.role_field-1.given.0.1.0 = took _ _ role role-lawful ((let by : Bytes (c.args.row.now) = typed (c.args.row.now) c.shared_slice_known-1.given in by)) ((let role-read : read_at role (c.args.row.now) (c.args.at) ≡ takes c.role_field-1.given.0.0 c.role_field-1.given.0.1.0 = learn role_says c.role_at-role_field.ensures c.role_field-1.given.1 in role-read)) in role-took)))).so ((let mode-took : Took mode (c.args.row.now) ((field-yes (start).so ((let role-took : Took role (c.args.row.now) (c.args.at) c.role_field-1.given.0.0 c.role_field-1.given.0.1.0 = took _ _ role role-lawful ((let by : Bytes (c.args.row.now) = typed (c.args.row.now) c.shared_slice_known-1.given in by)) ((let role-read : read_at role (c.args.row.now) (c.args.at) ≡ takes c.role_field-1.given.0.0 c.role_field-1.given.0.1.0 = learn role_says c.role_at-role_field.ensures c.role_field-1.given.1 in role-read)) in role-took)))).here tt c.mode_field-1.given.0.0 = took _ _ mode mode-lawful ((let by : Bytes (c.args.row.now) = typed (c.args.row.now) c.shared_slice_known-1.given in by)) ((let mode-read : read_at mode (c.args.row.now) ((field-yes (start).so ((let role-took : Took role (c.args.row.now) (c.args.at) c.role_field-1.given.0.0 c.role_field-1.given.0.1.0 = took _ _ role role-lawful ((let by : Bytes (c.args.row.now) = typed (c.args.row.now) c.shared_slice_known-1.given in by)) ((let role-read : read_at role (c.args.row.now) (c.args.at) ≡ takes c.role_field-1.given.0.0 c.role_field-1.given.0.1.0 = learn role_says c.role_at-role_field.ensures c.role_field-1.given.1 in role-read)) in role-took)))).here ≡ takes tt c.mode_field-1.given.0.0 = learn mode_says c.mode_at-mode_field.ensures c.mode_field-1.given.1 in mode-read)) in mode-took)))).so (took _ _ verification verification-lawful ((let by : Bytes (c.args.row.now) = typed (c.args.row.now) c.shared_slice_known-1.given in by)) ((let verification-read : read_at verification (c.args.row.now) ((field-yes ((field-yes (start).so ((let role-took : Took role (c.args.row.now) (c.args.at) c.role_field-1.given.0.0 c.role_field-1.given.0.1.0 = took _ _ role role-lawful ((let by : Bytes (c.args.row.now) = typed (c.args.row.now) c.shared_slice_known-1.given in by)) ((let role-read : read_at role (c.args.row.now) (c.args.at) ≡ takes c.role_field-1.given.0.0 c.role_field-1.given.0.1.0 = learn role_says c.role_at-role_field.ensures c.role_field-1.given.1 in role-read)) in role-took)))).so ((let mode-took : Took mode (c.args.row.now) ((field-yes (start).so ((let role-took : Took role (c.args.row.now) (c.args.at) c.role_field-1.given.0.0 c.role_field-1.given.0.1.0 = took _ _ role role-lawful ((let by : Bytes (c.args.row.now) = typed (c.args.row.now) c.shared_slice_known-1.given in by)) ((let role-read : read_at role (c.args.row.now) (c.args.at) ≡ takes c.role_field-1.given.0.0 c.role_field-1.given.0.1.0 = learn role_says c.role_at-role_field.ensures c.role_field-1.given.1 in role-read)) in role-took)))).here tt c.mode_field-1.given.0.0 = took _ _ mode mode-lawful ((let by : Bytes (c.args.row.now) = typed (c.args.row.now) c.shared_slice_known-1.given in by)) ((let mode-read : read_at mode (c.args.row.now) ((field-yes (start).so ((let role-took : Took role (c.args.row.now) (c.args.at) c.role_field-1.given.0.0 c.role_field-1.given.0.1.0 = took _ _ role role-lawful ((let by : Bytes (c.args.row.now) = typed (c.args.row.now) c.shared_slice_known-1.given in by)) ((let role-read : read_at role (c.args.row.now) (c.args.at) ≡ takes c.role_field-1.given.0.0 c.role_field-1.given.0.1.0 = learn role_says c.role_at-role_field.ensures c.role_field-1.given.1 in role-read)) in role-took)))).here ≡ takes tt c.mode_field-1.given.0.0 = learn mode_says c.mode_at-mode_field.ensures c.mode_field-1.given.1 in mode-read)) in mode-took)))).here ≡ takes c.verification_field-1.given.0.0 c.verification_field-1.given.0.1.0 = learn verification_says c.verification_at-verification_field.ensures c.verification_field-1.given.1 in verification-read))))).so (run-took _ _ plain 16 c.run_at.ensures.0 ((let by : Bytes (c.args.row.now) = typed (c.args.row.now) c.shared_slice_known-1.given in by)) c.pair_id-1.given.1))).so (run-took _ _ plain 48 c.run_at-2.ensures.0 ((let by : Bytes (c.args.row.now) = typed (c.args.row.now) c.shared_slice_known-1.given in by)) c.th-1.given.1))).so (run-took _ _ plain 16 c.run_at-3.ensures.0 ((let by : Bytes (c.args.row.now) = typed (c.args.row.now) c.shared_slice_known-1.given in by)) c.nonce_b-1.given.1))).here) (read_at (sized (group card) CARD_END) (c.args.row.now) ((field-yes ((field-yes ((field-yes ((field-yes ((field-yes ((field-yes (start).so ((let role-took : Took role (c.args.row.now) (c.args.at) c.role_field-1.given.0.0 c.role_field-1.given.0.1.0 = took _ _ role role-lawful ((let by : Bytes (c.args.row.now) = typed (c.args.row.now) c.shared_slice_known-1.given in by)) ((let role-read : read_at role (c.args.row.now) (c.args.at) ≡ takes c.role_field-1.given.0.0 c.role_field-1.given.0.1.0 = learn role_says c.role_at-role_field.ensures c.role_field-1.given.1 in role-read)) in role-took)))).so ((let mode-took : Took mode (c.args.row.now) ((field-yes (start).so ((let role-took : Took role (c.args.row.now) (c.args.at) c.role_field-1.given.0.0 c.role_field-1.given.0.1.0 = took _ _ role role-lawful ((let by : Bytes (c.args.row.now) = typed (c.args.row.now) c.shared_slice_known-1.given in by)) ((let role-read : read_at role (c.args.row.now) (c.args.at) ≡ takes c.role_field-1.given.0.0 c.role_field-1.given.0.1.0 = learn role_says c.role_at-role_field.ensures c.role_field-1.given.1 in role-read)) in role-took)))).here tt c.mode_field-1.given.0.0 = took _ _ mode mode-lawful ((let by : Bytes (c.args.row.now) = typed (c.args.row.now) c.shared_slice_known-1.given in by)) ((let mode-read : read_at mode (c.args.row.now) ((field-yes (start).so ((let role-took : Took role (c.args.row.now) (c.args.at) c.role_field-1.given.0.0 c.role_field-1.given.0.1.0 = took _ _ role role-lawful ((let by : Bytes (c.args.row.now) = typed (c.args.row.now) c.shared_slice_known-1.given in by)) ((let role-read : read_at role (c.args.row.now) (c.args.at) ≡ takes c.role_field-1.given.0.0 c.role_field-1.given.0.1.0 = learn role_says c.role_at-role_field.ensures c.role_field-1.given.1 in role-read)) in role-took)))).here ≡ takes tt c.mode_field-1.given.0.0 = learn mode_says c.mode_at-mode_field.ensures c.mode_field-1.given.1 in mode-read)) in mode-took)))).so (took _ _ verification verification-lawful ((let by : Bytes (c.args.row.now) = typed (c.args.row.now) c.shared_slice_known-1.given in by)) ((let verification-read : read_at verification (c.args.row.now) ((field-yes ((field-yes (start).so ((let role-took : Took role (c.args.row.now) (c.args.at) c.role_field-1.given.0.0 c.role_field-1.given.0.1.0 = took _ _ role role-lawful ((let by : Bytes (c.args.row.now) = typed (c.args.row.now) c.shared_slice_known-1.given in by)) ((let role-read : read_at role (c.args.row.now) (c.args.at) ≡ takes c.role_field-1.given.0.0 c.role_field-1.given.0.1.0 = learn role_says c.role_at-role_field.ensures c.role_field-1.given.1 in role-read)) in role-took)))).so ((let mode-took : Took mode (c.args.row.now) ((field-yes (start).so ((let role-took : Took role (c.args.row.now) (c.args.at) c.role_field-1.given.0.0 c.role_field-1.given.0.1.0 = took _ _ role role-lawful ((let by : Bytes (c.args.row.now) = typed (c.args.row.now) c.shared_slice_known-1.given in by)) ((let role-read : read_at role (c.args.row.now) (c.args.at) ≡ takes c.role_field-1.given.0.0 c.role_field-1.given.0.1.0 = learn role_says c.role_at-role_field.ensures c.role_field-1.given.1 in role-read)) in role-took)))).here tt c.mode_field-1.given.0.0 = took _ _ mode mode-lawful ((let by : Bytes (c.args.row.now) = typed (c.args.row.now) c.shared_slice_known-1.given in by)) ((let mode-read : read_at mode (c.args.row.now) ((field-yes (start).so ((let role-took : Took role (c.args.row.now) (c.args.at) c.role_field-1.given.0.0 c.role_field-1.given.0.1.0 = took _ _ role role-lawful ((let by : Bytes (c.args.row.now) = typed (c.args.row.now) c.shared_slice_known-1.given in by)) ((let role-read : read_at role (c.args.row.now) (c.args.at) ≡ takes c.role_field-1.given.0.0 c.role_field-1.given.0.1.0 = learn role_says c.role_at-role_field.ensures c.role_field-1.given.1 in role-read)) in role-took)))).here ≡ takes tt c.mode_field-1.given.0.0 = learn mode_says c.mode_at-mode_field.ensures c.mode_field-1.given.1 in mode-read)) in mode-took)))).here ≡ takes c.verification_field-1.given.0.0 c.verification_field-1.given.0.1.0 = learn verification_says c.verification_at-verification_field.ensures c.verification_field-1.given.1 in verification-read))))).so (run-took _ _ plain 16 c.run_at.ensures.0 ((let by : Bytes (c.args.row.now) = typed (c.args.row.now) c.shared_slice_known-1.given in by)) c.pair_id-1.given.1))).so (run-took _ _ plain 48 c.run_at-2.ensures.0 ((let by : Bytes (c.args.row.now) = typed (c.args.row.now) c.shared_slice_known-1.given in by)) c.th-1.given.1))).so (run-took _ _ plain 16 c.run_at-3.ensures.0 ((let by : Bytes (c.args.row.now) = typed (c.args.row.now) c.shared_slice_known-1.given in by)) c.nonce_b-1.given.1))).here) c.card_field-1.given.0.0 c.card_field-1.given.0.1.0 = located-at (card_at _) _ (learn card_says c.card_at-card_field.ensures c.card_field-1.given.1) in card-read)).place
-    (omega (arith, (let role-next : c.role_field-1.given.0.1.0 ≡ c.args.at + length (role.print c.role_field-1.given.0.0) = took-next _ _ role role-lawful ((let by : Bytes (c.args.row.now) = typed (c.args.row.now) c.shared_slice_known-1.given in by)) ((let role-read : read_at role (c.args.row.now) (c.args.at) ≡ takes c.role_field-1.given.0.0 c.role_field-1.given.0.1.0 = learn role_says c.role_at-role_field.ensures c.role_field-1.given.1 in role-read)) (not-past _ _ role refl ((let role-read : read_at role (c.args.row.now) (c.args.at) ≡ takes c.role_field-1.given.0.0 c.role_field-1.given.0.1.0 = learn role_says c.role_at-role_field.ensures c.role_field-1.given.1 in role-read))) in role-next), (let mode-next : c.mode_field-1.given.0.0 ≡ ((field-yes (start).so ((let role-took : Took role (c.args.row.now) (c.args.at) c.role_field-1.given.0.0 c.role_field-1.given.0.1.0 = took _ _ role role-lawful ((let by : Bytes (c.args.row.now) = typed (c.args.row.now) c.shared_slice_known-1.given in by)) ((let role-read : read_at role (c.args.row.now) (c.args.at) ≡ takes c.role_field-1.given.0.0 c.role_field-1.given.0.1.0 = learn role_says c.role_at-role_field.ensures c.role_field-1.given.1 in role-read)) in role-took)))).here + length (mode.print tt) = took-next _ _ mode mode-lawful ((let by : Bytes (c.args.row.now) = typed (c.args.row.now) c.shared_slice_known-1.given in by)) ((let mode-read : read_at mode (c.args.row.now) ((field-yes (start).so ((let role-took : Took role (c.args.row.now) (c.args.at) c.role_field-1.given.0.0 c.role_field-1.given.0.1.0 = took _ _ role role-lawful ((let by : Bytes (c.args.row.now) = typed (c.args.row.now) c.shared_slice_known-1.given in by)) ((let role-read : read_at role (c.args.row.now) (c.args.at) ≡ takes c.role_field-1.given.0.0 c.role_field-1.given.0.1.0 = learn role_says c.role_at-role_field.ensures c.role_field-1.given.1 in role-read)) in role-took)))).here ≡ takes tt c.mode_field-1.given.0.0 = learn mode_says c.mode_at-mode_field.ensures c.mode_field-1.given.1 in mode-read)) ((let role-took : Took role (c.args.row.now) (c.args.at) c.role_field-1.given.0.0 c.role_field-1.given.0.1.0 = took _ _ role role-lawful ((let by : Bytes (c.args.row.now) = typed (c.args.row.now) c.shared_slice_known-1.given in by)) ((let role-read : read_at role (c.args.row.now) (c.args.at) ≡ takes c.role_field-1.given.0.0 c.role_field-1.given.0.1.0 = learn role_says c.role_at-role_field.ensures c.role_field-1.given.1 in role-read)) in role-took)).inside in mode-next), (let verification-next : c.verification_field-1.given.0.1.0 ≡ ((field-yes ((field-yes (start).so ((let role-took : Took role (c.args.row.now) (c.args.at) c.role_field-1.given.0.0 c.role_field-1.given.0.1.0 = took _ _ role role-lawful ((let by : Bytes (c.args.row.now) = typed (c.args.row.now) c.shared_slice_known-1.given in by)) ((let role-read : read_at role (c.args.row.now) (c.args.at) ≡ takes c.role_field-1.given.0.0 c.role_field-1.given.0.1.0 = learn role_says c.role_at-role_field.ensures c.role_field-1.given.1 in role-read)) in role-took)))).so ((let mode-took : Took mode (c.args.row.now) ((field-yes (start).so ((let role-took : Took role (c.args.row.now) (c.args.at) c.role_field-1.given.0.0 c.role_field-1.given.0.1.0 = took _ _ role role-lawful ((let by : Bytes (c.args.row.now) = typed (c.args.row.now) c.shared_slice_known-1.given in by)) ((let role-read : read_at role (c.args.row.now) (c.args.at) ≡ takes c.role_field-1.given.0.0 c.role_field-1.given.0.1.0 = learn role_says c.role_at-role_field.ensures c.role_field-1.given.1 in role-read)) in role-took)))).here tt c.mode_field-1.given.0.0 = took _ _ mode mode-lawful ((let by : Bytes (c.args.row.now) = typed (c.args.row.now) c.shared_slice_known-1.given in by)) ((let mode-read : read_at mode (c.args.row.now) ((field-yes (start).so ((let role-took : Took role (c.args.row.now) (c.args.at) c.role_field-1.given.0.0 c.role_field-1.given.0.1.0 = took _ _ role role-lawful ((let by : Bytes (c.args.row.now) = typed (c.args.row.now) c.shared_slice_known-1.given in by)) ((let role-read : read_at role (c.args.row.now) (c.args.at) ≡ takes c.role_field-1.given.0.0 c.role_field-1.given.0.1.0 = learn role_says c.role_at-role_field.ensures c.role_field-1.given.1 in role-read)) in role-took)))).here ≡ takes tt c.mode_field-1.given.0.0 = learn mode_says c.mode_at-mode_field.ensures c.mode_field-1.given.1 in mode-read)) in mode-took)))).here + length (verification.print c.verification_field-1.given.0.0) = took-next _ _ verification verification-lawful ((let by : Bytes (c.args.row.now) = typed (c.args.row.now) c.shared_slice_known-1.given in by)) ((let verification-read : read_at verification (c.args.row.now) ((field-yes ((field-yes (start).so ((let role-took : Took role (c.args.row.now) (c.args.at) c.role_field-1.given.0.0 c.role_field-1.given.0.1.0 = took _ _ role role-lawful ((let by : Bytes (c.args.row.now) = typed (c.args.row.now) c.shared_slice_known-1.given in by)) ((let role-read : read_at role (c.args.row.now) (c.args.at) ≡ takes c.role_field-1.given.0.0 c.role_field-1.given.0.1.0 = learn role_says c.role_at-role_field.ensures c.role_field-1.given.1 in role-read)) in role-took)))).so ((let mode-took : Took mode (c.args.row.now) ((field-yes (start).so ((let role-took : Took role (c.args.row.now) (c.args.at) c.role_field-1.given.0.0 c.role_field-1.given.0.1.0 = took _ _ role role-lawful ((let by : Bytes (c.args.row.now) = typed (c.args.row.now) c.shared_slice_known-1.given in by)) ((let role-read : read_at role (c.args.row.now) (c.args.at) ≡ takes c.role_field-1.given.0.0 c.role_field-1.given.0.1.0 = learn role_says c.role_at-role_field.ensures c.role_field-1.given.1 in role-read)) in role-took)))).here tt c.mode_field-1.given.0.0 = took _ _ mode mode-lawful ((let by : Bytes (c.args.row.now) = typed (c.args.row.now) c.shared_slice_known-1.given in by)) ((let mode-read : read_at mode (c.args.row.now) ((field-yes (start).so ((let role-took : Took role (c.args.row.now) (c.args.at) c.role_field-1.given.0.0 c.role_field-1.given.0.1.0 = took _ _ role role-lawful ((let by : Bytes (c.args.row.now) = typed (c.args.row.now) c.shared_slice_known-1.given in by)) ((let role-read : read_at role (c.args.row.now) (c.args.at) ≡ takes c.role_field-1.given.0.0 c.role_field-1.given.0.1.0 = learn role_says c.role_at-role_field.ensures c.role_field-1.given.1 in role-read)) in role-took)))).here ≡ takes tt c.mode_field-1.given.0.0 = learn mode_says c.mode_at-mode_field.ensures c.mode_field-1.given.1 in mode-read)) in mode-took)))).here ≡ takes c.verification_field-1.given.0.0 c.verification_field-1.given.0.1.0 = learn verification_says c.verification_at-verification_field.ensures c.verification_field-1.given.1 in verification-read)) ((let mode-took : Took mode (c.args.row.now) ((field-yes (start).so ((let role-took : Took role (c.args.row.now) (c.args.at) c.role_field-1.given.0.0 c.role_field-1.given.0.1.0 = took _ _ role role-lawful ((let by : Bytes (c.args.row.now) = typed (c.args.row.now) c.shared_slice_known-1.given in by)) ((let role-read : read_at role (c.args.row.now) (c.args.at) ≡ takes c.role_field-1.given.0.0 c.role_field-1.given.0.1.0 = learn role_says c.role_at-role_field.ensures c.role_field-1.given.1 in role-read)) in role-took)))).here tt c.mode_field-1.given.0.0 = took _ _ mode mode-lawful ((let by : Bytes (c.args.row.now) = typed (c.args.row.now) c.shared_slice_known-1.given in by)) ((let mode-read : read_at mode (c.args.row.now) ((field-yes (start).so ((let role-took : Took role (c.args.row.now) (c.args.at) c.role_field-1.given.0.0 c.role_field-1.given.0.1.0 = took _ _ role role-lawful ((let by : Bytes (c.args.row.now) = typed (c.args.row.now) c.shared_slice_known-1.given in by)) ((let role-read : read_at role (c.args.row.now) (c.args.at) ≡ takes c.role_field-1.given.0.0 c.role_field-1.given.0.1.0 = learn role_says c.role_at-role_field.ensures c.role_field-1.given.1 in role-read)) in role-took)))).here ≡ takes tt c.mode_field-1.given.0.0 = learn mode_says c.mode_at-mode_field.ensures c.mode_field-1.given.1 in mode-read)) in mode-took)).inside in verification-next), ((let pair-id-run : Run ((field-yes ((field-yes ((field-yes (start).so ((let role-took : Took role (c.args.row.now) (c.args.at) c.role_field-1.given.0.0 c.role_field-1.given.0.1.0 = took _ _ role role-lawful ((let by : Bytes (c.args.row.now) = typed (c.args.row.now) c.shared_slice_known-1.given in by)) ((let role-read : read_at role (c.args.row.now) (c.args.at) ≡ takes c.role_field-1.given.0.0 c.role_field-1.given.0.1.0 = learn role_says c.role_at-role_field.ensures c.role_field-1.given.1 in role-read)) in role-took)))).so ((let mode-took : Took mode (c.args.row.now) ((field-yes (start).so ((let role-took : Took role (c.args.row.now) (c.args.at) c.role_field-1.given.0.0 c.role_field-1.given.0.1.0 = took _ _ role role-lawful ((let by : Bytes (c.args.row.now) = typed (c.args.row.now) c.shared_slice_known-1.given in by)) ((let role-read : read_at role (c.args.row.now) (c.args.at) ≡ takes c.role_field-1.given.0.0 c.role_field-1.given.0.1.0 = learn role_says c.role_at-role_field.ensures c.role_field-1.given.1 in role-read)) in role-took)))).here tt c.mode_field-1.given.0.0 = took _ _ mode mode-lawful ((let by : Bytes (c.args.row.now) = typed (c.args.row.now) c.shared_slice_known-1.given in by)) ((let mode-read : read_at mode (c.args.row.now) ((field-yes (start).so ((let role-took : Took role (c.args.row.now) (c.args.at) c.role_field-1.given.0.0 c.role_field-1.given.0.1.0 = took _ _ role role-lawful ((let by : Bytes (c.args.row.now) = typed (c.args.row.now) c.shared_slice_known-1.given in by)) ((let role-read : read_at role (c.args.row.now) (c.args.at) ≡ takes c.role_field-1.given.0.0 c.role_field-1.given.0.1.0 = learn role_says c.role_at-role_field.ensures c.role_field-1.given.1 in role-read)) in role-took)))).here ≡ takes tt c.mode_field-1.given.0.0 = learn mode_says c.mode_at-mode_field.ensures c.mode_field-1.given.1 in mode-read)) in mode-took)))).so (took _ _ verification verification-lawful ((let by : Bytes (c.args.row.now) = typed (c.args.row.now) c.shared_slice_known-1.given in by)) ((let verification-read : read_at verification (c.args.row.now) ((field-yes ((field-yes (start).so ((let role-took : Took role (c.args.row.now) (c.args.at) c.role_field-1.given.0.0 c.role_field-1.given.0.1.0 = took _ _ role role-lawful ((let by : Bytes (c.args.row.now) = typed (c.args.row.now) c.shared_slice_known-1.given in by)) ((let role-read : read_at role (c.args.row.now) (c.args.at) ≡ takes c.role_field-1.given.0.0 c.role_field-1.given.0.1.0 = learn role_says c.role_at-role_field.ensures c.role_field-1.given.1 in role-read)) in role-took)))).so ((let mode-took : Took mode (c.args.row.now) ((field-yes (start).so ((let role-took : Took role (c.args.row.now) (c.args.at) c.role_field-1.given.0.0 c.role_field-1.given.0.1.0 = took _ _ role role-lawful ((let by : Bytes (c.args.row.now) = typed (c.args.row.now) c.shared_slice_known-1.given in by)) ((let role-read : read_at role (c.args.row.now) (c.args.at) ≡ takes c.role_field-1.given.0.0 c.role_field-1.given.0.1.0 = learn role_says c.role_at-role_field.ensures c.role_field-1.given.1 in role-read)) in role-took)))).here tt c.mode_field-1.given.0.0 = took _ _ mode mode-lawful ((let by : Bytes (c.args.row.now) = typed (c.args.row.now) c.shared_slice_known-1.given in by)) ((let mode-read : read_at mode (c.args.row.now) ((field-yes (start).so ((let role-took : Took role (c.args.row.now) (c.args.at) c.role_field-1.given.0.0 c.role_field-1.given.0.1.0 = took _ _ role role-lawful ((let by : Bytes (c.args.row.now) = typed (c.args.row.now) c.shared_slice_known-1.given in by)) ((let role-read : read_at role (c.args.row.now) (c.args.at) ≡ takes c.role_field-1.given.0.0 c.role_field-1.given.0.1.0 = learn role_says c.role_at-role_field.ensures c.role_field-1.given.1 in role-read)) in role-took)))).here ≡ takes tt c.mode_field-1.given.0.0 = learn mode_says c.mode_at-mode_field.ensures c.mode_field-1.given.1 in mode-read)) in mode-took)))).here ≡ takes c.verification_field-1.given.0.0 c.verification_field-1.given.0.1.0 = learn verification_says c.verification_at-verification_field.ensures c.verification_field-1.given.1 in verification-read))))).here (take 16 (drop c.pair_id-1.given.0.0 (c.args.row.now))) c.pair_id-1.given.0.0 c.pair_id-1.given.0.1.0 = run-starts _ _ 16 ((let by : Bytes (c.args.row.now) = typed (c.args.row.now) c.shared_slice_known-1.given in by)) (omega arith) c.run_at.ensures c.pair_id-1.given.1 in pair-id-run)).ends, ((let th-run : Run ((field-yes ((field-yes ((field-yes ((field-yes (start).so ((let role-took : Took role (c.args.row.now) (c.args.at) c.role_field-1.given.0.0 c.role_field-1.given.0.1.0 = took _ _ role role-lawful ((let by : Bytes (c.args.row.now) = typed (c.args.row.now) c.shared_slice_known-1.given in by)) ((let role-read : read_at role (c.args.row.now) (c.args.at) ≡ takes c.role_field-1.given.0.0 c.role_field-1.given.0.1.0 = learn role_says c.role_at-role_field.ensures c.role_field-1.given.1 in role-read)) in role-took)))).so ((let mode-took : Took mode (c.args.row.now) ((field-yes (start).so ((let role-took : Took role (c.args.row.now) (c.args.at) c.role_field-1.given.0.0 c.role_field-1.given.0.1.0 = took _ _ role role-lawful ((let by : Bytes (c.args.row.now) = typed (c.args.row.now) c.shared_slice_known-1.given in by)) ((let role-read : read_at role (c.args.row.now) (c.args.at) ≡ takes c.role_field-1.given.0.0 c.role_field-1.given.0.1.0 = learn role_says c.role_at-role_field.ensures c.role_field-1.given.1 in role-read)) in role-took)))).here tt c.mode_field-1.given.0.0 = took _ _ mode mode-lawful ((let by : Bytes (c.args.row.now) = typed (c.args.row.now) c.shared_slice_known-1.given in by)) ((let mode-read : read_at mode (c.args.row.now) ((field-yes (start).so ((let role-took : Took role (c.args.row.now) (c.args.at) c.role_field-1.given.0.0 c.role_field-1.given.0.1.0 = took _ _ role role-lawful ((let by : Bytes (c.args.row.now) = typed (c.args.row.now) c.shared_slice_known-1.given in by)) ((let role-read : read_at role (c.args.row.now) (c.args.at) ≡ takes c.role_field-1.given.0.0 c.role_field-1.given.0.1.0 = learn role_says c.role_at-role_field.ensures c.role_field-1.given.1 in role-read)) in role-took)))).here ≡ takes tt c.mode_field-1.given.0.0 = learn mode_says c.mode_at-mode_field.ensures c.mode_field-1.given.1 in mode-read)) in mode-took)))).so (took _ _ verification verification-lawful ((let by : Bytes (c.args.row.now) = typed (c.args.row.now) c.shared_slice_known-1.given in by)) ((let verification-read : read_at verification (c.args.row.now) ((field-yes ((field-yes (start).so ((let role-took : Took role (c.args.row.now) (c.args.at) c.role_field-1.given.0.0 c.role_field-1.given.0.1.0 = took _ _ role role-lawful ((let by : Bytes (c.args.row.now) = typed (c.args.row.now) c.shared_slice_known-1.given in by)) ((let role-read : read_at role (c.args.row.now) (c.args.at) ≡ takes c.role_field-1.given.0.0 c.role_field-1.given.0.1.0 = learn role_says c.role_at-role_field.ensures c.role_field-1.given.1 in role-read)) in role-took)))).so ((let mode-took : Took mode (c.args.row.now) ((field-yes (start).so ((let role-took : Took role (c.args.row.now) (c.args.at) c.role_field-1.given.0.0 c.role_field-1.given.0.1.0 = took _ _ role role-lawful ((let by : Bytes (c.args.row.now) = typed (c.args.row.now) c.shared_slice_known-1.given in by)) ((let role-read : read_at role (c.args.row.now) (c.args.at) ≡ takes c.role_field-1.given.0.0 c.role_field-1.given.0.1.0 = learn role_says c.role_at-role_field.ensures c.role_field-1.given.1 in role-read)) in role-took)))).here tt c.mode_field-1.given.0.0 = took _ _ mode mode-lawful ((let by : Bytes (c.args.row.now) = typed (c.args.row.now) c.shared_slice_known-1.given in by)) ((let mode-read : read_at mode (c.args.row.now) ((field-yes (start).so ((let role-took : Took role (c.args.row.now) (c.args.at) c.role_field-1.given.0.0 c.role_field-1.given.0.1.0 = took _ _ role role-lawful ((let by : Bytes (c.args.row.now) = typed (c.args.row.now) c.shared_slice_known-1.given in by)) ((let role-read : read_at role (c.args.row.now) (c.args.at) ≡ takes c.role_field-1.given.0.0 c.role_field-1.given.0.1.0 = learn role_says c.role_at-role_field.ensures c.role_field-1.given.1 in role-read)) in role-took)))).here ≡ takes tt c.mode_field-1.given.0.0 = learn mode_says c.mode_at-mode_field.ensures c.mode_field-1.given.1 in mode-read)) in mode-took)))).here ≡ takes c.verification_field-1.given.0.0 c.verification_field-1.given.0.1.0 = learn verification_says c.verification_at-verification_field.ensures c.verification_field-1.given.1 in verification-read))))).so (run-took _ _ plain 16 c.run_at.ensures.0 ((let by : Bytes (c.args.row.now) = typed (c.args.row.now) c.shared_slice_known-1.given in by)) c.pair_id-1.given.1))).here (take 48 (drop c.th-1.given.0.0 (c.args.row.now))) c.th-1.given.0.0 c.th-1.given.0.1.0 = run-starts _ _ 48 ((let by : Bytes (c.args.row.now) = typed (c.args.row.now) c.shared_slice_known-1.given in by)) (omega arith) c.run_at-2.ensures c.th-1.given.1 in th-run)).ends, ((let nonce-b-run : Run ((field-yes ((field-yes ((field-yes ((field-yes ((field-yes (start).so ((let role-took : Took role (c.args.row.now) (c.args.at) c.role_field-1.given.0.0 c.role_field-1.given.0.1.0 = took _ _ role role-lawful ((let by : Bytes (c.args.row.now) = typed (c.args.row.now) c.shared_slice_known-1.given in by)) ((let role-read : read_at role (c.args.row.now) (c.args.at) ≡ takes c.role_field-1.given.0.0 c.role_field-1.given.0.1.0 = learn role_says c.role_at-role_field.ensures c.role_field-1.given.1 in role-read)) in role-took)))).so ((let mode-took : Took mode (c.args.row.now) ((field-yes (start).so ((let role-took : Took role (c.args.row.now) (c.args.at) c.role_field-1.given.0.0 c.role_field-1.given.0.1.0 = took _ _ role role-lawful ((let by : Bytes (c.args.row.now) = typed (c.args.row.now) c.shared_slice_known-1.given in by)) ((let role-read : read_at role (c.args.row.now) (c.args.at) ≡ takes c.role_field-1.given.0.0 c.role_field-1.given.0.1.0 = learn role_says c.role_at-role_field.ensures c.role_field-1.given.1 in role-read)) in role-took)))).here tt c.mode_field-1.given.0.0 = took _ _ mode mode-lawful ((let by : Bytes (c.args.row.now) = typed (c.args.row.now) c.shared_slice_known-1.given in by)) ((let mode-read : read_at mode (c.args.row.now) ((field-yes (start).so ((let role-took : Took role (c.args.row.now) (c.args.at) c.role_field-1.given.0.0 c.role_field-1.given.0.1.0 = took _ _ role role-lawful ((let by : Bytes (c.args.row.now) = typed (c.args.row.now) c.shared_slice_known-1.given in by)) ((let role-read : read_at role (c.args.row.now) (c.args.at) ≡ takes c.role_field-1.given.0.0 c.role_field-1.given.0.1.0 = learn role_says c.role_at-role_field.ensures c.role_field-1.given.1 in role-read)) in role-took)))).here ≡ takes tt c.mode_field-1.given.0.0 = learn mode_says c.mode_at-mode_field.ensures c.mode_field-1.given.1 in mode-read)) in mode-took)))).so (took _ _ verification verification-lawful ((let by : Bytes (c.args.row.now) = typed (c.args.row.now) c.shared_slice_known-1.given in by)) ((let verification-read : read_at verification (c.args.row.now) ((field-yes ((field-yes (start).so ((let role-took : Took role (c.args.row.now) (c.args.at) c.role_field-1.given.0.0 c.role_field-1.given.0.1.0 = took _ _ role role-lawful ((let by : Bytes (c.args.row.now) = typed (c.args.row.now) c.shared_slice_known-1.given in by)) ((let role-read : read_at role (c.args.row.now) (c.args.at) ≡ takes c.role_field-1.given.0.0 c.role_field-1.given.0.1.0 = learn role_says c.role_at-role_field.ensures c.role_field-1.given.1 in role-read)) in role-took)))).so ((let mode-took : Took mode (c.args.row.now) ((field-yes (start).so ((let role-took : Took role (c.args.row.now) (c.args.at) c.role_field-1.given.0.0 c.role_field-1.given.0.1.0 = took _ _ role role-lawful ((let by : Bytes (c.args.row.now) = typed (c.args.row.now) c.shared_slice_known-1.given in by)) ((let role-read : read_at role (c.args.row.now) (c.args.at) ≡ takes c.role_field-1.given.0.0 c.role_field-1.given.0.1.0 = learn role_says c.role_at-role_field.ensures c.role_field-1.given.1 in role-read)) in role-took)))).here tt c.mode_field-1.given.0.0 = took _ _ mode mode-lawful ((let by : Bytes (c.args.row.now) = typed (c.args.row.now) c.shared_slice_known-1.given in by)) ((let mode-read : read_at mode (c.args.row.now) ((field-yes (start).so ((let role-took : Took role (c.args.row.now) (c.args.at) c.role_field-1.given.0.0 c.role_field-1.given.0.1.0 = took _ _ role role-lawful ((let by : Bytes (c.args.row.now) = typed (c.args.row.now) c.shared_slice_known-1.given in by)) ((let role-read : read_at role (c.args.row.now) (c.args.at) ≡ takes c.role_field-1.given.0.0 c.role_field-1.given.0.1.0 = learn role_says c.role_at-role_field.ensures c.role_field-1.given.1 in role-read)) in role-took)))).here ≡ takes tt c.mode_field-1.given.0.0 = learn mode_says c.mode_at-mode_field.ensures c.mode_field-1.given.1 in mode-read)) in mode-took)))).here ≡ takes c.verification_field-1.given.0.0 c.verification_field-1.given.0.1.0 = learn verification_says c.verification_at-verification_field.ensures c.verification_field-1.given.1 in verification-read))))).so (run-took _ _ plain 16 c.run_at.ensures.0 ((let by : Bytes (c.args.row.now) = typed (c.args.row.now) c.shared_slice_known-1.given in by)) c.pair_id-1.given.1))).so (run-took _ _ plain 48 c.run_at-2.ensures.0 ((let by : Bytes (c.args.row.now) = typed (c.args.row.now) c.shared_slice_known-1.given in by)) c.th-1.given.1))).here (take 16 (drop c.nonce_b-1.given.0.0 (c.args.row.now))) c.nonce_b-1.given.0.0 c.nonce_b-1.given.0.1.0 = run-starts _ _ 16 ((let by : Bytes (c.args.row.now) = typed (c.args.row.now) c.shared_slice_known-1.given in by)) (omega arith) c.run_at-3.ensures c.nonce_b-1.given.1 in nonce-b-run)).ends)))
+    (next} all inside is = ap (λ (place : PairedAt). Value place next) is ∙ sym (ap (paired_found c.args.at) (takes_at c.args.row.now c.args.at (group paired) all inside))) (done-yes r7.so) card-took.inside
+    (its-places c.args.at its
+    (omega (arith, role-next, mode-next, verification-next, pair-id-run.starts))
+    (omega (arith, role-next, mode-next, verification-next, pair-id-run.ends, th-run.starts))
+    (omega (arith, role-next, mode-next, verification-next, pair-id-run.ends, th-run.ends, nonce-b-run.starts))
+    card-read.place
+    (omega (arith, role-next, mode-next, verification-next, pair-id-run.ends, th-run.ends, nonce-b-run.ends)))

@@ -9,7 +9,7 @@ use Rattle.layout.specs.Form.{bytes}
 use Rattle.layout.specs.Layout.{group}
 use Rattle.layout.specs.RowLaws.{Bytes}
 use Rattle.layout.proofs.At.{Took, typed}
-use Rattle.layout.proofs.Steps.{start, field-yes, field-no, done-yes}
+use Rattle.layout.proofs.Steps.{Reached, start, field-yes, field-no, done-yes}
 use Rattle.rows.specs.Values.{Pending}
 use Rattle.rows.specs.Rows.{pending}
 use Rattle.fields.proofs.Runs.{run-took, run_short}
@@ -27,21 +27,32 @@ its-places from v chain-key-at msg-seed-at = λ i. (chain-key-at i, msg-seed-at 
 
 pub returns-in_default : goal.returns-in_default
 returns-in_default c =
-    let stop = field-no (start).so (run_short _ _ veiled 32 c.run_at.ensures.0 c.enum_told-1.given.1) in
+    let r0 : (Reached pending c.args.row.now c.args.at) = start in
+    let stop = field-no r0.so (run_short _ _ veiled 32 c.run_at.ensures.0 c.in_default.is) in
     locates-not _ _ (group pending) (pending_keys_at _) stop
 
 pub returns-in_default-run_at : goal.returns-in_default-run_at
 returns-in_default-run_at c =
-    let stop = field-no ((field-yes (start).so (run-took _ _ veiled 32 c.run_at.ensures.0 ((let by : Bytes (c.args.row.now) = typed (c.args.row.now) c.shared_slice_known-1.given in by)) c.chain_key-1.given.1))).so (run_short _ _ veiled 32 c.run_at-2.ensures.0 c.enum_told-in_default-run_at-1.given.1) in
+    let r0 : (Reached pending c.args.row.now c.args.at) = start in
+    let by : Bytes c.args.row.now = typed c.args.row.now c.type_inv.row in
+    let r1 : (Reached pending c.args.row.now c.args.at) = field-yes r0.so (run-took _ _ veiled 32 c.run_at.ensures.0 by c.in-Value.is) in
+    let stop = field-no r1.so (run_short _ _ veiled 32 c.run_at-2.ensures.0 c.in_default-run_at.is) in
     locates-not _ _ (group pending) (pending_keys_at _) stop
 
 pub returns : goal.returns
 returns c =
+    let r0 : (Reached pending c.args.row.now c.args.at) = start in
+    let by : Bytes c.args.row.now = typed c.args.row.now c.type_inv.row in
+    let r1 : (Reached pending c.args.row.now c.args.at) = field-yes r0.so (run-took _ _ veiled 32 c.run_at.ensures.0 by c.in-Value.is) in
+    let msg-seed-took : Took (bytes veiled 32) c.args.row.now r1.here (take 32 (drop c.in-Value-run_at.msg_seed c.args.row.now)) c.in-Value-run_at.at2 = run-took _ _ veiled 32 c.run_at-2.ensures.0 by c.in-Value-run_at.is in
+    let r2 : (Reached pending c.args.row.now c.args.at) = field-yes r1.so msg-seed-took in
+    let chain-key-run : Run c.args.at (take 32 (drop c.in-Value.chain_key c.args.row.now)) c.in-Value.chain_key c.in-Value.at1 = run-starts _ _ 32 by (omega arith) c.run_at.ensures c.in-Value.is in
+    let msg-seed-run : Run r1.here (take 32 (drop c.in-Value-run_at.msg_seed c.args.row.now)) c.in-Value-run_at.msg_seed c.in-Value-run_at.at2 = run-starts _ _ 32 by (omega arith) c.run_at-2.ensures c.in-Value-run_at.is in
     let its : Pending = record {
-      chain_key = take 32 (drop c.chain_key-1.given.0.0 (c.args.row.now));
-      msg_seed = take 32 (drop c.msg_seed-1.given.0.0 (c.args.row.now));
+      chain_key = take 32 (drop c.in-Value.chain_key c.args.row.now);
+      msg_seed = take 32 (drop c.in-Value-run_at.msg_seed c.args.row.now);
     } in
-    locates _ _ (group pending) (pending_keys_at _) {b = its} (done-yes ((field-yes ((field-yes (start).so (run-took _ _ veiled 32 c.run_at.ensures.0 ((let by : Bytes (c.args.row.now) = typed (c.args.row.now) c.shared_slice_known-1.given in by)) c.chain_key-1.given.1))).so ((let msg-seed-took : Took (bytes veiled 32) (c.args.row.now) ((field-yes (start).so (run-took _ _ veiled 32 c.run_at.ensures.0 ((let by : Bytes (c.args.row.now) = typed (c.args.row.now) c.shared_slice_known-1.given in by)) c.chain_key-1.given.1))).here (take 32 (drop c.msg_seed-1.given.0.0 (c.args.row.now))) c.msg_seed-1.given.0.1.0 = run-took _ _ veiled 32 c.run_at-2.ensures.0 ((let by : Bytes (c.args.row.now) = typed (c.args.row.now) c.shared_slice_known-1.given in by)) c.msg_seed-1.given.1 in msg-seed-took)))).so) ((let msg-seed-took : Took (bytes veiled 32) (c.args.row.now) ((field-yes (start).so (run-took _ _ veiled 32 c.run_at.ensures.0 ((let by : Bytes (c.args.row.now) = typed (c.args.row.now) c.shared_slice_known-1.given in by)) c.chain_key-1.given.1))).here (take 32 (drop c.msg_seed-1.given.0.0 (c.args.row.now))) c.msg_seed-1.given.0.1.0 = run-took _ _ veiled 32 c.run_at-2.ensures.0 ((let by : Bytes (c.args.row.now) = typed (c.args.row.now) c.shared_slice_known-1.given in by)) c.msg_seed-1.given.1 in msg-seed-took)).inside
-    (its-places (c.args.at) its
-    (omega (arith, ((let chain-key-run : Run (c.args.at) (take 32 (drop c.chain_key-1.given.0.0 (c.args.row.now))) c.chain_key-1.given.0.0 c.chain_key-1.given.0.1.0 = run-starts _ _ 32 ((let by : Bytes (c.args.row.now) = typed (c.args.row.now) c.shared_slice_known-1.given in by)) (omega arith) c.run_at.ensures c.chain_key-1.given.1 in chain-key-run)).starts))
-    (omega (arith, ((let chain-key-run : Run (c.args.at) (take 32 (drop c.chain_key-1.given.0.0 (c.args.row.now))) c.chain_key-1.given.0.0 c.chain_key-1.given.0.1.0 = run-starts _ _ 32 ((let by : Bytes (c.args.row.now) = typed (c.args.row.now) c.shared_slice_known-1.given in by)) (omega arith) c.run_at.ensures c.chain_key-1.given.1 in chain-key-run)).ends, ((let msg-seed-run : Run ((field-yes (start).so (run-took _ _ veiled 32 c.run_at.ensures.0 ((let by : Bytes (c.args.row.now) = typed (c.args.row.now) c.shared_slice_known-1.given in by)) c.chain_key-1.given.1))).here (take 32 (drop c.msg_seed-1.given.0.0 (c.args.row.now))) c.msg_seed-1.given.0.0 c.msg_seed-1.given.0.1.0 = run-starts _ _ 32 ((let by : Bytes (c.args.row.now) = typed (c.args.row.now) c.shared_slice_known-1.given in by)) (omega arith) c.run_at-2.ensures c.msg_seed-1.given.1 in msg-seed-run)).starts)))
+    locates _ _ (group pending) (pending_keys_at _) {b = its} (done-yes r2.so) msg-seed-took.inside
+    (its-places c.args.at its
+    (omega (arith, chain-key-run.starts))
+    (omega (arith, chain-key-run.ends, msg-seed-run.starts)))

@@ -6,5 +6,5 @@ use Rattle.received.proofs.close.Goals as goal
 
 pub returns : goal.returns
 returns c =
-    let a = g1.before.before.before.args in
+    let a = c.args in
     c.shift.ensures ∙ rw (c.get.ensures, c.get-b.ensures) (close-shifts a.d a.l.now (omega arith))

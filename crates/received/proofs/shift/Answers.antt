@@ -10,7 +10,7 @@ loop-j-init c = (omega arith, refl, refl, refl, over_none _ _)
 
 pub loop-j-preserved : goal.loop-j-preserved
 loop-j-preserved c =
-    let s = here.before.before.args in
+    let s = c.args in
     let long = length-shifted s.d s.from s.to s.l.now in (
       omega arith,
       simp length-set (omega arith),
