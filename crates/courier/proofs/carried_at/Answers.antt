@@ -161,6 +161,7 @@ returns-then-sealed_carried c =
     let expiry-min-next : c.in-Value-u32_at.at4 ≡ r3.here + length (u32.print c.in-Value-u32_at.expiry_min) = took-next _ _ u32 (number-lawful 4) by expiry-min-read c-took.inside in
     let copies-next : c.in-Value-byte_at.at5 ≡ r5.here + length (u8.print c.in-Value-byte_at.copies) = took-next _ _ u8 (number-lawful 1) by copies-read expiry-min-took.inside in
     let text = text-took veiled SEALED_LENGTH sealed_carried c.args.row.now r7.here copies-took.inside (sym c.sealed_carried.ensures ∙ c.if-sealed_carried.true) in
+    let r8 : Reached carried c.args.row.now c.args.at = field-yes r7.so text in
     let its : Carried = record {
       depositor = c.in-Value.depositor;
       tag = take 16 (drop c.in-Value-run_at.tag c.args.row.now);
@@ -169,7 +170,7 @@ returns-then-sealed_carried c =
       copies = c.in-Value-byte_at.copies;
       sealed = drop r7.here c.args.row.now;
     } in
-    locates _ _ (group carried) (carried_at _) {b = its} (done-yes (field-yes r7.so text).so) text.inside
+    locates _ _ (group carried) (carried_at _) {b = its} (done-yes r8.so) text.inside
     (its-places c.args.at its
     (omega (arith, depositor-next, tag-run.starts))
     (omega (arith, depositor-next, tag-run.ends, c-run.starts))

@@ -45,64 +45,78 @@ returns-in_default c =
 
 pub returns-in_default-carried : goal.returns-in_default-carried
 returns-in_default-carried c =
-    let kind-read : read_at kind_form ((let row : List ℕ = c.before.before.args.row.now in row)) 0 ≡ takes c.in-Value.kind c.in-Value.at = learn kind_says c.kind_at-code.ensures c.in-Value.is in
-    let is_carried : Took kind_form ((let row : List ℕ = c.before.before.args.row.now in row)) 0 Carried c.in-Value.at = (subst (λ (x : Kind). Took kind_form ((let row : List ℕ = c.before.before.args.row.now in row)) 0 x c.in-Value.at) c.in_default-kind.is
-    (took _ _ kind_form kind-lawful ((let by : Bytes ((let row : List ℕ = c.before.before.args.row.now in row)) = typed ((let row : List ℕ = c.before.before.args.row.now in row)) c.before.shared-slice-known.given in by)) kind-read)) in
+    let row : List ℕ = c.args.row.now in
+    let by : Bytes row = typed row c.type_inv.row in
+    let kind-read : read_at kind_form row 0 ≡ takes c.in-Value.kind c.in-Value.at = learn kind_says c.kind_at-code.ensures c.in-Value.is in
+    let is_carried : Took kind_form row 0 Carried c.in-Value.at = (subst (λ (x : Kind). Took kind_form row 0 x c.in-Value.at) c.in_default-kind.is
+    (took _ _ kind_form kind-lawful by kind-read)) in
     let r0 : (Reached (courier c.args.version) c.args.row.now 0) = start in
     let r1 : (Reached (courier c.args.version) c.args.row.now 0) = ask-yes r0.so (eq-eqb _ _ c.if-version-ne-BLOB_VERSION.false) in
     let told = c.in_default-carried.is in
-    let not = either-no-carried (group carried) (group tombstone) ((let row : List ℕ = c.before.before.args.row.now in row)) 0 is_carried
-    (refused-at _ _ (group carried) (located-not (carried_at _) _ (learn (carried_says ((let row : List ℕ = c.before.before.args.row.now in row))) c.carried_at-carried.ensures told))) in
+    let not = either-no-carried (group carried) (group tombstone) row 0 is_carried
+    (refused-at _ _ (group carried) (located-not (carried_at _) _ (learn (carried_says row) c.carried_at-carried.ensures told))) in
     rw (c.refusal-in_default-carried.ensures ∙ ap carried_refusal told) ((sym (ap check (field-no r1.so not))))
 
 pub returns-in_default-kind : goal.returns-in_default-kind
 returns-in_default-kind c =
+    let row : List ℕ = c.args.row.now in
+    let by : Bytes row = typed row c.type_inv.row in
     let r0 : (Reached (courier c.args.version) c.args.row.now 0) = start in
     let r1 : (Reached (courier c.args.version) c.args.row.now 0) = ask-yes r0.so (eq-eqb _ _ c.if-version-ne-BLOB_VERSION.false) in
-    let kind-read : read_at kind_form ((let row : List ℕ = c.before.before.args.row.now in row)) 0 ≡ takes c.in-Value.kind c.in-Value.at = learn kind_says c.kind_at-code.ensures c.in-Value.is in
-    let is_carried : Took kind_form ((let row : List ℕ = c.before.before.args.row.now in row)) 0 Carried c.in-Value.at = (subst (λ (x : Kind). Took kind_form ((let row : List ℕ = c.before.before.args.row.now in row)) 0 x c.in-Value.at) c.in_default-kind.is
-    (took _ _ kind_form kind-lawful ((let by : Bytes ((let row : List ℕ = c.before.before.args.row.now in row)) = typed ((let row : List ℕ = c.before.before.args.row.now in row)) c.before.shared-slice-known.given in by)) kind-read)) in
-    let kind-next : c.in-Value.at ≡ 1 = omega (arith, took-next _ _ kind_form kind-lawful ((let by : Bytes ((let row : List ℕ = c.before.before.args.row.now in row)) = typed ((let row : List ℕ = c.before.before.args.row.now in row)) c.before.shared-slice-known.given in by)) kind-read (omega arith)) in
-    let its = located-at (carried_at _) _ (learn (carried_says ((let row : List ℕ = c.before.before.args.row.now in row))) c.carried_at-carried.ensures c.in-Value-carried.is) in
-    let read = took _ _ (group carried) carried-lawful ((let by : Bytes ((let row : List ℕ = c.before.before.args.row.now in row)) = typed ((let row : List ℕ = c.before.before.args.row.now in row)) c.before.shared-slice-known.given in by)) its.read in
-    let all = field-yes r1.so (either-carried (group carried) (group tombstone) ((let row : List ℕ = c.before.before.args.row.now in row)) 0 is_carried read) in
+    let kind-read : read_at kind_form row 0 ≡ takes c.in-Value.kind c.in-Value.at = learn kind_says c.kind_at-code.ensures c.in-Value.is in
+    let is_carried : Took kind_form row 0 Carried c.in-Value.at = (subst (λ (x : Kind). Took kind_form row 0 x c.in-Value.at) c.in_default-kind.is
+    (took _ _ kind_form kind-lawful by kind-read)) in
+    let kind-next : c.in-Value.at ≡ 1 = omega (arith, took-next _ _ kind_form kind-lawful by kind-read (omega arith)) in
+    let its = located-at (carried_at _) _ (learn (carried_says row) c.carried_at-carried.ensures c.in-Value-carried.is) in
+    let read = took _ _ (group carried) carried-lawful by its.read in
+    let all = field-yes r1.so (either-carried (group carried) (group tombstone) row 0 is_carried read) in
+    let r2 = end-yes all.so (omega arith) in
     ap (λ (c : CarriedAt). Fields (held_at.Carried c)) (its.place ∙ ap (λ (from : ℕ). carried_at from its.value) kind-next)
-    ∙ sym (ap check (done-yes (end-yes all.so (omega arith)).so))
+    ∙ sym (ap check (done-yes r2.so))
 
 pub returns-in_default-tombstone_at : goal.returns-in_default-tombstone_at
 returns-in_default-tombstone_at c =
-    let kind-read : read_at kind_form ((let row : List ℕ = c.before.before.args.row.now in row)) 0 ≡ takes c.in-Value.kind c.in-Value.at = learn kind_says c.kind_at-code.ensures c.in-Value.is in
-    let is-tombstone : Took kind_form ((let row : List ℕ = c.before.before.args.row.now in row)) 0 Tombstone c.in-Value.at = (subst (λ (x : Kind). Took kind_form ((let row : List ℕ = c.before.before.args.row.now in row)) 0 x c.in-Value.at) c.in-Tombstone.is
-    (took _ _ kind_form kind-lawful ((let by : Bytes ((let row : List ℕ = c.before.before.args.row.now in row)) = typed ((let row : List ℕ = c.before.before.args.row.now in row)) c.before.shared-slice-known.given in by)) kind-read)) in
+    let row : List ℕ = c.args.row.now in
+    let by : Bytes row = typed row c.type_inv.row in
+    let kind-read : read_at kind_form row 0 ≡ takes c.in-Value.kind c.in-Value.at = learn kind_says c.kind_at-code.ensures c.in-Value.is in
+    let is-tombstone : Took kind_form row 0 Tombstone c.in-Value.at = (subst (λ (x : Kind). Took kind_form row 0 x c.in-Value.at) c.in-Tombstone.is
+    (took _ _ kind_form kind-lawful by kind-read)) in
     let r0 : (Reached (courier c.args.version) c.args.row.now 0) = start in
     let r1 : (Reached (courier c.args.version) c.args.row.now 0) = ask-yes r0.so (eq-eqb _ _ c.if-version-ne-BLOB_VERSION.false) in
-    let not = either-no-tombstone (group carried) (group tombstone) ((let row : List ℕ = c.before.before.args.row.now in row)) 0 is-tombstone
+    let not = either-no-tombstone (group carried) (group tombstone) row 0 is-tombstone
     (refused-at _ _ (group tombstone) (located-not (tombstone_at _) _ (learn tombstone_says c.tombstone_at.ensures c.in_default-tombstone_at.is))) in
     (sym (ap check (field-no r1.so not)))
 
 pub returns-then-next-row : goal.returns-then-next-row
 returns-then-next-row c =
-    let tombstone-read : Located (tombstone_at c.in-Value.at) (read_at (group tombstone) ((let row : List ℕ = c.before.before.args.row.now in row)) c.in-Value.at) c.in-Value-tombstone_at.held c.in-Value-tombstone_at.next = located-at (tombstone_at _) _ (learn tombstone_says c.tombstone_at.ensures c.in-Value-tombstone_at.is) in
+    let row : List ℕ = c.args.row.now in
+    let by : Bytes row = typed row c.type_inv.row in
+    let Came : Type 1 = Reached (courier c.args.version) row 0 in
+    let tombstone-read : Located (tombstone_at c.in-Value.at) (read_at (group tombstone) row c.in-Value.at) c.in-Value-tombstone_at.held c.in-Value-tombstone_at.next = located-at (tombstone_at _) _ (learn tombstone_says c.tombstone_at.ensures c.in-Value-tombstone_at.is) in
     let r0 : (Reached (courier c.args.version) c.args.row.now 0) = start in
     let r1 : (Reached (courier c.args.version) c.args.row.now 0) = ask-yes r0.so (eq-eqb _ _ c.if-version-ne-BLOB_VERSION.false) in
-    let kind-read : read_at kind_form ((let row : List ℕ = c.before.before.args.row.now in row)) 0 ≡ takes c.in-Value.kind c.in-Value.at = learn kind_says c.kind_at-code.ensures c.in-Value.is in
-    let is-tombstone : Took kind_form ((let row : List ℕ = c.before.before.args.row.now in row)) 0 Tombstone c.in-Value.at = (subst (λ (x : Kind). Took kind_form ((let row : List ℕ = c.before.before.args.row.now in row)) 0 x c.in-Value.at) c.in-Tombstone.is
-    (took _ _ kind_form kind-lawful ((let by : Bytes ((let row : List ℕ = c.before.before.args.row.now in row)) = typed ((let row : List ℕ = c.before.before.args.row.now in row)) c.before.shared-slice-known.given in by)) kind-read)) in
-    let r2 : (let Came : Type 1 = Reached (courier c.before.before.args.version) ((let row : List ℕ = c.before.before.args.row.now in row)) 0 in Came) = let its = took _ _ (group tombstone) tombstone-lawful ((let by : Bytes ((let row : List ℕ = c.before.before.args.row.now in row)) = typed ((let row : List ℕ = c.before.before.args.row.now in row)) c.before.shared-slice-known.given in by)) tombstone-read.read in
-    field-yes r1.so (either-tombstone (group carried) (group tombstone) ((let row : List ℕ = c.before.before.args.row.now in row)) 0 is-tombstone its) in
+    let kind-read : read_at kind_form row 0 ≡ takes c.in-Value.kind c.in-Value.at = learn kind_says c.kind_at-code.ensures c.in-Value.is in
+    let is-tombstone : Took kind_form row 0 Tombstone c.in-Value.at = (subst (λ (x : Kind). Took kind_form row 0 x c.in-Value.at) c.in-Tombstone.is
+    (took _ _ kind_form kind-lawful by kind-read)) in
+    let r2 : Came = let its = took _ _ (group tombstone) tombstone-lawful by tombstone-read.read in
+    field-yes r1.so (either-tombstone (group carried) (group tombstone) row 0 is-tombstone its) in
     (sym (ap check (end-no r2.so c.if-next-row.true)))
 
 pub returns : goal.returns
 returns c =
-    let tombstone-read : Located (tombstone_at c.in-Value.at) (read_at (group tombstone) ((let row : List ℕ = c.before.before.args.row.now in row)) c.in-Value.at) c.in-Value-tombstone_at.held c.in-Value-tombstone_at.next = located-at (tombstone_at _) _ (learn tombstone_says c.tombstone_at.ensures c.in-Value-tombstone_at.is) in
-    let kind-read : read_at kind_form ((let row : List ℕ = c.before.before.args.row.now in row)) 0 ≡ takes c.in-Value.kind c.in-Value.at = learn kind_says c.kind_at-code.ensures c.in-Value.is in
-    let kind-next : c.in-Value.at ≡ 1 = omega (arith, took-next _ _ kind_form kind-lawful ((let by : Bytes ((let row : List ℕ = c.before.before.args.row.now in row)) = typed ((let row : List ℕ = c.before.before.args.row.now in row)) c.before.shared-slice-known.given in by)) kind-read (omega arith)) in
+    let row : List ℕ = c.args.row.now in
+    let by : Bytes row = typed row c.type_inv.row in
+    let Came : Type 1 = Reached (courier c.args.version) row 0 in
+    let tombstone-read : Located (tombstone_at c.in-Value.at) (read_at (group tombstone) row c.in-Value.at) c.in-Value-tombstone_at.held c.in-Value-tombstone_at.next = located-at (tombstone_at _) _ (learn tombstone_says c.tombstone_at.ensures c.in-Value-tombstone_at.is) in
+    let kind-read : read_at kind_form row 0 ≡ takes c.in-Value.kind c.in-Value.at = learn kind_says c.kind_at-code.ensures c.in-Value.is in
+    let kind-next : c.in-Value.at ≡ 1 = omega (arith, took-next _ _ kind_form kind-lawful by kind-read (omega arith)) in
     let r0 : (Reached (courier c.args.version) c.args.row.now 0) = start in
     let r1 : (Reached (courier c.args.version) c.args.row.now 0) = ask-yes r0.so (eq-eqb _ _ c.if-version-ne-BLOB_VERSION.false) in
-    let is-tombstone : Took kind_form ((let row : List ℕ = c.before.before.args.row.now in row)) 0 Tombstone c.in-Value.at = (subst (λ (x : Kind). Took kind_form ((let row : List ℕ = c.before.before.args.row.now in row)) 0 x c.in-Value.at) c.in-Tombstone.is
-    (took _ _ kind_form kind-lawful ((let by : Bytes ((let row : List ℕ = c.before.before.args.row.now in row)) = typed ((let row : List ℕ = c.before.before.args.row.now in row)) c.before.shared-slice-known.given in by)) kind-read)) in
-    let r2 : (let Came : Type 1 = Reached (courier c.before.before.args.version) ((let row : List ℕ = c.before.before.args.row.now in row)) 0 in Came) = let its = took _ _ (group tombstone) tombstone-lawful ((let by : Bytes ((let row : List ℕ = c.before.before.args.row.now in row)) = typed ((let row : List ℕ = c.before.before.args.row.now in row)) c.before.shared-slice-known.given in by)) tombstone-read.read in
-    field-yes r1.so (either-tombstone (group carried) (group tombstone) ((let row : List ℕ = c.before.before.args.row.now in row)) 0 is-tombstone its) in
+    let is-tombstone : Took kind_form row 0 Tombstone c.in-Value.at = (subst (λ (x : Kind). Took kind_form row 0 x c.in-Value.at) c.in-Tombstone.is
+    (took _ _ kind_form kind-lawful by kind-read)) in
+    let r2 : Came = let its = took _ _ (group tombstone) tombstone-lawful by tombstone-read.read in
+    field-yes r1.so (either-tombstone (group carried) (group tombstone) row 0 is-tombstone its) in
+    let r3 : Came = end-yes r2.so c.if-next-row.false in
     let its = tombstone-read in
     ap (λ (t : TombstoneAt). Fields (held_at.Tombstone t)) (its.place ∙ ap (λ (from : ℕ). tombstone_at from its.value) kind-next)
-    ∙ sym (ap check (done-yes (end-yes r2.so c.if-next-row.false).so))
+    ∙ sym (ap check (done-yes r3.so))

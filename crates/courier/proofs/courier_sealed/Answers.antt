@@ -3,6 +3,3 @@ use Prim.Native.Nat.{ℕ}
 use mathlib.Core.Path.{ap, ◌∙◌}
 use lib.ListN.{drop}
 use Rattle.courier.proofs.courier_sealed.Goals as goal
-
-pub returns : goal.returns
-returns c = c.sealed_text.ensures ∙ ap (λ (n : ℕ). drop n c.args.row.now) c.sealed_at-from.ensures

@@ -1,4 +1,5 @@
 -- `courier::kind_at` meets its contract: the byte at the position, by its table.
+use Rattle.std.proofs.Common.{◌≡◌, ℕ, false, eqb, get_or, arith}
 use mathlib.Core.Path.{sym}
 use borrow.Author.Tests.{ne_eqb}
 use Rattle.layout.specs.Questions.{CODE}
@@ -14,7 +15,10 @@ returns-in-1 c = sym (letter-in _ _ CODE kind_of kind_byte c.if-at-row.true (rw 
 
 pub returns-in_default : goal.returns-in_default
 returns-in_default c =
-    sym (letter-no _ _ CODE kind_of kind_byte c.if-at-row.true (rw (ne_eqb _ _ c.in_default.rest.0.1, ne_eqb _ _ c.in_default.rest.1)))
+    let b : ℕ = get_or c.args.row.now c.args.at 0 in
+    let n0 : eqb b 0 ≡ false = ne_eqb b 0 (λ e. omega arith) in
+    let n1 : eqb b 1 ≡ false = ne_eqb b 1 (λ e. omega arith) in
+    sym (letter-no _ _ CODE kind_of kind_byte c.if-at-row.true (rw (n0, n1)))
 
 pub returns-else-at-row : goal.returns-else-at-row
 returns-else-at-row c = sym (letter-out _ _ CODE kind_of kind_byte c.if-at-row.false)
