@@ -25,8 +25,3 @@ returns-in-2 c =
 pub returns-in-3 : goal.returns-in-3
 returns-in-3 c =
     (let a = c.args in entry_turn-as a.run.now a.e a.c a.i a.p a.first a.owner courier c.in-Going.is (ap kind_of c.in-3.is) c.courier_turn.ensures)
-
-pub returns-in_default-kind : goal.returns-in_default-kind
-returns-in_default-kind c =
-    let r = c.in_default-kind.rest in
-    (let a = c.args in entry_turn-as a.run.now a.e a.c a.i a.p a.first a.owner unknown c.in-Going.is (no_kind c.args.e.kind r.0.0.0.1 r.0.0.1 r.0.1 r.1) refl)

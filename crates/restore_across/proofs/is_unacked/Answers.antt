@@ -48,7 +48,7 @@ returns-then-number-msgno c =
     let long : length numbers ≡ c.args.owner.count = counted c.args.row.now c.args.owner.unacked c.args.owner.count c.requires.stands in
     let inside : middle < length numbers = omega (arith, long) in
     let here : let a = c.args in NumberAt a.row.now a.owner.unacked a.owner.count middle = number_at c.args.row.now c.args.owner.unacked c.args.owner.count c.requires.stands middle (omega arith) in
-    let read : c.in-Value.number ≡ get_or ((let numbers : List ℕ = unacked_at c.before.before.before.args.row.now c.before.before.before.args.owner in numbers)) middle 0 = number_is here (learn u32_says c.u32_at.ensures c.in-Value.is) in
+    let read : c.in-Value.number ≡ get_or numbers middle 0 = number_is here (learn u32_says c.u32_at.ensures c.in-Value.is) in
     among c.args.msgno numbers middle inside (sym c.if-number-msgno.true ∙ read)
 
 pub overflow_add-low : goal.overflow_add-low
@@ -64,9 +64,9 @@ loop-low-preserved-then-number-msgno-2 c =
     let long : length numbers ≡ c.args.owner.count = counted c.args.row.now c.args.owner.unacked c.args.owner.count c.requires.stands in
     let inside : middle < length numbers = omega (arith, long) in
     let here : let a = c.args in NumberAt a.row.now a.owner.unacked a.owner.count middle = number_at c.args.row.now c.args.owner.unacked c.args.owner.count c.requires.stands middle (omega arith) in
-    let read : c.in-Value.number ≡ get_or ((let numbers : List ℕ = unacked_at c.before.before.before.args.row.now c.before.before.before.args.owner in numbers)) middle 0 = number_is here (learn u32_says c.u32_at.ensures c.in-Value.is) in
+    let read : c.in-Value.number ≡ get_or numbers middle 0 = number_is here (learn u32_says c.u32_at.ensures c.in-Value.is) in
     let found = c.requires in
-    (c.loop-low.inv.0, upper c.loop-low.inv.1 1 found.highest found.rises middle inside (omega (arith, read)))
+    (c.loop-low.invariant.0, upper c.loop-low.invariant.1 1 found.highest found.rises middle inside (omega (arith, read)))
 
 pub loop-low-preserved : goal.loop-low-preserved
 loop-low-preserved c =
@@ -75,9 +75,9 @@ loop-low-preserved c =
     let long : length numbers ≡ c.args.owner.count = counted c.args.row.now c.args.owner.unacked c.args.owner.count c.requires.stands in
     let inside : middle < length numbers = omega (arith, long) in
     let here : let a = c.args in NumberAt a.row.now a.owner.unacked a.owner.count middle = number_at c.args.row.now c.args.owner.unacked c.args.owner.count c.requires.stands middle (omega arith) in
-    let read : c.in-Value.number ≡ get_or ((let numbers : List ℕ = unacked_at c.before.before.before.args.row.now c.before.before.before.args.owner in numbers)) middle 0 = number_is here (learn u32_says c.u32_at.ensures c.in-Value.is) in
+    let read : c.in-Value.number ≡ get_or numbers middle 0 = number_is here (learn u32_says c.u32_at.ensures c.in-Value.is) in
     let found = c.requires in
-    (omega arith, lower c.loop-low.inv.1 1 found.highest found.rises middle inside (omega (arith, read)))
+    (omega arith, lower c.loop-low.invariant.1 1 found.highest found.rises middle inside (omega (arith, read)))
 
 pub returns : goal.returns
 returns c = nowhere c.loop-low.invariant.1 c.loop-low-test.false
