@@ -2,7 +2,7 @@
 -- Assumes nothing.
 use Rattle.std.specs.Prelude.{ℕ, ◌*◌, ◌≤◌, List, Bool, false, cond, length}
 use Rattle.std.proofs.Math.Option.{Option, none, some}
-use Rattle.std.specs.Borrow.{Bor}
+use Rattle.std.specs.Borrow.{MutBor}
 use denote.Triple.Both.{Both}
 use Rattle.layout.specs.Questions.{LISTS}
 use Rattle.layout.specs.Veil.{zeros}
@@ -51,7 +51,7 @@ counts_of c = counts c.chains c.skipped c.above c.unacked c.expired
 
 -- a slice of numbers that a function is lent, as its contract sees it: at entry and at exit
 abbrev pub Slice : Type 0
-Slice = Both (Bor (List ℕ)) (Bor (List ℕ))
+Slice = Both (MutBor (List ℕ)) (MutBor (List ℕ))
 
 -- the five lists before the function ran, and after it
 abbrev pub lists_before : (chains skipped above unacked expired : Slice) → Lists

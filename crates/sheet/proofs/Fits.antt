@@ -4,7 +4,7 @@ use Prim.Native.Nat.{ℕ, zero, suc, ◌+◌, ◌*◌, ◌≤◌, ◌<◌}
 use mathlib.Core.List.{List, [], ◌∷◌, ◌++◌}
 use mathlib.Core.Bool.{Bool, true, false, cond, ◌&&◌}
 use mathlib.Core.Option.{Option, none, some}
-use mathlib.Core.Path.{◌≡◌, refl}
+use mathlib.Core.Path.{◌≡◌, refl, sym, subst}
 use native.Mathlib.Omega.{arith}
 use native.Mathlib.Nat.{zero-add}
 use lib.ListN.{length, get_or, length-append}
@@ -165,7 +165,7 @@ module _ (room : Room) where
       record {
         few_bytes = rw long g.few_bytes;
         few-lines = omega (arith, g.few-lines);
-        entries_fit = rw long (e u (length blob) (u + length blob + length more) (omega arith), g.entries_fit);
+        entries_fit = subst (λ (n : ℕ). AllFit n (entry_of kind ns u (length blob) ∷ es)) (sym long) (e u (length blob) (u + length blob + length more) (omega arith), g.entries_fit);
         run-bytes = bytes-append blob more f g.run-bytes;
       }
 

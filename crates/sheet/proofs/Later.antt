@@ -92,11 +92,11 @@ module _ (room : Room) (qs : List (List ℕ)) (some-qs : Some qs) where
 
   behind : (ls : List (List ℕ)) → Some ls → (k u : ℕ) → Behind k u (said_from room k u ls) (said_from room k u (glued ls qs))
   unfolding sheet.said_from glued
+  behind [] x' k u = elim x' [ ]
   behind ([] ∷ []) some-part k u = rw (glued-none qs some-qs) (none-behind k u)
   behind ((b ∷ bs) ∷ []) some-part k u = tt
   behind (l ∷ m ∷ ls) some-part k u =
       rw (said-step k u l (glued (m ∷ ls) qs) (glued-some (m ∷ ls) qs some-part)) (go (line_of l) (λ v. behind (m ∷ ls) some-part (suc k) v))
-  behind [] x' k u = elim x' [ ]
     where
       Later : Type 0
       Later = (v : ℕ) → Behind (suc k) v (said_from room (suc k) v (m ∷ ls)) (said_from room (suc k) v (glued (m ∷ ls) qs))

@@ -3,7 +3,7 @@
 use Rattle.calls.proofs.opened_id.Goals as goal
 
 pub returns-in-Fresh : goal.returns-in-Fresh
-returns-in-Fresh c = rw c.enum_told-1.given.1
+returns-in-Fresh c = rw c.in-Fresh.is
 
 pub returns-in-Restored : goal.returns-in-Restored
-returns-in-Restored c = rw c.enum_told-in-Restored-1.given.1
+returns-in-Restored c = rw c.in-Restored.is

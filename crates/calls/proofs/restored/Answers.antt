@@ -6,8 +6,8 @@ use Rattle.calls.proofs.restored.Goals as goal
 
 pub returns-in-Granted : goal.returns-in-Granted
 returns-in-Granted c =
-    let a = c.args in λ i. record { answer = a.answer; mark = mark_after (sym c.enum_told-1.given.1 i) a.mark }
+    let a = c.args in λ i. record { answer = a.answer; mark = mark_after (sym c.in-Granted.is i) a.mark }
 
 pub returns-in-Refused : goal.returns-in-Refused
 returns-in-Refused c =
-    let a = c.args in λ i. record { answer = a.answer; mark = mark_after (sym c.enum_told-in-Refused-1.given.1 i) a.mark }
+    let a = c.args in λ i. record { answer = a.answer; mark = mark_after (sym c.in-Refused.is i) a.mark }

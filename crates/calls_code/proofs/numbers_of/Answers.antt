@@ -3,22 +3,22 @@
 use Rattle.calls_code.proofs.numbers_of.Goals as goal
 
 pub returns-in-Yes : goal.returns-in-Yes
-returns-in-Yes c = λ out. rw (c.enum_told-1.given.1, c.tagged.ensures)
+returns-in-Yes c = λ out. rw (c.in-Yes.is, c.tagged.ensures)
 
 pub returns-in-Advanced : goal.returns-in-Advanced
-returns-in-Advanced c = λ out. rw (c.answer-1.given.1, c.tagged-in-Advanced.ensures, c.bit.ensures)
+returns-in-Advanced c = λ out. rw (c.in-Advanced.is, c.tagged-in-Advanced.ensures, c.bit.ensures)
 
 pub returns-in-Truth : goal.returns-in-Truth
-returns-in-Truth c = λ out. rw (c.answer-in-Truth-1.given.1, c.tagged-in-Truth.ensures, c.bit-in-Truth.ensures)
+returns-in-Truth c = λ out. rw (c.in-Truth.is, c.tagged-in-Truth.ensures, c.bit-in-Truth.ensures)
 
 pub returns-in-Number : goal.returns-in-Number
-returns-in-Number c = λ out. rw (c.answer-in-Number-1.given.1, c.tagged-in-Number.ensures, c.wide.ensures.0)
+returns-in-Number c = λ out. rw (c.in-Number.is, c.tagged-in-Number.ensures, c.wide.ensures.0)
 
 pub returns-in-Wrote : goal.returns-in-Wrote
-returns-in-Wrote c = λ out. rw (c.answer-in-Wrote-1.given.1, c.tagged-in-Wrote.ensures)
+returns-in-Wrote c = λ out. rw (c.in-Wrote.is, c.tagged-in-Wrote.ensures)
 
 pub returns-in-Said : goal.returns-in-Said
-returns-in-Said c = λ out. rw (c.answer-in-Said-1.given.1, c.tagged-in-Said.ensures)
+returns-in-Said c = λ out. rw (c.in-Said.is, c.tagged-in-Said.ensures)
 
 pub returns-in-No : goal.returns-in-No
-returns-in-No c = λ out. rw (c.answer-in-No-1.given.1, c.tagged-in-No.ensures)
+returns-in-No c = λ out. rw (c.in-No.is, c.tagged-in-No.ensures)

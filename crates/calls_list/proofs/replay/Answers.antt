@@ -19,7 +19,7 @@ loop-i-init c =
 
 pub shape_of-chains-then-not-left : goal.shape_of-chains-then-not-left
 shape_of-chains-then-not-left c =
-    ((let still : (length c.one-left.new.1.1.1.1.0 ≡ length (((c).before.before).before.before.before.before.before.before.before.before.before.before.before).args.chains.now) × (length c.one-left.new.1.1.1.1.1.0 ≡ length (((c).before.before).before.before.before.before.before.before.before.before.before.before.before).args.skipped.now) × (length c.one-left.new.1.1.1.1.1.1.0 ≡ length (((c).before.before).before.before.before.before.before.before.before.before.before.before.before).args.above.now) × (length c.one-left.new.1.1.1.1.1.1.1.0 ≡ length (((c).before.before).before.before.before.before.before.before.before.before.before.before.before).args.unacked.now) × (length c.one-left.new.1.1.1.1.1.1.1.1.0 ≡ length (((c).before.before).before.before.before.before.before.before.before.before.before.before.before).args.expired.now) × (length c.one-left.new.1.1.1.1.1.1.1.1.1.0 ≡ length (((c).before.before).before.before.before.before.before.before.before.before.before.before.before).args.out.now) = let at = (c).before in
+    let still : (length c.one-left.new.1.1.1.1.0 ≡ length c.before.before.before.before.before.before.before.before.before.before.before.before.before.args.chains.now) × (length c.one-left.new.1.1.1.1.1.0 ≡ length c.before.before.before.before.before.before.before.before.before.before.before.before.before.args.skipped.now) × (length c.one-left.new.1.1.1.1.1.1.0 ≡ length c.before.before.before.before.before.before.before.before.before.before.before.before.before.args.above.now) × (length c.one-left.new.1.1.1.1.1.1.1.0 ≡ length c.before.before.before.before.before.before.before.before.before.before.before.before.before.args.unacked.now) × (length c.one-left.new.1.1.1.1.1.1.1.1.0 ≡ length c.before.before.before.before.before.before.before.before.before.before.before.before.before.args.expired.now) × (length c.one-left.new.1.1.1.1.1.1.1.1.1.0 ≡ length c.before.before.before.before.before.before.before.before.before.before.before.before.before.args.out.now) = let at = c.before in
     let kept = c.one-left.auto in (
       omega (arith, kept.1.1.1.1.0, at.loop.inv.4),
       omega (arith, kept.1.1.1.1.1.0, at.loop.inv.5),
@@ -27,11 +27,12 @@ shape_of-chains-then-not-left c =
       omega (arith, kept.1.1.1.1.1.1.1.0, at.loop.inv.7),
       omega (arith, kept.1.1.1.1.1.1.1.1.0, at.loop.inv.8),
       omega (arith, kept.1.1.1.1.1.1.1.1.1.0, at.loop.inv.9),
-    ) in still)).0
+    ) in
+    still.0
 
 pub shape_of-skipped-then-not-left : goal.shape_of-skipped-then-not-left
 shape_of-skipped-then-not-left c =
-    ((let still : (length c.one-left.new.1.1.1.1.0 ≡ length (((c).before.before).before.before.before.before.before.before.before.before.before.before.before).args.chains.now) × (length c.one-left.new.1.1.1.1.1.0 ≡ length (((c).before.before).before.before.before.before.before.before.before.before.before.before.before).args.skipped.now) × (length c.one-left.new.1.1.1.1.1.1.0 ≡ length (((c).before.before).before.before.before.before.before.before.before.before.before.before.before).args.above.now) × (length c.one-left.new.1.1.1.1.1.1.1.0 ≡ length (((c).before.before).before.before.before.before.before.before.before.before.before.before.before).args.unacked.now) × (length c.one-left.new.1.1.1.1.1.1.1.1.0 ≡ length (((c).before.before).before.before.before.before.before.before.before.before.before.before.before).args.expired.now) × (length c.one-left.new.1.1.1.1.1.1.1.1.1.0 ≡ length (((c).before.before).before.before.before.before.before.before.before.before.before.before.before).args.out.now) = let at = (c).before in
+    let still : (length c.one-left.new.1.1.1.1.0 ≡ length c.before.before.before.before.before.before.before.before.before.before.before.before.before.args.chains.now) × (length c.one-left.new.1.1.1.1.1.0 ≡ length c.before.before.before.before.before.before.before.before.before.before.before.before.before.args.skipped.now) × (length c.one-left.new.1.1.1.1.1.1.0 ≡ length c.before.before.before.before.before.before.before.before.before.before.before.before.before.args.above.now) × (length c.one-left.new.1.1.1.1.1.1.1.0 ≡ length c.before.before.before.before.before.before.before.before.before.before.before.before.before.args.unacked.now) × (length c.one-left.new.1.1.1.1.1.1.1.1.0 ≡ length c.before.before.before.before.before.before.before.before.before.before.before.before.before.args.expired.now) × (length c.one-left.new.1.1.1.1.1.1.1.1.1.0 ≡ length c.before.before.before.before.before.before.before.before.before.before.before.before.before.args.out.now) = let at = c.before in
     let kept = c.one-left.auto in (
       omega (arith, kept.1.1.1.1.0, at.loop.inv.4),
       omega (arith, kept.1.1.1.1.1.0, at.loop.inv.5),
@@ -39,11 +40,12 @@ shape_of-skipped-then-not-left c =
       omega (arith, kept.1.1.1.1.1.1.1.0, at.loop.inv.7),
       omega (arith, kept.1.1.1.1.1.1.1.1.0, at.loop.inv.8),
       omega (arith, kept.1.1.1.1.1.1.1.1.1.0, at.loop.inv.9),
-    ) in still)).1
+    ) in
+    still.1
 
 pub shape_of-above-then-not-left : goal.shape_of-above-then-not-left
 shape_of-above-then-not-left c =
-    ((let still : (length c.one-left.new.1.1.1.1.0 ≡ length (((c).before.before).before.before.before.before.before.before.before.before.before.before.before).args.chains.now) × (length c.one-left.new.1.1.1.1.1.0 ≡ length (((c).before.before).before.before.before.before.before.before.before.before.before.before.before).args.skipped.now) × (length c.one-left.new.1.1.1.1.1.1.0 ≡ length (((c).before.before).before.before.before.before.before.before.before.before.before.before.before).args.above.now) × (length c.one-left.new.1.1.1.1.1.1.1.0 ≡ length (((c).before.before).before.before.before.before.before.before.before.before.before.before.before).args.unacked.now) × (length c.one-left.new.1.1.1.1.1.1.1.1.0 ≡ length (((c).before.before).before.before.before.before.before.before.before.before.before.before.before).args.expired.now) × (length c.one-left.new.1.1.1.1.1.1.1.1.1.0 ≡ length (((c).before.before).before.before.before.before.before.before.before.before.before.before.before).args.out.now) = let at = (c).before in
+    let still : (length c.one-left.new.1.1.1.1.0 ≡ length c.before.before.before.before.before.before.before.before.before.before.before.before.before.args.chains.now) × (length c.one-left.new.1.1.1.1.1.0 ≡ length c.before.before.before.before.before.before.before.before.before.before.before.before.before.args.skipped.now) × (length c.one-left.new.1.1.1.1.1.1.0 ≡ length c.before.before.before.before.before.before.before.before.before.before.before.before.before.args.above.now) × (length c.one-left.new.1.1.1.1.1.1.1.0 ≡ length c.before.before.before.before.before.before.before.before.before.before.before.before.before.args.unacked.now) × (length c.one-left.new.1.1.1.1.1.1.1.1.0 ≡ length c.before.before.before.before.before.before.before.before.before.before.before.before.before.args.expired.now) × (length c.one-left.new.1.1.1.1.1.1.1.1.1.0 ≡ length c.before.before.before.before.before.before.before.before.before.before.before.before.before.args.out.now) = let at = c.before in
     let kept = c.one-left.auto in (
       omega (arith, kept.1.1.1.1.0, at.loop.inv.4),
       omega (arith, kept.1.1.1.1.1.0, at.loop.inv.5),
@@ -51,11 +53,12 @@ shape_of-above-then-not-left c =
       omega (arith, kept.1.1.1.1.1.1.1.0, at.loop.inv.7),
       omega (arith, kept.1.1.1.1.1.1.1.1.0, at.loop.inv.8),
       omega (arith, kept.1.1.1.1.1.1.1.1.1.0, at.loop.inv.9),
-    ) in still)).2
+    ) in
+    still.2
 
 pub shape_of-unacked-then-not-left : goal.shape_of-unacked-then-not-left
 shape_of-unacked-then-not-left c =
-    ((let still : (length c.one-left.new.1.1.1.1.0 ≡ length (((c).before.before).before.before.before.before.before.before.before.before.before.before.before).args.chains.now) × (length c.one-left.new.1.1.1.1.1.0 ≡ length (((c).before.before).before.before.before.before.before.before.before.before.before.before.before).args.skipped.now) × (length c.one-left.new.1.1.1.1.1.1.0 ≡ length (((c).before.before).before.before.before.before.before.before.before.before.before.before.before).args.above.now) × (length c.one-left.new.1.1.1.1.1.1.1.0 ≡ length (((c).before.before).before.before.before.before.before.before.before.before.before.before.before).args.unacked.now) × (length c.one-left.new.1.1.1.1.1.1.1.1.0 ≡ length (((c).before.before).before.before.before.before.before.before.before.before.before.before.before).args.expired.now) × (length c.one-left.new.1.1.1.1.1.1.1.1.1.0 ≡ length (((c).before.before).before.before.before.before.before.before.before.before.before.before.before).args.out.now) = let at = (c).before in
+    let still : (length c.one-left.new.1.1.1.1.0 ≡ length c.before.before.before.before.before.before.before.before.before.before.before.before.before.args.chains.now) × (length c.one-left.new.1.1.1.1.1.0 ≡ length c.before.before.before.before.before.before.before.before.before.before.before.before.before.args.skipped.now) × (length c.one-left.new.1.1.1.1.1.1.0 ≡ length c.before.before.before.before.before.before.before.before.before.before.before.before.before.args.above.now) × (length c.one-left.new.1.1.1.1.1.1.1.0 ≡ length c.before.before.before.before.before.before.before.before.before.before.before.before.before.args.unacked.now) × (length c.one-left.new.1.1.1.1.1.1.1.1.0 ≡ length c.before.before.before.before.before.before.before.before.before.before.before.before.before.args.expired.now) × (length c.one-left.new.1.1.1.1.1.1.1.1.1.0 ≡ length c.before.before.before.before.before.before.before.before.before.before.before.before.before.args.out.now) = let at = c.before in
     let kept = c.one-left.auto in (
       omega (arith, kept.1.1.1.1.0, at.loop.inv.4),
       omega (arith, kept.1.1.1.1.1.0, at.loop.inv.5),
@@ -63,11 +66,12 @@ shape_of-unacked-then-not-left c =
       omega (arith, kept.1.1.1.1.1.1.1.0, at.loop.inv.7),
       omega (arith, kept.1.1.1.1.1.1.1.1.0, at.loop.inv.8),
       omega (arith, kept.1.1.1.1.1.1.1.1.1.0, at.loop.inv.9),
-    ) in still)).3
+    ) in
+    still.3
 
 pub shape_of-expired-then-not-left : goal.shape_of-expired-then-not-left
 shape_of-expired-then-not-left c =
-    ((let still : (length c.one-left.new.1.1.1.1.0 ≡ length (((c).before.before).before.before.before.before.before.before.before.before.before.before.before).args.chains.now) × (length c.one-left.new.1.1.1.1.1.0 ≡ length (((c).before.before).before.before.before.before.before.before.before.before.before.before.before).args.skipped.now) × (length c.one-left.new.1.1.1.1.1.1.0 ≡ length (((c).before.before).before.before.before.before.before.before.before.before.before.before.before).args.above.now) × (length c.one-left.new.1.1.1.1.1.1.1.0 ≡ length (((c).before.before).before.before.before.before.before.before.before.before.before.before.before).args.unacked.now) × (length c.one-left.new.1.1.1.1.1.1.1.1.0 ≡ length (((c).before.before).before.before.before.before.before.before.before.before.before.before.before).args.expired.now) × (length c.one-left.new.1.1.1.1.1.1.1.1.1.0 ≡ length (((c).before.before).before.before.before.before.before.before.before.before.before.before.before).args.out.now) = let at = (c).before in
+    let still : (length c.one-left.new.1.1.1.1.0 ≡ length c.before.before.before.before.before.before.before.before.before.before.before.before.before.args.chains.now) × (length c.one-left.new.1.1.1.1.1.0 ≡ length c.before.before.before.before.before.before.before.before.before.before.before.before.before.args.skipped.now) × (length c.one-left.new.1.1.1.1.1.1.0 ≡ length c.before.before.before.before.before.before.before.before.before.before.before.before.before.args.above.now) × (length c.one-left.new.1.1.1.1.1.1.1.0 ≡ length c.before.before.before.before.before.before.before.before.before.before.before.before.before.args.unacked.now) × (length c.one-left.new.1.1.1.1.1.1.1.1.0 ≡ length c.before.before.before.before.before.before.before.before.before.before.before.before.before.args.expired.now) × (length c.one-left.new.1.1.1.1.1.1.1.1.1.0 ≡ length c.before.before.before.before.before.before.before.before.before.before.before.before.before.args.out.now) = let at = c.before in
     let kept = c.one-left.auto in (
       omega (arith, kept.1.1.1.1.0, at.loop.inv.4),
       omega (arith, kept.1.1.1.1.1.0, at.loop.inv.5),
@@ -75,11 +79,12 @@ shape_of-expired-then-not-left c =
       omega (arith, kept.1.1.1.1.1.1.1.0, at.loop.inv.7),
       omega (arith, kept.1.1.1.1.1.1.1.1.0, at.loop.inv.8),
       omega (arith, kept.1.1.1.1.1.1.1.1.1.0, at.loop.inv.9),
-    ) in still)).4
+    ) in
+    still.4
 
 pub shape_of-out-then-not-left : goal.shape_of-out-then-not-left
 shape_of-out-then-not-left c =
-    ((let still : (length c.one-left.new.1.1.1.1.0 ≡ length (((c).before.before).before.before.before.before.before.before.before.before.before.before.before).args.chains.now) × (length c.one-left.new.1.1.1.1.1.0 ≡ length (((c).before.before).before.before.before.before.before.before.before.before.before.before.before).args.skipped.now) × (length c.one-left.new.1.1.1.1.1.1.0 ≡ length (((c).before.before).before.before.before.before.before.before.before.before.before.before.before).args.above.now) × (length c.one-left.new.1.1.1.1.1.1.1.0 ≡ length (((c).before.before).before.before.before.before.before.before.before.before.before.before.before).args.unacked.now) × (length c.one-left.new.1.1.1.1.1.1.1.1.0 ≡ length (((c).before.before).before.before.before.before.before.before.before.before.before.before.before).args.expired.now) × (length c.one-left.new.1.1.1.1.1.1.1.1.1.0 ≡ length (((c).before.before).before.before.before.before.before.before.before.before.before.before.before).args.out.now) = let at = (c).before in
+    let still : (length c.one-left.new.1.1.1.1.0 ≡ length c.before.before.before.before.before.before.before.before.before.before.before.before.before.args.chains.now) × (length c.one-left.new.1.1.1.1.1.0 ≡ length c.before.before.before.before.before.before.before.before.before.before.before.before.before.args.skipped.now) × (length c.one-left.new.1.1.1.1.1.1.0 ≡ length c.before.before.before.before.before.before.before.before.before.before.before.before.before.args.above.now) × (length c.one-left.new.1.1.1.1.1.1.1.0 ≡ length c.before.before.before.before.before.before.before.before.before.before.before.before.before.args.unacked.now) × (length c.one-left.new.1.1.1.1.1.1.1.1.0 ≡ length c.before.before.before.before.before.before.before.before.before.before.before.before.before.args.expired.now) × (length c.one-left.new.1.1.1.1.1.1.1.1.1.0 ≡ length c.before.before.before.before.before.before.before.before.before.before.before.before.before.args.out.now) = let at = c.before in
     let kept = c.one-left.auto in (
       omega (arith, kept.1.1.1.1.0, at.loop.inv.4),
       omega (arith, kept.1.1.1.1.1.0, at.loop.inv.5),
@@ -87,15 +92,17 @@ shape_of-out-then-not-left c =
       omega (arith, kept.1.1.1.1.1.1.1.0, at.loop.inv.7),
       omega (arith, kept.1.1.1.1.1.1.1.1.0, at.loop.inv.8),
       omega (arith, kept.1.1.1.1.1.1.1.1.1.0, at.loop.inv.9),
-    ) in still)).5
+    ) in
+    still.5
 
 pub shape_of-answers-then-not-left : goal.shape_of-answers-then-not-left
 shape_of-answers-then-not-left c = c.loop-i.inv.10
 
 pub returns-then-not-left : goal.returns-then-not-left
 returns-then-not-left c =
+    let bytes : Bytes c.args.run.now = typed c.args.run.now c.type_inv.run in
     let a = c.args in
-    replayed a.run.now a.records.now a.calls.now (length a.answers.now) c.most_calls-most.ensures.0 ((let bytes : Bytes c.args.run.now = typed c.args.run.now c.shared_slice_known-1.given in bytes))
+    replayed a.run.now a.records.now a.calls.now (length a.answers.now) c.most_calls-most.ensures.0 bytes
     (stop a.run.now a.records.now a.calls.now c.most_calls-most.result _ _ _ c.loop-i.i c.loop-i-test.taken (not-true c.one-left.result.known c.if-not-left.true)
     (whole-behind a.calls.now (6 * c.loop-i.i)) c.one-left.ensures c.loop-i.inv.3)
 
@@ -119,7 +126,7 @@ loop-i-smaller c = omega (arith, c.loop-i-test.taken)
 
 pub loop-i-preserved : goal.loop-i-preserved
 loop-i-preserved c =
-    let same = (let still : (length c.one-left.new.1.1.1.1.0 ≡ length (((c).before.before).before.before.before.before.before.before.before.before.before.before.before).args.chains.now) × (length c.one-left.new.1.1.1.1.1.0 ≡ length (((c).before.before).before.before.before.before.before.before.before.before.before.before.before).args.skipped.now) × (length c.one-left.new.1.1.1.1.1.1.0 ≡ length (((c).before.before).before.before.before.before.before.before.before.before.before.before.before).args.above.now) × (length c.one-left.new.1.1.1.1.1.1.1.0 ≡ length (((c).before.before).before.before.before.before.before.before.before.before.before.before.before).args.unacked.now) × (length c.one-left.new.1.1.1.1.1.1.1.1.0 ≡ length (((c).before.before).before.before.before.before.before.before.before.before.before.before.before).args.expired.now) × (length c.one-left.new.1.1.1.1.1.1.1.1.1.0 ≡ length (((c).before.before).before.before.before.before.before.before.before.before.before.before.before).args.out.now) = let at = (c).before in
+    let still : (length c.one-left.new.1.1.1.1.0 ≡ length c.before.before.before.before.before.before.before.before.before.before.before.before.before.args.chains.now) × (length c.one-left.new.1.1.1.1.1.0 ≡ length c.before.before.before.before.before.before.before.before.before.before.before.before.before.args.skipped.now) × (length c.one-left.new.1.1.1.1.1.1.0 ≡ length c.before.before.before.before.before.before.before.before.before.before.before.before.before.args.above.now) × (length c.one-left.new.1.1.1.1.1.1.1.0 ≡ length c.before.before.before.before.before.before.before.before.before.before.before.before.before.args.unacked.now) × (length c.one-left.new.1.1.1.1.1.1.1.1.0 ≡ length c.before.before.before.before.before.before.before.before.before.before.before.before.before.args.expired.now) × (length c.one-left.new.1.1.1.1.1.1.1.1.1.0 ≡ length c.before.before.before.before.before.before.before.before.before.before.before.before.before.args.out.now) = let at = c.before in
     let kept = c.one-left.auto in (
       omega (arith, kept.1.1.1.1.0, at.loop.inv.4),
       omega (arith, kept.1.1.1.1.1.0, at.loop.inv.5),
@@ -127,7 +134,8 @@ loop-i-preserved c =
       omega (arith, kept.1.1.1.1.1.1.1.0, at.loop.inv.7),
       omega (arith, kept.1.1.1.1.1.1.1.1.0, at.loop.inv.8),
       omega (arith, kept.1.1.1.1.1.1.1.1.1.0, at.loop.inv.9),
-    ) in still) in
+    ) in
+    let same = still in
     let a = c.args in (
       search rules,
       c.loop-i.inv.1,
@@ -145,6 +153,7 @@ loop-i-preserved c =
 
 pub returns : goal.returns
 returns c =
+    let bytes : Bytes c.args.run.now = typed c.args.run.now c.type_inv.run in
     let a = c.args in
-    replayed a.run.now a.records.now a.calls.now (length a.answers.now) c.most_calls-most.ensures.0 ((let bytes : Bytes c.args.run.now = typed c.args.run.now c.shared_slice_known-1.given in bytes))
+    replayed a.run.now a.records.now a.calls.now (length a.answers.now) c.most_calls-most.ensures.0 bytes
     (end a.run.now a.records.now a.calls.now c.most_calls-most.result _ _ _ c.loop-i.i c.loop-i-test.false c.loop-i.invariant.3)

@@ -3,7 +3,7 @@
 use Rattle.calls_open.proofs.covered.Goals as goal
 
 pub returns-in-Change : goal.returns-in-Change
-returns-in-Change c = rw (c.planned-1.given.1, c.renumbered.ensures)
+returns-in-Change c = rw (c.in-Change.is, c.renumbered.ensures)
 
 pub returns-in-Refused : goal.returns-in-Refused
-returns-in-Refused c = rw c.planned-in-Refused-1.given.1
+returns-in-Refused c = rw c.in-Refused.is

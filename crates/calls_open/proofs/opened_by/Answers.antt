@@ -3,7 +3,7 @@
 use Rattle.calls_open.proofs.opened_by.Goals as goal
 
 pub returns-in_default : goal.returns-in_default
-returns-in_default c = rw c.enum_told-1.given.1
+returns-in_default c = rw c.in_default.is
 
 pub returns : goal.returns
-returns c = rw c.verdict-1.given.1
+returns c = rw c.in-Refused.is

@@ -12,7 +12,7 @@ shape_of-chains c = omega (arith, c.step-left.auto.1.1.1.1.1.1.0)
 
 pub returns : goal.returns
 returns c =
-    let its = (c).before.before.before.before.before.before.before in
+    let its = c.before.before.before.before.before.before.before in
     let part = its.before in
     let a = part.before.before.before.before.before.before.before.before.before.before.args in
     step_left a.session a.run.now a.records.now part.run_at.ensures (its-entries a.session.first a.session.n a.records.now its.records-from.ensures)

@@ -3,4 +3,4 @@
 use Rattle.calls_store.proofs.answer.Goals as goal
 
 pub returns-in-Opened : goal.returns-in-Opened
-returns-in-Opened c = rw c.enum_told-in-Opened-1.given.1 c.all_yes.ensures
+returns-in-Opened c = rw c.in-Opened.is c.all_yes.ensures

@@ -4,7 +4,7 @@ use Rattle.restore.specs.Restored.{is_granted}
 use Rattle.calls_store.proofs.is_granted.Goals as goal
 
 pub returns-in_default : goal.returns-in_default
-returns-in_default c = sym (ap is_granted c.enum_told-in_default-1.given.1)
+returns-in_default c = sym (ap is_granted c.in_default.is)
 
 pub returns : goal.returns
-returns c = sym (ap is_granted c.enum_told-1.given.1)
+returns c = sym (ap is_granted c.in-Granted.is)

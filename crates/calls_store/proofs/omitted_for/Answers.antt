@@ -3,10 +3,10 @@
 use Rattle.calls_store.proofs.omitted_for.Goals as goal
 
 pub returns-in-Nothing : goal.returns-in-Nothing
-returns-in-Nothing c = rw c.enum_told-1.given.1
+returns-in-Nothing c = rw c.in-Nothing.is
 
 pub returns-in-Stored : goal.returns-in-Stored
-returns-in-Stored c = rw c.enum_told-in-Stored-1.given.1
+returns-in-Stored c = rw c.in-Stored.is
 
 pub returns-in-Opened : goal.returns-in-Opened
-returns-in-Opened c = rw c.enum_told-in-Opened-1.given.1
+returns-in-Opened c = rw c.in-Opened.is

@@ -7,8 +7,7 @@ use Rattle.ascii.proofs.Decimals.{said}
 use Rattle.replay_script.proofs.is_decimal_at.Goals as goal
 
 pub returns-in_default : goal.returns-in_default
-returns-in_default c =
-    sym (ap is_some (said _ c.word.ensures c.decimal.ensures (ap decimal_says c.enum_told-in_default-1.given.1)))
+returns-in_default c = sym (ap is_some (said _ c.word.ensures c.decimal.ensures (ap decimal_says c.in_default.is)))
 
 pub returns : goal.returns
-returns c = sym (ap is_some (said _ c.word.ensures c.decimal.ensures (ap decimal_says c.enum_told-1.given.1)))
+returns c = sym (ap is_some (said _ c.word.ensures c.decimal.ensures (ap decimal_says c.in-Number.is)))

@@ -17,7 +17,7 @@ stepped s b e f g = ap (λ (x : Option ℕ). grown x s) (sym g ∙ f ∙ ap (λ 
 
 pub returns-in_default : goal.returns-in_default
 returns-in_default c =
-    c.waiting.ensures ∙ stepped _ _ c.highest.ensures c.with_digit.ensures (ap decimal_says c.enum_told-1.given.1)
+    c.waiting.ensures ∙ stepped _ _ c.highest.ensures c.with_digit.ensures (ap decimal_says c.in_default.is)
 
 pub returns : goal.returns
-returns c = stepped _ _ c.highest.ensures c.with_digit.ensures (ap decimal_says c.n-1.given.1)
+returns c = stepped _ _ c.highest.ensures c.with_digit.ensures (ap decimal_says c.in-Number.is)

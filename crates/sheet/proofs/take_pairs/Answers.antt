@@ -43,7 +43,7 @@ returns-else-fit-n c =
     let e = c.room_for-room.ensures.0 in
     let same : 2 * fit.result - 0 ≡ 2 * fit.result = omega arith in
     rw e
-    (some_fit c.args.s c.args.digits.now c.args.run.now c.requires.0 c.requires.1 c.requires.2 c.requires.3 fit.result c.put_bytes-end.new.1.0 (rw e at least.0)
+    (some_fit c.args.s c.args.digits.now c.args.run.now c.requires.0 c.requires.1 c.requires.2 c.requires.3 fit.result c.put_bytes-end.new.out (rw e at least.0)
     (rw same at c.put_bytes-end.ensures.1.now-is) (rw (← e) (omega (arith, least))))
 
 pub returns-else-used-room : goal.returns-else-used-room

@@ -6,4 +6,4 @@ use Rattle.statement_line.proofs.numbers_in.Goals as goal
 pub returns-then-lent-count : goal.returns-then-lent-count
 returns-then-lent-count c =
     let same = pairs-lent c.args.count c.args.list.now (omega arith) in
-    (rw same at c.Numbers-of.ensures.0, λ h. rw same at (c.Numbers-of.ensures.1 (omega arith)))
+    (rw same at c.numbers_of.ensures.0, λ h. rw same at (c.numbers_of.ensures.1 (omega arith)))

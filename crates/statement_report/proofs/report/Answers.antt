@@ -6,9 +6,9 @@ use Rattle.statement_report.proofs.report.Goals as goal
 pub returns-in-Read : goal.returns-in-Read
 returns-in-Read c =
     let a = c.args in
-    as-text a.out.now (read-report a.run.now a.records.now c.finish-answer.ensures c.answer-1.given.1) c.report_read.ensures
+    as-text a.out.now (read-report a.run.now a.records.now c.finish-answer.ensures c.in-Read.is) c.report_read.ensures
 
 pub returns-in-Refused : goal.returns-in-Refused
 returns-in-Refused c =
     let a = c.args in
-    as-text a.out.now (refused-report a.run.now a.records.now c.finish-answer.ensures c.answer-in-Refused-1.given.1 c.wide_byte.ensures.0) c.write_refused.ensures
+    as-text a.out.now (refused-report a.run.now a.records.now c.finish-answer.ensures c.in-Refused.is c.wide_byte.ensures.0) c.write_refused.ensures

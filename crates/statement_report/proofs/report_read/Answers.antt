@@ -9,17 +9,19 @@ use Rattle.statement_report.proofs.report_read.Goals as goal
 
 pub slice_bounds-report_store-end : goal.slice_bounds-report_store-end
 slice_bounds-report_store-end c =
-    sym ((let inside : length (take c.least.result (c.before.before.before.before.before.args.run.now)) ≡ c.least.result = length-take-le c.least.result (c.before.before.before.before.before.args.run.now) (omega (arith, c.least.ensures.1, c.room_for.ensures.2)) in inside))
+    let inside : length (take c.least.result c.args.run.now) ≡ c.least.result = length-take-le c.least.result c.args.run.now (omega (arith, c.least.ensures.1, c.room_for.ensures.2)) in
+    sym inside
 
 pub report_store-requires : goal.report_store-requires
 report_store-requires c =
+    let inside : length (take c.least.result c.args.run.now) ≡ c.least.result = length-take-le c.least.result c.args.run.now (omega (arith, c.least.ensures.1, c.room_for.ensures.2)) in
     (
-      omega (arith, (let inside : length (take c.least.result (c.before.before.before.before.before.args.run.now)) ≡ c.least.result = length-take-le c.least.result (c.before.before.before.before.before.args.run.now) (omega (arith, c.least.ensures.1, c.room_for.ensures.2)) in inside), c.least.ensures.1, c.room_for.ensures.1),
+      omega (arith, inside, c.least.ensures.1, c.room_for.ensures.1),
       omega (arith, c.least2.ensures.1, c.room-for2.ensures.1),
     )
 
 pub returns : goal.returns
 returns c =
-    let a = b.before.before.before.before.before.args in
+    let a = c.args in
     as-text a.out.now (read-text a.run.now a.records.now a.lines a.used c.least.ensures.0 c.room_for.ensures.0 c.least2.ensures.0 c.room-for2.ensures.0)
     c.report_store.ensures

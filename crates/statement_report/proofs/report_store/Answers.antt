@@ -6,9 +6,9 @@ use Rattle.statement_report.proofs.report_store.Goals as goal
 pub returns-in-Granted : goal.returns-in-Granted
 returns-in-Granted c =
     let a = c.args in
-    as-text a.out.now (table-granted a.run.now a.records.now a.n c.requires.1 c.restore-answer.ensures c.answer-1.given.1) c.write_granted.ensures
+    as-text a.out.now (table-granted a.run.now a.records.now a.n c.requires.1 c.restore-answer.ensures c.in-Granted.is) c.write_granted.ensures
 
 pub returns-in-Refused : goal.returns-in-Refused
 returns-in-Refused c =
     let a = c.args in
-    as-text a.out.now (table-refused a.run.now a.records.now a.n c.requires.1 c.restore-answer.ensures c.answer-in-Refused-1.given.1 c.wide_byte.ensures.0) c.write_refused.ensures
+    as-text a.out.now (table-refused a.run.now a.records.now a.n c.requires.1 c.restore-answer.ensures c.in-Refused.is c.wide_byte.ensures.0) c.write_refused.ensures

@@ -19,30 +19,37 @@ loop-i-init c =
 
 pub be32-a-requires : goal.be32-a-requires
 be32-a-requires c =
-    omega (arith, ((let turned : Turn (λ l. 8) range_at (c.args.row.now) (c.args.count) c.loop-i.i c.loop-i.p = turn (λ l. 8) range_at (c.args.row.now) (c.args.count) c.loop-i.i c.loop-i.p c.loop-i-test.true c.loop-i.invariant.4 in turned)).ranges)
+    let turned : Turn (λ l. 8) range_at c.args.row.now c.args.count c.loop-i.i c.loop-i.p = turn (λ l. 8) range_at c.args.row.now c.args.count c.loop-i.i c.loop-i.p c.loop-i-test.true c.loop-i.invariant.4 in
+    omega (arith, turned.ranges)
 
 pub overflow_add-p : goal.overflow_add-p
 overflow_add-p c =
-    omega (arith, ((let turned : Turn (λ l. 8) range_at (c.args.row.now) (c.args.count) c.loop-i.i c.loop-i.p = turn (λ l. 8) range_at (c.args.row.now) (c.args.count) c.loop-i.i c.loop-i.p c.loop-i-test.true c.loop-i.invariant.4 in turned)).fits)
+    let turned : Turn (λ l. 8) range_at c.args.row.now c.args.count c.loop-i.i c.loop-i.p = turn (λ l. 8) range_at c.args.row.now c.args.count c.loop-i.i c.loop-i.p c.loop-i-test.true c.loop-i.invariant.4 in
+    omega (arith, turned.fits)
 
 pub be32-b-requires : goal.be32-b-requires
 be32-b-requires c =
-    omega (arith, ((let turned : Turn (λ l. 8) range_at (c.args.row.now) (c.args.count) c.loop-i.i c.loop-i.p = turn (λ l. 8) range_at (c.args.row.now) (c.args.count) c.loop-i.i c.loop-i.p c.loop-i-test.true c.loop-i.invariant.4 in turned)).fits)
+    let turned : Turn (λ l. 8) range_at c.args.row.now c.args.count c.loop-i.i c.loop-i.p = turn (λ l. 8) range_at c.args.row.now c.args.count c.loop-i.i c.loop-i.p c.loop-i-test.true c.loop-i.invariant.4 in
+    omega (arith, turned.fits)
 
 pub overflow_add-sum : goal.overflow_add-sum
 overflow_add-sum c =
-    omega (arith, ((let turned : Turn (λ l. 8) range_at (c.args.row.now) (c.args.count) c.loop-i.i c.loop-i.p = turn (λ l. 8) range_at (c.args.row.now) (c.args.count) c.loop-i.i c.loop-i.p c.loop-i-test.true c.loop-i.invariant.4 in turned)).fits, c.size_from-sum.ensures.1)
+    let turned : Turn (λ l. 8) range_at c.args.row.now c.args.count c.loop-i.i c.loop-i.p = turn (λ l. 8) range_at c.args.row.now c.args.count c.loop-i.i c.loop-i.p c.loop-i-test.true c.loop-i.invariant.4 in
+    omega (arith, turned.fits, c.size_from-sum.ensures.1)
 
 pub overflow_add-p-in-loop-i : goal.overflow_add-p-in-loop-i
 overflow_add-p-in-loop-i c =
-    omega (arith, ((let turned : Turn (λ l. 8) range_at (c.args.row.now) (c.args.count) c.loop-i.i c.loop-i.p = turn (λ l. 8) range_at (c.args.row.now) (c.args.count) c.loop-i.i c.loop-i.p c.loop-i-test.true c.loop-i.invariant.4 in turned)).fits)
+    let turned : Turn (λ l. 8) range_at c.args.row.now c.args.count c.loop-i.i c.loop-i.p = turn (λ l. 8) range_at c.args.row.now c.args.count c.loop-i.i c.loop-i.p c.loop-i-test.true c.loop-i.invariant.4 in
+    omega (arith, turned.fits)
 
 pub loop-i-preserved : goal.loop-i-preserved
 loop-i-preserved c =
-    let t = (let turned : Turn (λ l. 8) range_at (c.args.row.now) (c.args.count) c.loop-i.i c.loop-i.p = turn (λ l. 8) range_at (c.args.row.now) (c.args.count) c.loop-i.i c.loop-i.p c.loop-i-test.true c.loop-i.invariant.4 in turned) in
+    let turned : Turn (λ l. 8) range_at c.args.row.now c.args.count c.loop-i.i c.loop-i.p = turn (λ l. 8) range_at c.args.row.now c.args.count c.loop-i.i c.loop-i.p c.loop-i-test.true c.loop-i.invariant.4 in
+    let here : Begin c.args.row.now c.args.count c.loop-i.i c.loop-i.p c.be32-a.result c.be32-b.result = range-read turned c.be32-a.ensures.0 c.be32-b.ensures.0 in
+    let t = turned in
     let w = c.size_from-sum.ensures in
-    (omega arith, omega arith, omega (arith, t.fits), omega (arith, w.1), t.rooms, counted (c.args.lowest) c.loop-i.sum c.loop-i.invariant.5 ((let here : Begin (c.args.row.now) (c.args.count) c.loop-i.i c.loop-i.p c.be32-a.result c.be32-b.result = range-read ((let turned : Turn (λ l. 8) range_at (c.args.row.now) (c.args.count) c.loop-i.i c.loop-i.p = turn (λ l. 8) range_at (c.args.row.now) (c.args.count) c.loop-i.i c.loop-i.p c.loop-i-test.true c.loop-i.invariant.4 in turned)) c.be32-a.ensures.0 c.be32-b.ensures.0 in here)) w.0)
+    (omega arith, omega arith, omega (arith, t.fits), omega (arith, w.1), t.rooms, counted c.args.lowest c.loop-i.sum c.loop-i.invariant.5 here w.0)
 
 pub returns : goal.returns
 returns c =
-    all-counted (c.args.lowest) c.loop-i.sum c.loop-i.invariant.5 (none_left (λ l. 8) range_at (c.args.row.now) (c.args.count) c.loop-i.i c.loop-i.p c.loop-i-test.false)
+    all-counted c.args.lowest c.loop-i.sum c.loop-i.invariant.5 (none_left (λ l. 8) range_at c.args.row.now c.args.count c.loop-i.i c.loop-i.p c.loop-i-test.false)

@@ -8,6 +8,7 @@ use lib.ListN.{length, length-append}
 use Rattle.layout.specs.Write.{wrote}
 use Rattle.layout.proofs.Write.{stored_short, stored_row}
 use Rattle.put.proofs.Put.{◌then◌, put_front}
+use Rattle.store.specs.declared.Entry.{Entry}
 use Rattle.sheet_entries.specs.Table.{entries_from}
 use Rattle.statement_text.specs.Text.{last_line}
 use Rattle.statement_text.specs.Lines.{lines_from, count_from, TEXT_BYTES}
@@ -16,11 +17,21 @@ use Rattle.statement_text.proofs.write_granted.Goals as goal
 
 pub returns-then-out-len : goal.returns-then-out-len
 returns-then-out-len c =
-    (sym (stored_short ((lines_from ((c).before.before.before.before).args.run.now ((entries_from ((c).before.before.before.before).args.n ((c).before.before.before.before).args.records.now)) ((entries_from ((c).before.before.before.before).args.n ((c).before.before.before.before).args.records.now))) ++ (last_line (count_from ((c).before.before.before.before).args.run.now ((entries_from ((c).before.before.before.before).args.n ((c).before.before.before.before).args.records.now))) ((entries_from ((c).before.before.before.before).args.n ((c).before.before.before.before).args.records.now)) ((c).before.before.before.before).args.next-slot)) ((c).before.before.before.before).args.out.now (omega (arith, (let long : c.measure-measured.result.len + 1 + c.fields_len.result ≡ length ((lines_from ((c).before.before.before.before).args.run.now ((entries_from ((c).before.before.before.before).args.n ((c).before.before.before.before).args.records.now)) ((entries_from ((c).before.before.before.before).args.n ((c).before.before.before.before).args.records.now))) ++ (last_line (count_from ((c).before.before.before.before).args.run.now ((entries_from ((c).before.before.before.before).args.n ((c).before.before.before.before).args.records.now))) ((entries_from ((c).before.before.before.before).args.n ((c).before.before.before.before).args.records.now)) ((c).before.before.before.before).args.next-slot)) = omega (arith, c.measure-measured.ensures.long, c.fields_len.ensures.0, ap length (same-last c), length-append ((lines_from ((c).before.before.before.before).args.run.now ((entries_from ((c).before.before.before.before).args.n ((c).before.before.before.before).args.records.now)) ((entries_from ((c).before.before.before.before).args.n ((c).before.before.before.before).args.records.now)))) ((last_line (count_from ((c).before.before.before.before).args.run.now ((entries_from ((c).before.before.before.before).args.n ((c).before.before.before.before).args.records.now))) ((entries_from ((c).before.before.before.before).args.n ((c).before.before.before.before).args.records.now)) ((c).before.before.before.before).args.next-slot))) in long)))), (let short : length ((lines_from ((c).before.before.before.before).args.run.now ((entries_from ((c).before.before.before.before).args.n ((c).before.before.before.before).args.records.now)) ((entries_from ((c).before.before.before.before).args.n ((c).before.before.before.before).args.records.now))) ++ (last_line (count_from ((c).before.before.before.before).args.run.now ((entries_from ((c).before.before.before.before).args.n ((c).before.before.before.before).args.records.now))) ((entries_from ((c).before.before.before.before).args.n ((c).before.before.before.before).args.records.now)) ((c).before.before.before.before).args.next-slot)) ≤ TEXT_BYTES = omega (arith, (let long : c.measure-measured.result.len + 1 + c.fields_len.result ≡ length ((lines_from ((c).before.before.before.before).args.run.now ((entries_from ((c).before.before.before.before).args.n ((c).before.before.before.before).args.records.now)) ((entries_from ((c).before.before.before.before).args.n ((c).before.before.before.before).args.records.now))) ++ (last_line (count_from ((c).before.before.before.before).args.run.now ((entries_from ((c).before.before.before.before).args.n ((c).before.before.before.before).args.records.now))) ((entries_from ((c).before.before.before.before).args.n ((c).before.before.before.before).args.records.now)) ((c).before.before.before.before).args.next-slot)) = omega (arith, c.measure-measured.ensures.long, c.fields_len.ensures.0, ap length (same-last c), length-append ((lines_from ((c).before.before.before.before).args.run.now ((entries_from ((c).before.before.before.before).args.n ((c).before.before.before.before).args.records.now)) ((entries_from ((c).before.before.before.before).args.n ((c).before.before.before.before).args.records.now)))) ((last_line (count_from ((c).before.before.before.before).args.run.now ((entries_from ((c).before.before.before.before).args.n ((c).before.before.before.before).args.records.now))) ((entries_from ((c).before.before.before.before).args.n ((c).before.before.before.before).args.records.now)) ((c).before.before.before.before).args.next-slot))) in long), c.measure-measured.ensures.short, c.fields_len.ensures.1) in short))
+    let entries : List Entry = entries_from c.before.before.before.before.args.n c.before.before.before.before.args.records.now in
+    let lines : List ℕ = lines_from c.before.before.before.before.args.run.now entries entries in
+    let last : List ℕ = last_line (count_from c.before.before.before.before.args.run.now entries) entries c.before.before.before.before.args.next-slot in
+    let long : c.measure-measured.result.len + 1 + c.fields_len.result ≡ length (lines ++ last) = omega (arith, c.measure-measured.ensures.long, c.fields_len.ensures.0, ap length (same-last c), length-append lines last) in
+    let short : length (lines ++ last) ≤ TEXT_BYTES = omega (arith, long, c.measure-measured.ensures.short, c.fields_len.ensures.1) in
+    (sym (stored_short (lines ++ last) c.before.before.before.before.args.out.now (omega (arith, long))), short)
 
 pub returns : goal.returns
 returns c =
-    let out = ((c).before.before.before.before).args.out.now in
-    let room : length ((lines_from ((c).before.before.before.before).args.run.now ((entries_from ((c).before.before.before.before).args.n ((c).before.before.before.before).args.records.now)) ((entries_from ((c).before.before.before.before).args.n ((c).before.before.before.before).args.records.now))) ++ (last_line (count_from ((c).before.before.before.before).args.run.now ((entries_from ((c).before.before.before.before).args.n ((c).before.before.before.before).args.records.now))) ((entries_from ((c).before.before.before.before).args.n ((c).before.before.before.before).args.records.now)) ((c).before.before.before.before).args.next-slot)) ≤ length out = omega (arith, (let long : c.measure-measured.result.len + 1 + c.fields_len.result ≡ length ((lines_from ((c).before.before.before.before).args.run.now ((entries_from ((c).before.before.before.before).args.n ((c).before.before.before.before).args.records.now)) ((entries_from ((c).before.before.before.before).args.n ((c).before.before.before.before).args.records.now))) ++ (last_line (count_from ((c).before.before.before.before).args.run.now ((entries_from ((c).before.before.before.before).args.n ((c).before.before.before.before).args.records.now))) ((entries_from ((c).before.before.before.before).args.n ((c).before.before.before.before).args.records.now)) ((c).before.before.before.before).args.next-slot)) = omega (arith, c.measure-measured.ensures.long, c.fields_len.ensures.0, ap length (same-last c), length-append ((lines_from ((c).before.before.before.before).args.run.now ((entries_from ((c).before.before.before.before).args.n ((c).before.before.before.before).args.records.now)) ((entries_from ((c).before.before.before.before).args.n ((c).before.before.before.before).args.records.now)))) ((last_line (count_from ((c).before.before.before.before).args.run.now ((entries_from ((c).before.before.before.before).args.n ((c).before.before.before.before).args.records.now))) ((entries_from ((c).before.before.before.before).args.n ((c).before.before.before.before).args.records.now)) ((c).before.before.before.before).args.next-slot))) in long)) in
+    let entries : List Entry = entries_from c.before.before.before.before.args.n c.before.before.before.before.args.records.now in
+    let lines : List ℕ = lines_from c.before.before.before.before.args.run.now entries entries in
+    let last : List ℕ = last_line (count_from c.before.before.before.before.args.run.now entries) entries c.before.before.before.before.args.next-slot in
+    let long : c.measure-measured.result.len + 1 + c.fields_len.result ≡ length (lines ++ last) = omega (arith, c.measure-measured.ensures.long, c.fields_len.ensures.0, ap length (same-last c), length-append lines last) in
+    let short : length (lines ++ last) ≤ TEXT_BYTES = omega (arith, long, c.measure-measured.ensures.short, c.fields_len.ensures.1) in
+    let out = c.before.before.before.before.args.out.now in
+    let room : length (lines ++ last) ≤ length out = omega (arith, long) in
     let w = c.put_lines-at.ensures then retext (same-last c) c.put_line.ensures.1 in
-    (ap₂ (λ (k : ℕ) (l : List ℕ). record { answer = wrote k; out = l }) ((let long : c.measure-measured.result.len + 1 + c.fields_len.result ≡ length ((lines_from ((c).before.before.before.before).args.run.now ((entries_from ((c).before.before.before.before).args.n ((c).before.before.before.before).args.records.now)) ((entries_from ((c).before.before.before.before).args.n ((c).before.before.before.before).args.records.now))) ++ (last_line (count_from ((c).before.before.before.before).args.run.now ((entries_from ((c).before.before.before.before).args.n ((c).before.before.before.before).args.records.now))) ((entries_from ((c).before.before.before.before).args.n ((c).before.before.before.before).args.records.now)) ((c).before.before.before.before).args.next-slot)) = omega (arith, c.measure-measured.ensures.long, c.fields_len.ensures.0, ap length (same-last c), length-append ((lines_from ((c).before.before.before.before).args.run.now ((entries_from ((c).before.before.before.before).args.n ((c).before.before.before.before).args.records.now)) ((entries_from ((c).before.before.before.before).args.n ((c).before.before.before.before).args.records.now)))) ((last_line (count_from ((c).before.before.before.before).args.run.now ((entries_from ((c).before.before.before.before).args.n ((c).before.before.before.before).args.records.now))) ((entries_from ((c).before.before.before.before).args.n ((c).before.before.before.before).args.records.now)) ((c).before.before.before.before).args.next-slot))) in long)) (w.now-is ∙ put_front out ((lines_from ((c).before.before.before.before).args.run.now ((entries_from ((c).before.before.before.before).args.n ((c).before.before.before.before).args.records.now)) ((entries_from ((c).before.before.before.before).args.n ((c).before.before.before.before).args.records.now))) ++ (last_line (count_from ((c).before.before.before.before).args.run.now ((entries_from ((c).before.before.before.before).args.n ((c).before.before.before.before).args.records.now))) ((entries_from ((c).before.before.before.before).args.n ((c).before.before.before.before).args.records.now)) ((c).before.before.before.before).args.next-slot)) room) ∙ sym (stored_row ((lines_from ((c).before.before.before.before).args.run.now ((entries_from ((c).before.before.before.before).args.n ((c).before.before.before.before).args.records.now)) ((entries_from ((c).before.before.before.before).args.n ((c).before.before.before.before).args.records.now))) ++ (last_line (count_from ((c).before.before.before.before).args.run.now ((entries_from ((c).before.before.before.before).args.n ((c).before.before.before.before).args.records.now))) ((entries_from ((c).before.before.before.before).args.n ((c).before.before.before.before).args.records.now)) ((c).before.before.before.before).args.next-slot)) out room), (let short : length ((lines_from ((c).before.before.before.before).args.run.now ((entries_from ((c).before.before.before.before).args.n ((c).before.before.before.before).args.records.now)) ((entries_from ((c).before.before.before.before).args.n ((c).before.before.before.before).args.records.now))) ++ (last_line (count_from ((c).before.before.before.before).args.run.now ((entries_from ((c).before.before.before.before).args.n ((c).before.before.before.before).args.records.now))) ((entries_from ((c).before.before.before.before).args.n ((c).before.before.before.before).args.records.now)) ((c).before.before.before.before).args.next-slot)) ≤ TEXT_BYTES = omega (arith, (let long : c.measure-measured.result.len + 1 + c.fields_len.result ≡ length ((lines_from ((c).before.before.before.before).args.run.now ((entries_from ((c).before.before.before.before).args.n ((c).before.before.before.before).args.records.now)) ((entries_from ((c).before.before.before.before).args.n ((c).before.before.before.before).args.records.now))) ++ (last_line (count_from ((c).before.before.before.before).args.run.now ((entries_from ((c).before.before.before.before).args.n ((c).before.before.before.before).args.records.now))) ((entries_from ((c).before.before.before.before).args.n ((c).before.before.before.before).args.records.now)) ((c).before.before.before.before).args.next-slot)) = omega (arith, c.measure-measured.ensures.long, c.fields_len.ensures.0, ap length (same-last c), length-append ((lines_from ((c).before.before.before.before).args.run.now ((entries_from ((c).before.before.before.before).args.n ((c).before.before.before.before).args.records.now)) ((entries_from ((c).before.before.before.before).args.n ((c).before.before.before.before).args.records.now)))) ((last_line (count_from ((c).before.before.before.before).args.run.now ((entries_from ((c).before.before.before.before).args.n ((c).before.before.before.before).args.records.now))) ((entries_from ((c).before.before.before.before).args.n ((c).before.before.before.before).args.records.now)) ((c).before.before.before.before).args.next-slot))) in long), c.measure-measured.ensures.short, c.fields_len.ensures.1) in short))
+    (ap₂ (λ (k : ℕ) (l : List ℕ). record { answer = wrote k; out = l }) long (w.now-is ∙ put_front out (lines ++ last) room) ∙ sym (stored_row (lines ++ last) out room), short)

@@ -14,11 +14,17 @@ use Rattle.statement_text.proofs.write_refused.Goals as goal
 
 pub returns-then-out-len : goal.returns-then-out-len
 returns-then-out-len c =
-    (sym (stored_short ((let a = c.args in a.letter ∷ fields_text (a.number ∷ a.place ∷ []))) c.args.out.now (omega (arith, (let long : 1 + c.fields_len-len.result ≡ length ((let a = c.args in a.letter ∷ fields_text (a.number ∷ a.place ∷ []))) = omega (arith, c.fields_len-len.ensures.0) in long)))), (let short : length ((let a = c.args in a.letter ∷ fields_text (a.number ∷ a.place ∷ []))) ≤ TEXT_BYTES = omega (arith, (let long : 1 + c.fields_len-len.result ≡ length ((let a = c.args in a.letter ∷ fields_text (a.number ∷ a.place ∷ []))) = omega (arith, c.fields_len-len.ensures.0) in long), c.fields_len-len.ensures.1) in short))
+    let text : List ℕ = let a = c.args in a.letter ∷ fields_text (a.number ∷ a.place ∷ []) in
+    let long : 1 + c.fields_len-len.result ≡ length text = omega (arith, c.fields_len-len.ensures.0) in
+    let short : length text ≤ TEXT_BYTES = omega (arith, long, c.fields_len-len.ensures.1) in
+    (sym (stored_short text c.args.out.now (omega (arith, long))), short)
 
 pub returns : goal.returns
 returns c =
+    let text : List ℕ = let a = c.args in a.letter ∷ fields_text (a.number ∷ a.place ∷ []) in
+    let long : 1 + c.fields_len-len.result ≡ length text = omega (arith, c.fields_len-len.ensures.0) in
+    let short : length text ≤ TEXT_BYTES = omega (arith, long, c.fields_len-len.ensures.1) in
     let out = c.args.out.now in
-    let room : length ((let a = c.args in a.letter ∷ fields_text (a.number ∷ a.place ∷ []))) ≤ length out = omega (arith, (let long : 1 + c.fields_len-len.result ≡ length ((let a = c.args in a.letter ∷ fields_text (a.number ∷ a.place ∷ []))) = omega (arith, c.fields_len-len.ensures.0) in long)) in
-    let now-is = c.put_line.ensures.1.now-is ∙ put_front out ((let a = c.args in a.letter ∷ fields_text (a.number ∷ a.place ∷ []))) room in
-    (ap₂ (λ (k : ℕ) (l : List ℕ). record { answer = wrote k; out = l }) ((let long : 1 + c.fields_len-len.result ≡ length ((let a = c.args in a.letter ∷ fields_text (a.number ∷ a.place ∷ []))) = omega (arith, c.fields_len-len.ensures.0) in long)) now-is ∙ sym (stored_row ((let a = c.args in a.letter ∷ fields_text (a.number ∷ a.place ∷ []))) out room), (let short : length ((let a = c.args in a.letter ∷ fields_text (a.number ∷ a.place ∷ []))) ≤ TEXT_BYTES = omega (arith, (let long : 1 + c.fields_len-len.result ≡ length ((let a = c.args in a.letter ∷ fields_text (a.number ∷ a.place ∷ []))) = omega (arith, c.fields_len-len.ensures.0) in long), c.fields_len-len.ensures.1) in short))
+    let room : length text ≤ length out = omega (arith, long) in
+    let now-is = c.put_line.ensures.1.now-is ∙ put_front out text room in
+    (ap₂ (λ (k : ℕ) (l : List ℕ). record { answer = wrote k; out = l }) long now-is ∙ sym (stored_row text out room), short)
