@@ -12,7 +12,7 @@ use Rattle.courier_row.proofs.courier_size.Goals as goal
 
 pub returns-in_default : goal.returns-in_default
 returns-in_default c =
-    sym (whole-tombstone c.args.held c.type-inv.ensures c.args.sealed.now c.in_default.is ∙ ap wrote (length-tombstone c.args.held c.type-inv.ensures))
+    sym (whole-tombstone c.args.held c.typed.ensures c.args.sealed.now c.in_default.is ∙ ap wrote (length-tombstone c.args.held c.typed.ensures))
 
 pub returns-then-held-eq0 : goal.returns-then-held-eq0
 returns-then-held-eq0 c =
@@ -22,11 +22,6 @@ pub returns-then-held-eq0-2 : goal.returns-then-held-eq0-2
 returns-then-held-eq0-2 c =
     let expires : not_zero c.args.held.expiry_min ≡ true = ap not (ne_eqb _ _ c.if-held-eq0.false) in
     sym (bad-copies c.args.held c.typed.ensures c.args.sealed.now c.in-Carried.is expires (ap not (eq-eqb _ _ c.if-held-eq0-2.true)))
-
-pub overflow_add-result : goal.overflow_add-result
-overflow_add-result c =
-    let allowed : sealed_carried (length c.args.sealed.now) ≡ true = sym c.sealed_carried.ensures ∙ c.if-sealed_carried.true in
-    omega (arith, carried-few (length c.args.sealed.now) allowed)
 
 pub returns-then-sealed_carried : goal.returns-then-sealed_carried
 returns-then-sealed_carried c =

@@ -10,19 +10,17 @@ use Rattle.courier_row.proofs.Image.{envelope_in, carried-is, length-carried, le
 use Rattle.courier_row.proofs.put_carried.Goals as goal
 
 pub put_byte-depositor_at-requires : goal.put_byte-depositor_at-requires
-put_byte-depositor_at-requires c = omega (arith, length-carried c.args.held c.type-inv.ensures c.args.sealed.now)
+put_byte-depositor_at-requires c = omega (arith, length-carried c.args.held c.typed.ensures c.args.sealed.now)
 
 pub put_be-envelope_at-requires : goal.put_be-envelope_at-requires
 put_be-envelope_at-requires c =
-    let s = c.before.before.before in
-    omega (arith, length-carried s.args.held c.type-inv.ensures s.args.sealed.now, wrote-long c.put_byte-depositor_at.ensures.1, c.put_byte-depositor_at.ensures.0, s.pre)
+    omega (arith, length-carried c.args.held c.typed.ensures c.args.sealed.now, wrote-long c.put_byte-depositor_at.ensures.1, c.put_byte-depositor_at.ensures.0, c.requires)
 
 pub returns : goal.returns
 returns c =
-    let s = c.before.before.before in
-    let held = s.args.held in
-    let text = s.args.sealed.now in
-    let room : length (image (envelope_in held) text) ≤ length c.put_be-envelope_at.new.0 - c.put_be-envelope_at.result =
+    let held = c.args.held in
+    let text = c.args.sealed.now in
+    let room : length (image (envelope_in held) text) ≤ length c.put_be-envelope_at.new.out - c.put_be-envelope_at.result =
     omega (
       arith,
       length-carried held c.typed.ensures text,
@@ -31,7 +29,7 @@ returns c =
       wrote-long c.put_be-envelope_at.ensures.1,
       c.put_byte-depositor_at.ensures.0,
       c.put_be-envelope_at.ensures.0,
-      s.pre,
+      c.requires,
     ) in
     wrote_as (carried-is held c.typed.ensures text)
     (c.put_byte-depositor_at.ensures.1 then (c.put_be-envelope_at.ensures.1 then rw (whole-fits (envelope_in held) text _ room) at c.put_envelope.ensures))

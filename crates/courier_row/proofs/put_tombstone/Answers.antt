@@ -6,43 +6,39 @@ use Rattle.courier_row.proofs.Image.{tombstone-is, length-tombstone}
 use Rattle.courier_row.proofs.put_tombstone.Goals as goal
 
 pub put_byte-tag_at-requires : goal.put_byte-tag_at-requires
-put_byte-tag_at-requires c = omega (arith, length-tombstone c.args.held c.type-inv.ensures)
+put_byte-tag_at-requires c = omega (arith, length-tombstone c.args.held c.typed.ensures)
 
 pub put_16-s_at-requires : goal.put_16-s_at-requires
 put_16-s_at-requires c =
-    let s = c.before.before in
-    omega (arith, length-tombstone s.args.held c.type-inv.ensures, wrote-long c.put_byte-tag_at.ensures.1, c.put_byte-tag_at.ensures.0, s.pre)
+    omega (arith, length-tombstone c.args.held c.typed.ensures, wrote-long c.put_byte-tag_at.ensures.1, c.put_byte-tag_at.ensures.0, c.requires)
 
 pub put_16-expiry_at-requires : goal.put_16-expiry_at-requires
 put_16-expiry_at-requires c =
-    let s = c.before.before in
     omega (
       arith,
-      length-tombstone s.args.held c.typed.ensures,
+      length-tombstone c.args.held c.typed.ensures,
       wrote-long c.put_byte-tag_at.ensures.1,
       wrote-long c.put_16-s_at.ensures.1,
       c.put_byte-tag_at.ensures.0,
       c.put_16-s_at.ensures.0,
-      s.pre,
+      c.requires,
     )
 
 pub put_be-requires : goal.put_be-requires
 put_be-requires c =
-    let s = c.before.before in
     omega (
       arith,
-      length-tombstone s.args.held c.typed.ensures,
+      length-tombstone c.args.held c.typed.ensures,
       wrote-long c.put_byte-tag_at.ensures.1,
       wrote-long c.put_16-s_at.ensures.1,
       wrote-long c.put_16-expiry_at.ensures.1,
       c.put_byte-tag_at.ensures.0,
       c.put_16-s_at.ensures.0,
       c.put_16-expiry_at.ensures.0,
-      s.pre,
+      c.requires,
     )
 
 pub returns : goal.returns
 returns c =
-    let s = c.before.before in
-    wrote_as (tombstone-is s.args.held c.typed.ensures)
+    wrote_as (tombstone-is c.args.held c.typed.ensures)
     (c.put_byte-tag_at.ensures.1 then (c.put_16-s_at.ensures.1 then (c.put_16-expiry_at.ensures.1 then c.put_be.ensures.1)))

@@ -20,13 +20,6 @@ starts : (row : List ℕ) (at : HeldAt) → Offsets row at → length row - leng
 starts row (Carried at) p = simp length-drop (omega (arith, p.sealed))
 starts row (Tombstone at) p = simp sub-zero
 
-pub returns-in_default : goal.returns-in_default
-returns-in_default c =
-    let says : check_says c.args.row.now c.check_courier-check.result ≡ read_row (courier c.args.version) c.args.row.now = check-says c.args.row.now (typed c.args.row.now c.type_inv.row) c.args.version c.check_courier-check.ensures in
-    let told = c.in_default.is in
-    rw (learn (check_says _) says told, c.refusal.ensures ∙ ap check_refusal told, c.zero.ensures)
-    (simp sub-zero)
-
 pub held_from-requires : goal.held_from-requires
 held_from-requires c =
     let placed : Placed c.args.row.now c.check_courier-check.result = check-placed c.args.row.now (typed c.args.row.now c.type_inv.row) c.args.version c.check_courier-check.ensures in
