@@ -18,7 +18,7 @@ use Rattle.layout.proofs.Lawful.{Lawful}
 use Rattle.layout.proofs.Front.{number-lawful}
 use Rattle.layout.proofs.Parts.{times-lawful}
 use Rattle.rows.specs.Values.{Pending, Send}
-use Rattle.rows.specs.Rows.{role, pending, send, chain, skipped, range}
+use Rattle.rows.specs.Rows.{pending, send, chain, skipped, range}
 use Rattle.rows.proofs.Lawful.{chain-lawful, skipped-lawful, range-lawful}
 use Rattle.contact_lists.specs.Lists as lists
 use Rattle.offsets.specs.Offset.{located}

@@ -5,7 +5,7 @@ use Rattle.std.proofs.Math.Option.{Option}
 use Rattle.layout.specs.Questions.{CARD_END}
 use Rattle.layout.specs.Veil.{plain, veiled}
 use Rattle.layout.specs.Form.{bytes, u32, u64}
-use Rattle.layout.specs.Layout.{Layout, done, field, group, optional, list, sized, ◌>>=◌, ◌>>◌}
+use Rattle.layout.specs.Layout.{Layout, done, field, group, optional, list, sized, ◌>>=◌}
 use Rattle.rows.specs.Values.{Card, Pending, Send, Chain, Skipped, Range, Contact}
 use Rattle.rows.specs.Rows.{role, mode, verification, card, pending, send, chain, skipped, range}
 use Rattle.rows.specs.declared.PairingRole.{PairingRole}

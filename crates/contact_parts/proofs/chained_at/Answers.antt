@@ -1,11 +1,12 @@
 -- `contact_parts::chained_at` meets its contract: one step of the layout for each field.
 -- Written by tools/fields/fieldgen.py, and not edited: tools/fields/README.md says how. Assumes nothing.
-use Prim.Native.Nat.{ℕ, ◌+◌}
+use Prim.Native.Nat.{ℕ, ◌+◌, ◌≤◌}
+use mathlib.Core.List.{List}
 use mathlib.Core.Path.{◌≡◌, sym, ap, ◌∙◌}
 use native.Mathlib.Omega.{arith}
-use lib.ListN.{length}
+use lib.ListN.{length, drop}
 use Rattle.layout.specs.Read.{value}
-use Rattle.layout.specs.Layout.{group, optional, list}
+use Rattle.layout.specs.Layout.{parse, group, optional, list}
 use Rattle.layout.specs.Field.{read_at}
 use Rattle.layout.specs.RowLaws.{Bytes}
 use Rattle.layout.proofs.Derived.{optional-lawful}
@@ -25,6 +26,10 @@ use Rattle.contact_parts.specs.declared.SendAt.{SendAt}
 use Rattle.contact_parts.specs.declared.ChainedAt.{ChainedAt}
 use Rattle.contact_parts.specs.declared.ChainedField.TheVariants.{Value}
 use Rattle.contact_parts.proofs.chained_at.Goals as goal
+
+granted : (row : List ℕ) (from : ℕ) {v : Chained} {next : ℕ} {place : ChainedAt} → parse chained (drop from row) ≡ value v (drop next row) → next ≤ length row
+    → place ≡ chained_at from v → Value place next ≡ chained_found from (read_at (group chained) row from)
+granted row from {next = next} all inside is = ap (λ (place : ChainedAt). Value place next) is ∙ sym (ap (chained_found from) (takes_at row from (group chained) all inside))
 
 its-places : (from : ℕ) (v : Chained)
     → {chains-at : ListAt} {chains-here : ℕ} → chains-at ≡ list_at (group chain) chains-here v.chains → chains-here ≡ from + offset chained 2 v
@@ -47,7 +52,7 @@ returns-in_default-send_field c =
     let pending-read : Located (pending_at c.args.at) (read_at (optional (group pending)) c.args.row.now c.args.at) c.in-Value.pending c.in-Value.at1 = located-at (pending_at _) _ (learn pending_says c.pending_at-pending_field.ensures c.in-Value.is) in
     let pending-took : Took (optional (group pending)) c.args.row.now c.args.at pending-read.value c.in-Value.at1 = took _ _ (optional (group pending)) (optional-lawful (group pending) pending-lawful) by pending-read.read in
     let r1 : (Reached chained c.args.row.now c.args.at) = field-yes r0.so pending-took in
-    let stop = field-no r1.so (refused-at _ _ (optional (group send)) (located-not (send_at _) _ (learn send_says c.IsSend-at.ensures c.in_default-send_field.is))) in
+    let stop = field-no r1.so (refused-at _ _ (optional (group send)) (located-not (send_at _) _ (learn send_says c.send_at-send_field.ensures c.in_default-send_field.is))) in
     rw (c.refusal-in_default-send_field.ensures ∙ ap send_refusal c.in_default-send_field.is) ((sym (ap (chained_found c.args.at) (refuses-at c.args.row.now c.args.at (group chained) stop))))
 
 pub returns-in_default-chains_field : goal.returns-in_default-chains_field
@@ -57,7 +62,7 @@ returns-in_default-chains_field c =
     let pending-read : Located (pending_at c.args.at) (read_at (optional (group pending)) c.args.row.now c.args.at) c.in-Value.pending c.in-Value.at1 = located-at (pending_at _) _ (learn pending_says c.pending_at-pending_field.ensures c.in-Value.is) in
     let pending-took : Took (optional (group pending)) c.args.row.now c.args.at pending-read.value c.in-Value.at1 = took _ _ (optional (group pending)) (optional-lawful (group pending) pending-lawful) by pending-read.read in
     let r1 : (Reached chained c.args.row.now c.args.at) = field-yes r0.so pending-took in
-    let send-read : Located (send_at r1.here) (read_at (optional (group send)) c.args.row.now r1.here) c.in-Value-send_field.send c.in-Value-send_field.at2 = located-at (send_at _) _ (learn send_says c.IsSend-at.ensures c.in-Value-send_field.is) in
+    let send-read : Located (send_at r1.here) (read_at (optional (group send)) c.args.row.now r1.here) c.in-Value-send_field.send c.in-Value-send_field.at2 = located-at (send_at _) _ (learn send_says c.send_at-send_field.ensures c.in-Value-send_field.is) in
     let send-took : Took (optional (group send)) c.args.row.now r1.here send-read.value c.in-Value-send_field.at2 = took _ _ (optional (group send)) (optional-lawful (group send) send-lawful) by send-read.read in
     let r2 : (Reached chained c.args.row.now c.args.at) = field-yes r1.so send-took in
     let stop = field-no r2.so (refused-at _ _ (list (group chain)) (learn (list_says (group chain) c.args.row.now) c.chains_at-chains_field.ensures.0 c.in_default-chains_field.is)) in
@@ -70,12 +75,12 @@ returns-in_default-skipped_field c =
     let pending-read : Located (pending_at c.args.at) (read_at (optional (group pending)) c.args.row.now c.args.at) c.in-Value.pending c.in-Value.at1 = located-at (pending_at _) _ (learn pending_says c.pending_at-pending_field.ensures c.in-Value.is) in
     let pending-took : Took (optional (group pending)) c.args.row.now c.args.at pending-read.value c.in-Value.at1 = took _ _ (optional (group pending)) (optional-lawful (group pending) pending-lawful) by pending-read.read in
     let r1 : (Reached chained c.args.row.now c.args.at) = field-yes r0.so pending-took in
-    let send-read : Located (send_at r1.here) (read_at (optional (group send)) c.args.row.now r1.here) c.in-Value-send_field.send c.in-Value-send_field.at2 = located-at (send_at _) _ (learn send_says c.IsSend-at.ensures c.in-Value-send_field.is) in
+    let send-read : Located (send_at r1.here) (read_at (optional (group send)) c.args.row.now r1.here) c.in-Value-send_field.send c.in-Value-send_field.at2 = located-at (send_at _) _ (learn send_says c.send_at-send_field.ensures c.in-Value-send_field.is) in
     let send-took : Took (optional (group send)) c.args.row.now r1.here send-read.value c.in-Value-send_field.at2 = took _ _ (optional (group send)) (optional-lawful (group send) send-lawful) by send-read.read in
     let r2 : (Reached chained c.args.row.now c.args.at) = field-yes r1.so send-took in
     let chains-took : Took (list (group chain)) c.args.row.now r2.here (list_in (group chain) c.args.row.now c.in-Value-chains_field.chains) c.in-Value-chains_field.chains.next = list-took (group chain) chain-lawful c.args.row.now by _ c.chains_at-chains_field.ensures c.in-Value-chains_field.is in
     let r3 : (Reached chained c.args.row.now c.args.at) = field-yes r2.so chains-took in
-    let stop = field-no r3.so (refused-at _ _ (list (group skipped)) (learn (list_says (group skipped) c.args.row.now) c.Skipped-at.ensures.0 c.in_default-skipped_field.is)) in
+    let stop = field-no r3.so (refused-at _ _ (list (group skipped)) (learn (list_says (group skipped) c.args.row.now) c.skipped_at-skipped_field.ensures.0 c.in_default-skipped_field.is)) in
     rw (c.refusal-in_default-skipped_field.ensures ∙ ap list_refusal c.in_default-skipped_field.is) ((sym (ap (chained_found c.args.at) (refuses-at c.args.row.now c.args.at (group chained) stop))))
 
 pub returns : goal.returns
@@ -85,17 +90,17 @@ returns c =
     let by : Bytes c.args.row.now = typed c.args.row.now c.type_inv.row in
     let pending-took : Took (optional (group pending)) c.args.row.now c.args.at pending-read.value c.in-Value.at1 = took _ _ (optional (group pending)) (optional-lawful (group pending) pending-lawful) by pending-read.read in
     let r1 : (Reached chained c.args.row.now c.args.at) = field-yes r0.so pending-took in
-    let send-read : Located (send_at r1.here) (read_at (optional (group send)) c.args.row.now r1.here) c.in-Value-send_field.send c.in-Value-send_field.at2 = located-at (send_at _) _ (learn send_says c.IsSend-at.ensures c.in-Value-send_field.is) in
+    let send-read : Located (send_at r1.here) (read_at (optional (group send)) c.args.row.now r1.here) c.in-Value-send_field.send c.in-Value-send_field.at2 = located-at (send_at _) _ (learn send_says c.send_at-send_field.ensures c.in-Value-send_field.is) in
     let send-took : Took (optional (group send)) c.args.row.now r1.here send-read.value c.in-Value-send_field.at2 = took _ _ (optional (group send)) (optional-lawful (group send) send-lawful) by send-read.read in
     let r2 : (Reached chained c.args.row.now c.args.at) = field-yes r1.so send-took in
     let chains-took : Took (list (group chain)) c.args.row.now r2.here (list_in (group chain) c.args.row.now c.in-Value-chains_field.chains) c.in-Value-chains_field.chains.next = list-took (group chain) chain-lawful c.args.row.now by _ c.chains_at-chains_field.ensures c.in-Value-chains_field.is in
     let r3 : (Reached chained c.args.row.now c.args.at) = field-yes r2.so chains-took in
-    let skipped-took : Took (list (group skipped)) c.args.row.now r3.here (list_in (group skipped) c.args.row.now c.in-Value-skipped_field.skipped) c.in-Value-skipped_field.skipped.next = list-took (group skipped) skipped-lawful c.args.row.now by _ c.Skipped-at.ensures c.in-Value-skipped_field.is in
+    let skipped-took : Took (list (group skipped)) c.args.row.now r3.here (list_in (group skipped) c.args.row.now c.in-Value-skipped_field.skipped) c.in-Value-skipped_field.skipped.next = list-took (group skipped) skipped-lawful c.args.row.now by _ c.skipped_at-skipped_field.ensures c.in-Value-skipped_field.is in
     let r4 : (Reached chained c.args.row.now c.args.at) = field-yes r3.so skipped-took in
     let chains-starts : c.in-Value-chains_field.chains ≡ list_at (group chain) r2.here (list_in (group chain) c.args.row.now c.in-Value-chains_field.chains) = list-starts (group chain) chain-lawful c.args.row.now by _ c.chains_at-chains_field.ensures c.in-Value-chains_field.is send-took.inside in
     let pending_next : c.in-Value.at1 ≡ c.args.at + length ((optional (group pending)).print pending-read.value) = took-next _ _ (optional (group pending)) (optional-lawful (group pending) pending-lawful) by pending-read.read (optional-not-past _ _ (group pending) pending-read.read) in
     let send-next : c.in-Value-send_field.at2 ≡ r1.here + length ((optional (group send)).print send-read.value) = took-next _ _ (optional (group send)) (optional-lawful (group send) send-lawful) by send-read.read pending-took.inside in
-    let skipped-starts : c.in-Value-skipped_field.skipped ≡ list_at (group skipped) r3.here (list_in (group skipped) c.args.row.now c.in-Value-skipped_field.skipped) = list-starts (group skipped) skipped-lawful c.args.row.now by _ c.Skipped-at.ensures c.in-Value-skipped_field.is chains-took.inside in
+    let skipped-starts : c.in-Value-skipped_field.skipped ≡ list_at (group skipped) r3.here (list_in (group skipped) c.args.row.now c.in-Value-skipped_field.skipped) = list-starts (group skipped) skipped-lawful c.args.row.now by _ c.skipped_at-skipped_field.ensures c.in-Value-skipped_field.is chains-took.inside in
     let chains-next : c.in-Value-chains_field.chains.next ≡ r2.here + length ((list (group chain)).print (list_in (group chain) c.args.row.now c.in-Value-chains_field.chains)) = list-next (group chain) chain-lawful c.args.row.now by _ c.chains_at-chains_field.ensures c.in-Value-chains_field.is send-took.inside in
     let its : Chained = record {
       pending = pending-read.value;
@@ -103,7 +108,7 @@ returns c =
       chains = list_in (group chain) c.args.row.now c.in-Value-chains_field.chains;
       skipped = list_in (group skipped) c.args.row.now c.in-Value-skipped_field.skipped;
     } in
-    (next} all inside is = ap (λ (place : ChainedAt). Value place next) is ∙ sym (ap (chained_found c.args.at) (takes_at c.args.row.now c.args.at (group chained) all inside))) (done-yes r4.so) skipped-took.inside
+    granted c.args.row.now c.args.at {v = its} (done-yes r4.so) skipped-took.inside
     (its-places c.args.at its
     chains-starts
     (omega (arith, pending_next, send-next))

@@ -1,12 +1,14 @@
 -- `contact_parts::keys_at` meets its contract: one step of the layout for each field.
 -- Written by tools/fields/fieldgen.py, and not edited: tools/fields/README.md says how. Assumes nothing.
-use Prim.Native.Nat.{ℕ, ◌+◌}
+use Prim.Native.Nat.{ℕ, ◌+◌, ◌≤◌}
+use mathlib.Core.List.{List}
 use mathlib.Core.Path.{◌≡◌, sym, ap, ◌∙◌}
 use native.Mathlib.Omega.{arith}
 use lib.ListN.{length, take, drop}
 use Rattle.layout.specs.Veil.{veiled}
 use Rattle.layout.specs.Form.{bytes, u32, u64}
-use Rattle.layout.specs.Layout.{group}
+use Rattle.layout.specs.Read.{value}
+use Rattle.layout.specs.Layout.{parse, group}
 use Rattle.layout.specs.Field.{takes, read_at}
 use Rattle.layout.specs.RowLaws.{Bytes}
 use Rattle.layout.proofs.Front.{number-lawful}
@@ -21,6 +23,10 @@ use Rattle.contact_parts.specs.Offsets.{keys_at, keys_found}
 use Rattle.contact_parts.specs.declared.KeysAt.{KeysAt}
 use Rattle.contact_parts.specs.declared.KeysField.TheVariants.{Value}
 use Rattle.contact_parts.proofs.keys_at.Goals as goal
+
+granted : (row : List ℕ) (from : ℕ) {v : Keys} {next : ℕ} {place : KeysAt} → parse keys (drop from row) ≡ value v (drop next row) → next ≤ length row
+    → place ≡ keys_at from v → Value place next ≡ keys_found from (read_at (group keys) row from)
+granted row from {next = next} all inside is = ap (λ (place : KeysAt). Value place next) is ∙ sym (ap (keys_found from) (takes_at row from (group keys) all inside))
 
 its-places : (from : ℕ) (v : Keys)
     → {door-a-to-b-at : ℕ} → door-a-to-b-at ≡ from + offset keys 0 v
@@ -117,7 +123,7 @@ returns c =
       chain_key = take 32 (drop c.in-Value-run_at-3.chain_key c.args.row.now);
       sent_msgno = c.in-Value-u32_at.sent_msgno;
     } in
-    (next} all inside is = ap (λ (place : KeysAt). Value place next) is ∙ sym (ap (keys_found c.args.at) (takes_at c.args.row.now c.args.at (group keys) all inside))) (done-yes r6.so) sent-msgno-took.inside
+    granted c.args.row.now c.args.at {v = its} (done-yes r6.so) sent-msgno-took.inside
     (its-places c.args.at its
     (omega (arith, door-a-to-b-run.starts))
     (omega (arith, door-a-to-b-run.ends, door-b-to-a-run.starts))

@@ -1,11 +1,13 @@
 -- `contact_parts::numbers_at` meets its contract: one step of the layout for each field.
 -- Written by tools/fields/fieldgen.py, and not edited: tools/fields/README.md says how. Assumes nothing.
-use Prim.Native.Nat.{ℕ, ◌+◌}
+use Prim.Native.Nat.{ℕ, ◌+◌, ◌≤◌}
+use mathlib.Core.List.{List}
 use mathlib.Core.Path.{◌≡◌, refl, sym, ap, ◌∙◌}
 use native.Mathlib.Omega.{arith}
-use lib.ListN.{length}
+use lib.ListN.{length, drop}
 use Rattle.layout.specs.Form.{u32}
-use Rattle.layout.specs.Layout.{group, list}
+use Rattle.layout.specs.Read.{value}
+use Rattle.layout.specs.Layout.{parse, group, list}
 use Rattle.layout.specs.Field.{takes, read_at}
 use Rattle.layout.specs.RowLaws.{Bytes}
 use Rattle.layout.proofs.Front.{number-lawful}
@@ -24,6 +26,10 @@ use Rattle.contact_parts.proofs.Lists.{list-took, list-next, list-starts}
 use Rattle.contact_parts.specs.declared.NumbersAt.{NumbersAt}
 use Rattle.contact_parts.specs.declared.NumbersField.TheVariants.{Value}
 use Rattle.contact_parts.proofs.numbers_at.Goals as goal
+
+granted : (row : List ℕ) (from : ℕ) {v : Numbers} {next : ℕ} {place : NumbersAt} → parse numbers (drop from row) ≡ value v (drop next row) → next ≤ length row
+    → place ≡ numbers_at from v → Value place next ≡ numbers_found from (read_at (group numbers) row from)
+granted row from {next = next} all inside is = ap (λ (place : NumbersAt). Value place next) is ∙ sym (ap (numbers_found from) (takes_at row from (group numbers) all inside))
 
 its-places : (from : ℕ) (v : Numbers)
     → {above_at : ListAt} {above-here : ℕ} → above_at ≡ list_at (group range) above-here v.above → above-here ≡ from + offset numbers 4 v
@@ -180,7 +186,7 @@ returns c =
       unacked = list_in u32 c.args.row.now c.in-Value-unacked_field.unacked;
       expired = list_in (group range) c.args.row.now c.in-Value-expired_field.expired;
     } in
-    (next} all inside is = ap (λ (place : NumbersAt). Value place next) is ∙ sym (ap (numbers_found c.args.at) (takes_at c.args.row.now c.args.at (group numbers) all inside))) (done-yes r7.so) expired-took.inside
+    granted c.args.row.now c.args.at {v = its} (done-yes r7.so) expired-took.inside
     (its-places c.args.at its
     above-starts
     (omega (arith, peer-acked-next, peer-read-next, read-marked-next, contiguous-next))

@@ -1,13 +1,14 @@
 -- `contact_parts::paired_at` meets its contract: one step of the layout for each field.
 -- Written by tools/fields/fieldgen.py, and not edited: tools/fields/README.md says how. Assumes nothing.
-use Prim.Native.Nat.{ℕ, ◌+◌}
+use Prim.Native.Nat.{ℕ, ◌+◌, ◌≤◌}
+use mathlib.Core.List.{List}
 use mathlib.Core.Path.{◌≡◌, refl, sym, ap, ◌∙◌}
 use native.Mathlib.Omega.{arith}
 use lib.ListN.{length, take, drop}
 use Rattle.layout.specs.Questions.{CARD_END}
 use Rattle.layout.specs.Read.{value}
 use Rattle.layout.specs.Veil.{plain}
-use Rattle.layout.specs.Layout.{group, sized}
+use Rattle.layout.specs.Layout.{parse, group, sized}
 use Rattle.layout.specs.Field.{takes, read_at}
 use Rattle.layout.specs.RowLaws.{Bytes}
 use Rattle.layout.proofs.Derived.{sized-lawful}
@@ -26,6 +27,10 @@ use Rattle.contact_parts.specs.declared.CardOffset.{CardOffset}
 use Rattle.contact_parts.specs.declared.PairedAt.{PairedAt}
 use Rattle.contact_parts.specs.declared.PairedField.TheVariants.{Value}
 use Rattle.contact_parts.proofs.paired_at.Goals as goal
+
+granted : (row : List ℕ) (from : ℕ) {v : Paired} {next : ℕ} {place : PairedAt} → parse paired (drop from row) ≡ value v (drop next row) → next ≤ length row
+    → place ≡ paired_at from v → Value place next ≡ paired_found from (read_at (group paired) row from)
+granted row from {next = next} all inside is = ap (λ (place : PairedAt). Value place next) is ∙ sym (ap (paired_found from) (takes_at row from (group paired) all inside))
 
 its-places : (from : ℕ) (v : Paired)
     → {pair-id-at : ℕ} → pair-id-at ≡ from + offset paired 3 v
@@ -162,7 +167,7 @@ returns c =
       nonce_b = take 16 (drop c.in-Value-run_at-3.nonce_b c.args.row.now);
       card = card-read.value;
     } in
-    (next} all inside is = ap (λ (place : PairedAt). Value place next) is ∙ sym (ap (paired_found c.args.at) (takes_at c.args.row.now c.args.at (group paired) all inside))) (done-yes r7.so) card-took.inside
+    granted c.args.row.now c.args.at {v = its} (done-yes r7.so) card-took.inside
     (its-places c.args.at its
     (omega (arith, role-next, mode-next, verification-next, pair-id-run.starts))
     (omega (arith, role-next, mode-next, verification-next, pair-id-run.ends, th-run.starts))
