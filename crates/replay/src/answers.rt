@@ -1,10 +1,10 @@
 // What is printed for a line: the answer to a call, the state, or that the line is none.
+use super::failure::fail;
 use super::{BEGIN, NOTHING, SHOW, STATE, Script, UNKNOWN, least};
 use ascii::first;
 use calls_session::Session;
 use calls_step::Mark;
 use contact::Contact;
-use libc::STDOUT_FILENO;
 use rows::{ContactId, Written};
 
 // What a line leaves: the session, and the line that is to be printed.
@@ -15,15 +15,17 @@ pub struct Answered {
 }
 
 // Whether the line was printed whole. A write that fails is said to have failed.
-pub(super) fn print(written: Written, line: &[u8]) -> bool {
+pub(super) fn print(rt: &(impl Print + Eprint + Alloc), written: Written, line: &[u8]) -> bool {
     let Written::Length(n) = written else {
         return true;
     };
-    if io::write_all(STDOUT_FILENO, first(line, n)) {
-        return true;
+    match rt.write_all(first(line, n)) {
+        Ok(()) => true,
+        Err(error) => {
+            fail(rt, "standard output", error);
+            false
+        }
     }
-    os::fail(b"standard output");
-    false
 }
 
 // The open contact, its fields as a row, and the places of the list above contiguous that were written.

@@ -5,6 +5,7 @@
 
 mod answers;
 mod commands;
+mod failure;
 mod window;
 
 ghost use Rattle.std.specs.Prelude.{◌≡◌, ◌≤◌, length};
@@ -14,6 +15,7 @@ use calls_session::Session;
 use commands::one_line;
 use rows::Written;
 use sheet::State;
+use std::io::Read;
 use window::{END, LINE, Window, line_in, look};
 
 // What there is to be lent: chains, skipped keys, pairs above contiguous, unacked numbers, expired pairs, bytes of output.
@@ -191,14 +193,14 @@ impl Script {
 }
 
 // A restore whose lines are not all there ends at the first that is missing, unless it is not known what comes, since a read failed.
-fn finish(s: Script, failed: bool, line: &mut [u8]) {
+fn finish(rt: &(impl Print + Eprint + Alloc), s: Script, failed: bool, line: &mut [u8]) {
     if failed {
         return;
     }
     if 0 < s.left {
         let number = std::num::wrapping_add_u64(s.number, 1);
         let unknown = replay_answer::number_line(b"? ", number, line);
-        print(unknown, line);
+        print(rt, unknown, line);
     }
 }
 
@@ -219,6 +221,7 @@ fn ends(code: u64, printed: bool) -> bool {
 
 // What a line asks for, where there is one.
 fn turn(
+    rt: &(impl Print + Eprint + Alloc),
     session: Session,
     s: Script,
     w: Window,
@@ -245,7 +248,7 @@ fn turn(
         session, asked, run, records, chains, skipped, above, unacked, expired, out, line,
     );
     let said = answered.said;
-    let printed = print(said, line);
+    let printed = print(rt, said, line);
     let after = answered.session;
     let mark = after.mark;
     let next = asked.after(after.first, pairs_open(mark, after.contact.above));
@@ -257,7 +260,9 @@ fn turn(
 }
 
 // A proved loop has to end, and nothing says that the input does: the turns are counted down from a number that no run uses up.
-fn replay(
+fn replay<R: Read>(
+    rt: &(impl Print + Eprint + Alloc),
+    input: &mut R,
     text: &mut [u8],
     run: &mut [u8],
     records: &mut [u64],
@@ -275,13 +280,14 @@ fn replay(
     let mut turns = u64::MAX;
     while 0 < turns {
         turns -= 1;
-        w = look(w, text);
+        w = look(rt, input, w, text);
         if w.found == END {
-            finish(s, w.failed, line);
+            finish(rt, s, w.failed, line);
             return;
         }
         let t = turn(
-            session, s, w, text, run, records, chains, skipped, above, unacked, expired, out, line,
+            rt, session, s, w, text, run, records, chains, skipped, above, unacked, expired, out,
+            line,
         );
         let after = t.session;
         session = after;
@@ -333,6 +339,12 @@ fn numbers() -> [u32; 15360]
     [0; 15360]
 }
 
+fn out_bytes() -> [u8; OUT]
+    ensures { 65536 ≡ length result }
+{
+    [0; OUT]
+}
+
 // The text of a row of 131,072 bytes and of 7,680 pairs, with what stands around it.
 fn longest_line() -> [u8; 431360]
     ensures { 431360 ≡ length result }
@@ -340,7 +352,8 @@ fn longest_line() -> [u8; 431360]
     [0; 431360]
 }
 
-fn main() {
+fn main(rt: HostRuntime) {
+    let mut input = rt.stdin();
     let mut text = window_bytes();
     let mut run = runs();
     let mut records = entry_records();
@@ -349,9 +362,11 @@ fn main() {
     let mut above = numbers();
     let mut unacked = numbers();
     let mut expired = numbers();
-    let mut out = io::large_buffer();
+    let mut out = out_bytes();
     let mut line = longest_line();
     replay(
+        &rt,
+        &mut input,
         &mut text,
         &mut run,
         &mut records,

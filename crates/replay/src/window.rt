@@ -1,8 +1,9 @@
 // Lines in a window on the input.
 ghost use Rattle.std.specs.Prelude.{◌≤◌, length};
 
+use super::failure::fail;
 use super::least;
-use libc::STDIN_FILENO;
+use std::io::Read;
 
 // Whether there is a line, or none comes any more.
 const NOT_YET: u8 = 0;
@@ -96,21 +97,33 @@ fn move_front(text: &mut [u8], at: usize, held: usize) -> usize
 }
 
 // Reads once, behind the bytes that are held.
-fn read_more(w: Window, text: &mut [u8], at: usize, held: usize) -> Window
+fn read_more<R: Read>(
+    rt: &(impl Eprint + Alloc),
+    input: &mut R,
+    w: Window,
+    text: &mut [u8],
+    at: usize,
+    held: usize,
+) -> Window
     requires { (at ≤ held) × (held ≤ length text.old) }
 {
     let from = move_front(text, at, held);
-    let got = libc::read(STDIN_FILENO, &mut text[from..]);
-    if got < 0 {
-        os::fail(b"standard input");
-        return w.fails();
+    match input.read(&mut text[from..]) {
+        Ok(more) => w.holds(from + more, more == 0),
+        Err(error) => {
+            fail(rt, "standard input", error);
+            w.fails()
+        }
     }
-    let more = io::count(got, &text[from..]);
-    w.holds(from + more, more == 0)
 }
 
 // Looks for the next line, and reads once where there is none.
-pub(super) fn look(w: Window, text: &mut [u8]) -> Window {
+pub(super) fn look<R: Read>(
+    rt: &(impl Eprint + Alloc),
+    input: &mut R,
+    w: Window,
+    text: &mut [u8],
+) -> Window {
     let held = least(w.held, text.len());
     let at = least(w.at, held);
     let n = ascii::until(&text[at..held], b'\n');
@@ -129,7 +142,7 @@ pub(super) fn look(w: Window, text: &mut [u8]) -> Window {
             return w.long_line(held);
         }
     }
-    read_more(w, text, at, held)
+    read_more(rt, input, w, text, at, held)
 }
 
 pub(super) fn line_in(w: Window, text: &[u8]) -> &[u8] {

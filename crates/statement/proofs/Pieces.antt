@@ -1,6 +1,6 @@
--- Pieces read one after the other, and the text that is reported of them.
+-- Pieces read one after the other.
 -- Assumes nothing.
-use Prim.Native.Nat.{ℕ, ◌+◌, ◌-◌, ◌*◌, ◌^◌, ◌≤◌}
+use Prim.Native.Nat.{ℕ, ◌+◌, ◌-◌, ◌^◌}
 use mathlib.Core.List.{List, [], ◌∷◌, ◌++◌, map, map-append}
 use mathlib.Core.Bool.{Bool, true, false, ◌&&◌, ◌||◌, and-true, and_assoc, or-false, or_assoc, false≢true}
 use mathlib.Core.Path.{◌≡◌, refl, sym, ap, ◌∙◌}
@@ -8,22 +8,13 @@ use native.Mathlib.Omega.{arith}
 use lib.ListN.{length, length-append}
 use lib.Dec.{ltb}
 use lib.IntN.{ℤ, pos, negsuc}
-use borrow.Author.Tests.{le-leb}
-use Rattle.io.specs.Counts.{clamp_len}
-use Rattle.layout.specs.Write.{stored}
 use Rattle.rows.specs.Checks.{all, any}
-use Rattle.rows.specs.Answers.{leaves}
-use Rattle.rows.specs.declared.Written.{Written}
-use Rattle.rows.specs.declared.Written.TheVariants.{Length}
 use Rattle.rows.proofs.Tests.{and_both}
 use Rattle.sheet.specs.declared.State.{State}
-use Rattle.sheet.specs.Sheet.{BLOB_BYTES, LINES}
-use Rattle.sheet.specs.Machine.{Held, held, at_line, fed, state_in, run_in, records_in, answer_of}
+use Rattle.sheet.specs.Machine.{Held, held, at_line, fed}
 use Rattle.sheet.specs.Proved.{in_chunks}
-use Rattle.statement_report.specs.Report.{report_of}
-use Rattle.statement_report.proofs.Proved.{proved}
 use Rattle.statement.specs.declared.Reading.{Reading}
-use Rattle.statement.specs.Pieces.{Piece, bytes_of, has_bytes, has_failed, below, held_by, ReadOne, fed_by, ReadAll, Reports}
+use Rattle.statement.specs.Pieces.{Piece, clamp_len, bytes_of, has_bytes, has_failed, below, held_by, ReadOne, fed_by, ReadAll}
 
 -- ---- one piece more
 in-chunks-last : (cs : List (List ℕ)) (c : List ℕ) (h : Held) → in_chunks (cs ++ (c ∷ [])) h ≡ fed c (in_chunks cs h)
@@ -98,28 +89,3 @@ reads_all s e = record {
   fed-are = s.fed-are;
   failed-is = s.failed-is;
 }
-
--- ---- what is reported
-module _ {run₀ records₀ run records : List ℕ} {r : Reading} (s : ReadAll run₀ records₀ r run records) (text₀ : List ℕ) where
-  pub reports-none : r.failed ≡ true → Reports run₀ records₀ text₀ (record { written = Length 0; failed = true }) run records text₀
-  reports-none e = record {
-    pieces = s.pieces;
-    ended = s.ended;
-    run_is = ap run_in s.fed-are;
-    records-are = ap records_in s.fed-are;
-    text-is = rw (sym s.failed-is ∙ e, le-leb 0 (length text₀) (omega arith));
-    failed-is = sym e ∙ s.failed-is;
-  }
-
-  pub reports-text : {w : Written} {text : List ℕ} → r.failed ≡ false → BLOB_BYTES ≤ length run₀ → 6 * LINES ≤ length records₀
-      → leaves w text ≡ stored (report_of (answer_of r.state) run records) text₀ → Reports run₀ records₀ text₀ (record { written = w; failed = false }) run records text
-  reports-text {w} {text} e room lines left =
-      let reported = ap (λ (h : Held). report_of (answer_of (state_in h)) (run_in h) (records_in h)) s.fed-are ∙ proved.reports (map bytes_of s.pieces) run₀ records₀ room lines in
-      record {
-        pieces = s.pieces;
-        ended = s.ended;
-        run_is = ap run_in s.fed-are;
-        records-are = ap records_in s.fed-are;
-        text-is = left ∙ ap (λ (t : List ℕ). stored t text₀) reported ∙ rw (sym s.failed-is ∙ e);
-        failed-is = sym e ∙ s.failed-is;
-      }

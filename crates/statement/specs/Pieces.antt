@@ -1,8 +1,6 @@
 -- What the program reads of its input, and what it leaves to be printed: the text of all that was read, whatever pieces it came in.
 -- Assumes nothing.
-use Rattle.std.specs.Prelude.{ℕ, ◌-◌, ◌^◌, List, [], map, Bool, true, false, cond, ◌≡◌, length, take, ltb, ℤ, pos, negsuc}
-use Rattle.libc.specs.Io.{Moved}
-use Rattle.io.specs.Counts.{clamp_len}
+use Rattle.std.specs.Prelude.{ℕ, ◌-◌, ◌^◌, ◌≤◌, min, List, [], map, Bool, true, false, cond, ◌≡◌, length, take, ltb, ℤ, pos, negsuc}
 use Rattle.layout.specs.Write.{stored}
 use Rattle.rows.specs.Checks.{all, any}
 use Rattle.rows.specs.Answers.{leaves}
@@ -11,6 +9,16 @@ use Rattle.sheet.specs.Proved.{in_chunks, whole}
 use Rattle.statement_text.specs.Text.{sheet_text}
 use Rattle.statement.specs.declared.Reading.{Reading}
 use Rattle.statement.specs.declared.Reported.{Reported}
+
+-- ---- what a read that is handed n bytes may answer: how many bytes it put there, at most n, or -1 where it failed
+abbrev pub Moved : ℕ → ℤ → Type 0
+Moved n (pos k) = k ≤ n
+Moved n (negsuc k) = k ≡ 0
+
+-- an answer, brought into `0..=most`
+abbrev pub clamp_len : ℤ → ℕ → ℕ
+clamp_len (pos k) most = min k most
+clamp_len (negsuc k) most = 0
 
 -- ---- one read: what it answered, and the buffer as it left it
 pub record Piece : Type 0 where

@@ -2,21 +2,24 @@
 // A line of any length takes the same memory.
 #![tactic(auto)]
 
+mod failure;
+
 ghost use Rattle.std.specs.Prelude.{◌≡◌, true, false, ◌*◌, ◌≤◌, length};
 ghost use Rattle.sheet.specs.Sheet.{BLOB_BYTES, LINES};
 ghost use Rattle.sheet.specs.Machine.{at_line, held};
-ghost use Rattle.statement.specs.Pieces.{Taken, ReadOne, ReadAll, Reports};
+ghost use Rattle.statement.specs.Pieces.{Moved, clamp_len, Taken, ReadOne, ReadAll, Reports};
 
-use libc::{STDIN_FILENO, STDOUT_FILENO};
+use failure::fail;
 use rows::Written;
 use sheet::{BLOB_BYTES, LINES, RECORD, State};
 use statement_text::TEXT_BYTES;
+use std::io::Read;
 
 // How many numbers the records have.
 const RECORDS: usize = RECORD * LINES;
 
 // What was read so far. After the last piece, or after a read that failed, there is no more.
-#[derive(Clone, Copy)]
+#[derive(Drop)]
 struct Reading {
     state: State,
     more: bool,
@@ -24,7 +27,7 @@ struct Reading {
 }
 
 // What is to be printed, in the text; nothing where a read failed.
-#[derive(Clone, Copy)]
+#[derive(Drop)]
 struct Reported {
     written: Written,
     failed: bool,
@@ -39,6 +42,13 @@ fn begin() -> Reading
         more: true,
         failed: false,
     }
+}
+
+// The buffer of a read.
+fn chunk_bytes() -> [u8; 65536]
+    ensures { 65536 ≡ length result }
+{
+    [0; 65536]
 }
 
 fn run_bytes() -> [u8; BLOB_BYTES]
@@ -59,6 +69,31 @@ fn text_bytes() -> [u8; TEXT_BYTES]
     [0; TEXT_BYTES]
 }
 
+// One read: how many bytes it put at the start of the buffer, or -1 where it failed, which is said.
+fn read_once<R: Read>(rt: &(impl Eprint + Alloc), input: &mut R, chunk: &mut [u8]) -> isize
+    ensures { Moved (length chunk.new) result }
+{
+    match input.read(chunk) {
+        Ok(n) => n as isize,
+        Err(error) => {
+            fail(rt, "standard input", error);
+            -1
+        }
+    }
+}
+
+// How many bytes of the buffer a read that answered so put there.
+fn count(got: isize, chunk: &[u8]) -> usize
+    ensures in_bounds { result ≤ length chunk.now }
+    ensures value { result ≡ clamp_len got (length chunk.now) }
+{
+    if got > 0 {
+        (got as usize).min(chunk.len())
+    } else {
+        0
+    }
+}
+
 // One piece more: what a read answered, and the buffer as it left it.
 fn take_piece(
     got: isize,
@@ -69,7 +104,7 @@ fn take_piece(
 ) -> Reading
     ensures { Taken (record { got = got; buffer = chunk.now }) (held state run.old records.old) result run.new records.new }
 {
-    let n = io::count(got, chunk);
+    let n = count(got, chunk);
     let next = sheet::read_chunk(state, &chunk[..n], run, records);
     Reading {
         state: next,
@@ -78,15 +113,28 @@ fn take_piece(
     }
 }
 
-fn read_some(state: State, chunk: &mut [u8], run: &mut [u8], records: &mut [u64]) -> Reading
+fn read_some<R: Read>(
+    rt: &(impl Eprint + Alloc),
+    input: &mut R,
+    state: State,
+    chunk: &mut [u8],
+    run: &mut [u8],
+    records: &mut [u64],
+) -> Reading
     ensures { ReadOne chunk.new (held state run.old records.old) result run.new records.new }
 {
-    let got = libc::read(STDIN_FILENO, chunk);
+    let got = read_once(rt, input, chunk);
     take_piece(got, chunk, state, run, records)
 }
 
 // A proved loop has to end, and nothing says that the input does. So the loop counts its turns down, from a number that no run uses up.
-fn read_all(chunk: &mut [u8], run: &mut [u8], records: &mut [u64]) -> Reading
+fn read_all<R: Read>(
+    rt: &(impl Eprint + Alloc),
+    input: &mut R,
+    chunk: &mut [u8],
+    run: &mut [u8],
+    records: &mut [u64],
+) -> Reading
     ensures { ReadAll run.old records.old result run.new records.new }
 {
     let mut reading = begin();
@@ -94,7 +142,7 @@ fn read_all(chunk: &mut [u8], run: &mut [u8], records: &mut [u64]) -> Reading
     while turns > 0 {
         if reading.more {
             let state = reading.state;
-            reading = read_some(state, chunk, run, records);
+            reading = read_some(rt, input, state, chunk, run, records);
             turns -= 1;
         } else {
             return reading;
@@ -104,28 +152,34 @@ fn read_all(chunk: &mut [u8], run: &mut [u8], records: &mut [u64]) -> Reading
 }
 
 // A text that could not be written whole is said to be so.
-fn write_out(text: &[u8]) {
-    if io::write_all(STDOUT_FILENO, text) {
-        return;
+fn write_out(rt: &(impl Print + Eprint + Alloc), text: &[u8]) {
+    if let Err(error) = rt.write_all(text) {
+        fail(rt, "standard output", error);
     }
-    os::fail(b"standard output");
 }
 
 // The output is long enough for every text, so there is no refusal.
-fn print(text: &[u8], written: Written) {
+fn print(rt: &(impl Print + Eprint + Alloc), text: &[u8], written: Written) {
     if let Written::Length(n) = written {
         if n <= text.len() {
-            write_out(&text[..n]);
+            write_out(rt, &text[..n]);
         }
     }
 }
 
 // Reads the input and writes its text: lists with the full room hold every sheet.
-fn report_input(chunk: &mut [u8], run: &mut [u8], records: &mut [u64], text: &mut [u8]) -> Reported
+fn report_input<R: Read>(
+    rt: &(impl Eprint + Alloc),
+    input: &mut R,
+    chunk: &mut [u8],
+    run: &mut [u8],
+    records: &mut [u64],
+    text: &mut [u8],
+) -> Reported
     requires { (BLOB_BYTES ≤ length run.old) × (6 * LINES ≤ length records.old) }
     ensures { Reports run.old records.old text.old result run.new records.new text.new }
 {
-    let reading = read_all(chunk, run, records);
+    let reading = read_all(rt, input, chunk, run, records);
     if reading.failed {
         return Reported {
             written: Written::Length(0),
@@ -140,22 +194,36 @@ fn report_input(chunk: &mut [u8], run: &mut [u8], records: &mut [u64], text: &mu
     }
 }
 
-fn statement(chunk: &mut [u8], run: &mut [u8], records: &mut [u64], text: &mut [u8])
+fn statement<R: Read>(
+    rt: &(impl Print + Eprint + Alloc),
+    input: &mut R,
+    chunk: &mut [u8],
+    run: &mut [u8],
+    records: &mut [u64],
+    text: &mut [u8],
+)
     requires { (BLOB_BYTES ≤ length run.old) × (6 * LINES ≤ length records.old) }
 {
-    let reported = report_input(chunk, run, records, text);
+    let reported = report_input(rt, input, chunk, run, records, text);
     if reported.failed {
-        os::fail(b"standard input");
         return;
     }
     let written = reported.written;
-    print(text, written);
+    print(rt, text, written);
 }
 
-fn main() {
-    let mut chunk = io::large_buffer();
+fn main(rt: HostRuntime) {
+    let mut input = rt.stdin();
+    let mut chunk = chunk_bytes();
     let mut run = run_bytes();
     let mut records = line_places();
     let mut text = text_bytes();
-    statement(&mut chunk, &mut run, &mut records, &mut text);
+    statement(
+        &rt,
+        &mut input,
+        &mut chunk,
+        &mut run,
+        &mut records,
+        &mut text,
+    );
 }

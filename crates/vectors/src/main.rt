@@ -9,11 +9,11 @@ use ascii::Said;
 use card::Card;
 use data::Leb128Field;
 use fields::{U32Field, U64Field};
-use libc::{STDIN_FILENO, STDOUT_FILENO};
 use restore::Restored;
 use rows::{Verdict, Written};
 use sheet::RECORD;
 use sheet_entries::ENTRIES;
+use std::io::Read;
 
 // The highest number of 32 bits.
 const HIGHEST_32: u64 = 0xffff_ffff;
@@ -62,12 +62,10 @@ impl Tally {
         }
     }
 
-    fn print(self, letter: u8) {
-        io::write_all(STDOUT_FILENO, &[letter, b' ']);
-        io::print_decimal(STDOUT_FILENO, self.cases);
-        io::write_all(STDOUT_FILENO, b" cases, ");
-        io::print_decimal(STDOUT_FILENO, self.different);
-        io::write_all(STDOUT_FILENO, b" different\n");
+    fn print(self, rt: &impl Print, letter: char) {
+        let cases = self.cases;
+        let different = self.different;
+        let _ = println!(rt; "{letter} {cases} cases, {different} different");
     }
 }
 
@@ -105,17 +103,17 @@ impl Tallies {
         self
     }
 
-    fn print(self) {
-        self.read.print(b'L');
-        self.written.print(b'W');
-        self.names.print(b'N');
-        self.cards.print(b'C');
-        self.devices.print(b'D');
-        self.queued.print(b'Q');
-        self.courier.print(b'K');
-        self.contacts.print(b'P');
-        self.stores.print(b'S');
-        self.sheets.print(b'T');
+    fn print(self, rt: &impl Print) {
+        self.read.print(rt, 'L');
+        self.written.print(rt, 'W');
+        self.names.print(rt, 'N');
+        self.cards.print(rt, 'C');
+        self.devices.print(rt, 'D');
+        self.queued.print(rt, 'Q');
+        self.courier.print(rt, 'K');
+        self.contacts.print(rt, 'P');
+        self.stores.print(rt, 'S');
+        self.sheets.print(rt, 'T');
     }
 }
 
@@ -162,7 +160,7 @@ fn leb128_written(case: &[u8], bytes: &mut [u8], again: &mut [u8]) -> bool {
     let Written::Length(size) = data::leb128(narrow(value), again) else {
         return false;
     };
-    check::same(ascii::first(bytes, n), ascii::first(again, size))
+    ascii::first(bytes, n) == ascii::first(again, size)
 }
 
 // `HEX 1` or `HEX 0`: whether the bytes are UTF-8.
@@ -179,7 +177,7 @@ fn writes(card: Card, row: &[u8], again: &mut [u8]) -> bool {
     let Written::Length(n) = card.encode(again) else {
         return false;
     };
-    check::same(row, ascii::first(again, n))
+    row == ascii::first(again, n)
 }
 
 // `HEX 0`: a card, written again as the same bytes; or `HEX NUMBER`.
@@ -237,7 +235,7 @@ fn row(letter: u8, case: &[u8], bytes: &mut [u8], again: &mut [u8]) -> bool {
     let row = ascii::first(bytes, n);
     match row_again(letter, narrow(version), row, again) {
         Written::Length(size) => {
-            is_number(ascii::rest(blob), 0) && check::same(row, ascii::first(again, size))
+            is_number(ascii::rest(blob), 0) && row == ascii::first(again, size)
         }
         Written::Refused(number) => is_number(ascii::rest(blob), number as u64),
     }
@@ -369,7 +367,7 @@ fn is_bytes(text: &[u8], expected: &[u8], bytes: &mut [u8]) -> bool {
     let Written::Length(n) = ascii::bytes(text, bytes) else {
         return false;
     };
-    check::same(expected, ascii::first(bytes, n))
+    expected == ascii::first(bytes, n)
 }
 
 // `SHEET TEXT`: a sheet, and the text of its statement.
@@ -405,6 +403,7 @@ fn letter(line: &[u8]) -> u8 {
 
 // Counts the case of a line; an empty line, and one that starts with #, has none.
 fn count(
+    rt: &impl Print,
     tallies: Tallies,
     number: u64,
     line: &[u8],
@@ -421,9 +420,7 @@ fn count(
     if same(kind, ascii::rest(line), bytes, again) {
         return tallies.with(kind, true);
     }
-    io::write_all(STDOUT_FILENO, b"different: ");
-    io::print_decimal(STDOUT_FILENO, number);
-    io::write_all(STDOUT_FILENO, b"\n");
+    let _ = println!(rt; "different: {number}");
     tallies.with(kind, false)
 }
 
@@ -434,7 +431,7 @@ fn past(end: usize, len: usize) -> usize
     if end < len { end + 1 } else { len }
 }
 
-fn lines(text: &[u8], bytes: &mut [u8], again: &mut [u8]) -> Tallies {
+fn lines(rt: &impl Print, text: &[u8], bytes: &mut [u8], again: &mut [u8]) -> Tallies {
     let mut tallies = Tallies::new();
     let mut number: u64 = 0;
     let mut at: usize = 0;
@@ -443,7 +440,7 @@ fn lines(text: &[u8], bytes: &mut [u8], again: &mut [u8]) -> Tallies {
         let n = ascii::until(rest, b'\n');
         let next = past(at + n, text.len());
         number += 1;
-        tallies = count(tallies, number, &rest[0..n], bytes, again);
+        tallies = count(rt, tallies, number, &rest[0..n], bytes, again);
         at = next;
     }
     tallies
@@ -456,18 +453,49 @@ fn text_bytes() -> [u8; 524288]
     [0; 524288]
 }
 
-fn replay(text: &mut [u8], bytes: &mut [u8], again: &mut [u8]) {
-    let n = io::read_full(STDIN_FILENO, text);
-    if n == text.len() {
-        io::write_all(STDOUT_FILENO, b"input too long\n");
-        return;
-    }
-    lines(&text[..n], bytes, again).print();
+// 65,536 zeros.
+fn large_buffer() -> [u8; 65536]
+    ensures { 65536 ≡ length result }
+{
+    [0; 65536]
 }
 
-fn main() {
+// Reads until text is full, the input ends or a read fails, and returns how many bytes it put at the start of text.
+fn read_full<R: Read>(input: &mut R, text: &mut [u8]) -> usize
+    ensures { result ≤ length text.new }
+{
+    let mut done = 0;
+    while done < text.len() {
+        let Ok(n) = input.read(&mut text[done..]) else {
+            break;
+        };
+        if n == 0 {
+            break;
+        }
+        done += n;
+    }
+    done
+}
+
+fn replay<R: Read>(
+    rt: &impl Print,
+    input: &mut R,
+    text: &mut [u8],
+    bytes: &mut [u8],
+    again: &mut [u8],
+) {
+    let n = read_full(input, text);
+    if n == text.len() {
+        let _ = println!(rt; "input too long");
+        return;
+    }
+    lines(rt, &text[..n], bytes, again).print(rt);
+}
+
+fn main(rt: HostRuntime) {
+    let mut input = rt.stdin();
     let mut text = text_bytes();
-    let mut bytes = io::large_buffer();
-    let mut again = io::large_buffer();
-    replay(&mut text, &mut bytes, &mut again);
+    let mut bytes = large_buffer();
+    let mut again = large_buffer();
+    replay(&rt, &mut input, &mut text, &mut bytes, &mut again);
 }
