@@ -4,9 +4,9 @@ use Rattle.contact.proofs.fill_lists.Goals as goal
 pub returns : goal.returns
 returns c =
     λ i. record {
-      c = c.fill_chains.ensures i;
-      c = c.fill_skipped.ensures i;
-      c = c.fill_ranges.ensures i;
-      c = c.fill_numbers.ensures i;
-      c = c.fill_ranges-2.ensures i;
+      chains = c.fill_chains.ensures i;
+      skipped = c.fill_skipped.ensures i;
+      above = c.fill_ranges.ensures i;
+      unacked = c.fill_numbers.ensures i;
+      expired = c.fill_ranges-2.ensures i;
     }

@@ -33,9 +33,9 @@ put_16-card_len_at-requires c =
 pub put_peer-requires : goal.put_peer-requires
 put_peer-requires c =
     let fit : c.args.at + (85 + length (image c.args.contact.peer)) ≤ length c.args.out.now = omega (arith, paired_long c.args.contact c.type-inv.ensures.1, c.requires.1) in
-    let s = c.before.before in (
-      s.pre.0,
-      room (2 + length (image s.args.contact.peer)) (stored c.put_codes-pair_id_at.ensures on stored c.put_16-th_at.ensures on stored c.put_run-nonce_b_at.ensures on stored c.put_16-card_len_at.ensures) (omega (arith, fit)),
+     (
+      c.requires.0,
+      room (2 + length (image c.args.contact.peer)) (stored c.put_codes-pair_id_at.ensures on stored c.put_16-th_at.ensures on stored c.put_run-nonce_b_at.ensures on stored c.put_16-card_len_at.ensures) (omega (arith, fit)),
     )
 
 pub returns : goal.returns

@@ -44,7 +44,7 @@ put_32-requires c =
 
 pub returns : goal.returns
 returns c =
-    let known = c.before in
+    
     let dir = (wrote_as (ap (λ (n : ℕ). n ∷ []) (sym c.dir_byte.ensures)) c.put_byte-idx_at.ensures.1).1 in
-    wrote_as (send-some known.before.before.before.before.args.contact known.before.before.typed.ensures.1 known.send.given.1)
+    wrote_as (send-some c.args.contact c.before.before.typed.ensures.1 c.send.given.1)
     (c.put_byte-gen_at.ensures.1 then (c.put_byte-dir_at.ensures.1 then (dir then (c.put_be-key_at.ensures.1 then c.put_32.ensures.1))))

@@ -34,7 +34,7 @@ returns-then-not-asked c =
     let chains : List Chain = chains_of c.args.contact.chains c.args.chains.now in
     let many-chains : length chains ≡ c.args.contact.chains = (chains-printed c.args.contact.chains c.args.chains.now c.requires.chains_granted.reads chains-bytes c.requires.chains).count in
     let yes-54 : few_chains chains ≡ true = rw many-chains (le-leb _ _ c.if-contact-gt-MAX_CHAINS.false) in
-    rw (yes-54, (sym (ap (λ (a : ChainsAsked). a.one_current) c.chains_lent-asked.ensures) ∙ (not-true _ c.if-not-asked.true)))
+    rw (yes-54, (sym (ap (λ (a : ChainsAsked). a.one_current) c.chains_lent-asked.ensures) ∙ c.if-not-asked.true))
 
 pub returns-then-not-asked-2 : goal.returns-then-not-asked-2
 returns-then-not-asked-2 c =
@@ -42,13 +42,13 @@ returns-then-not-asked-2 c =
     let chains : List Chain = chains_of c.args.contact.chains c.args.chains.now in
     let many-chains : length chains ≡ c.args.contact.chains = (chains-printed c.args.contact.chains c.args.chains.now c.requires.chains_granted.reads chains-bytes c.requires.chains).count in
     let yes-54 : few_chains chains ≡ true = rw many-chains (le-leb _ _ c.if-contact-gt-MAX_CHAINS.false) in
-    let yes-17 : one_chain_at_most ((let chains : List Chain = chains_of c.before.before.before.before.args.contact.chains c.before.before.before.before.args.chains.now in chains)) ≡ true = (sym (ap (λ (a : ChainsAsked). a.one_current) c.chains_lent-asked.ensures) ∙ (not-false _ c.if-not-asked.false)) in
-    rw (yes-54, yes-17, (sym (ap (λ (a : ChainsAsked). a.gens_distinct) c.chains_lent-asked.ensures) ∙ (not-true _ c.if-not-asked-2.true)))
+    let yes-17 : one_chain_at_most ((let chains : List Chain = chains_of c.args.contact.chains c.args.chains.now in chains)) ≡ true = (sym (ap (λ (a : ChainsAsked). a.one_current) c.chains_lent-asked.ensures) ∙ c.if-not-asked.false) in
+    rw (yes-54, yes-17, (sym (ap (λ (a : ChainsAsked). a.gens_distinct) c.chains_lent-asked.ensures) ∙ c.if-not-asked-2.true))
 
 pub skipped_distinct-requires : goal.skipped_distinct-requires
 skipped_distinct-requires c =
-    let f = c.before in
-    skipped-stand f.before.before.before.args.skipped.now f.before.before.before.args.contact.skipped ((let skipped-bytes : Bytes f.before.before.before.args.skipped.now = typed f.before.before.before.args.skipped.now f.before.shared-slice-known2.given in skipped-bytes)) ((let stand : Placed 46 (group key) f.before.before.before.args.skipped.now f.before.before.before.args.contact.skipped = let p = f.before.before.before.requires in record { room = p.skipped; records = _; rest = _; so = p.skipped_granted.reads } in stand))
+    
+    skipped-stand c.args.skipped.now c.args.contact.skipped ((let skipped-bytes : Bytes c.args.skipped.now = typed c.args.skipped.now c.before.shared-slice-known2.given in skipped-bytes)) ((let stand : Placed 46 (group key) c.args.skipped.now c.args.contact.skipped = let p = c.before.before.before.requires in record { room = p.skipped; records = _; rest = _; so = p.skipped_granted.reads } in stand))
 
 pub returns-then-not-skipped_distinct : goal.returns-then-not-skipped_distinct
 returns-then-not-skipped_distinct c =
@@ -56,11 +56,11 @@ returns-then-not-skipped_distinct c =
     let chains : List Chain = chains_of c.args.contact.chains c.args.chains.now in
     let many-chains : length chains ≡ c.args.contact.chains = (chains-printed c.args.contact.chains c.args.chains.now c.requires.chains_granted.reads chains-bytes c.requires.chains).count in
     let yes-54 : few_chains chains ≡ true = rw many-chains (le-leb _ _ c.if-contact-gt-MAX_CHAINS.false) in
-    let yes-17 : one_chain_at_most ((let chains : List Chain = chains_of c.before.before.before.before.args.contact.chains c.before.before.before.before.args.chains.now in chains)) ≡ true = (sym (ap (λ (a : ChainsAsked). a.one_current) c.chains_lent-asked.ensures) ∙ (not-false _ c.if-not-asked.false)) in
-    let yes-18 : gens_distinct ((let chains : List Chain = chains_of c.before.before.before.before.args.contact.chains c.before.before.before.before.args.chains.now in chains)) ≡ true = (sym (ap (λ (a : ChainsAsked). a.gens_distinct) c.chains_lent-asked.ensures) ∙ (not-false _ c.if-not-asked-2.false)) in
-    rw (yes-54, yes-17, yes-18, (let f = c.before in
-    ap keys_distinct (sym (skipped-items f.before.before.before.args.skipped.now f.before.before.before.args.contact.skipped ((let skipped-bytes : Bytes f.before.before.before.args.skipped.now = typed f.before.before.before.args.skipped.now f.before.shared-slice-known2.given in skipped-bytes)) ((let stand : Placed 46 (group key) f.before.before.before.args.skipped.now f.before.before.before.args.contact.skipped = let p = f.before.before.before.requires in record { room = p.skipped; records = _; rest = _; so = p.skipped_granted.reads } in stand))))
-    ∙ sym c.skipped_distinct.ensures ∙ (not-true _ c.if-not-skipped_distinct.true)))
+    let yes-17 : one_chain_at_most ((let chains : List Chain = chains_of c.args.contact.chains c.args.chains.now in chains)) ≡ true = (sym (ap (λ (a : ChainsAsked). a.one_current) c.chains_lent-asked.ensures) ∙ c.if-not-asked.false) in
+    let yes-18 : gens_distinct ((let chains : List Chain = chains_of c.args.contact.chains c.args.chains.now in chains)) ≡ true = (sym (ap (λ (a : ChainsAsked). a.gens_distinct) c.chains_lent-asked.ensures) ∙ c.if-not-asked-2.false) in
+    rw (yes-54, yes-17, yes-18, (
+    ap keys_distinct (sym (skipped-items c.args.skipped.now c.args.contact.skipped ((let skipped-bytes : Bytes c.args.skipped.now = typed c.args.skipped.now c.before.shared-slice-known2.given in skipped-bytes)) ((let stand : Placed 46 (group key) c.args.skipped.now c.args.contact.skipped = let p = c.before.before.before.requires in record { room = p.skipped; records = _; rest = _; so = p.skipped_granted.reads } in stand))))
+    ∙ sym c.skipped_distinct.ensures ∙ c.if-not-skipped_distinct.true))
 
 pub returns-then-contact-gt-MAX_SKIPPED : goal.returns-then-contact-gt-MAX_SKIPPED
 returns-then-contact-gt-MAX_SKIPPED c =
@@ -68,12 +68,12 @@ returns-then-contact-gt-MAX_SKIPPED c =
     let chains : List Chain = chains_of c.args.contact.chains c.args.chains.now in
     let many-chains : length chains ≡ c.args.contact.chains = (chains-printed c.args.contact.chains c.args.chains.now c.requires.chains_granted.reads chains-bytes c.requires.chains).count in
     let yes-54 : few_chains chains ≡ true = rw many-chains (le-leb _ _ c.if-contact-gt-MAX_CHAINS.false) in
-    let yes-17 : one_chain_at_most ((let chains : List Chain = chains_of c.before.before.before.before.args.contact.chains c.before.before.before.before.args.chains.now in chains)) ≡ true = (sym (ap (λ (a : ChainsAsked). a.one_current) c.chains_lent-asked.ensures) ∙ (not-false _ c.if-not-asked.false)) in
-    let yes-18 : gens_distinct ((let chains : List Chain = chains_of c.before.before.before.before.args.contact.chains c.before.before.before.before.args.chains.now in chains)) ≡ true = (sym (ap (λ (a : ChainsAsked). a.gens_distinct) c.chains_lent-asked.ensures) ∙ (not-false _ c.if-not-asked-2.false)) in
-    let yes-19 : keys_distinct ((let skipped : List Skipped = skipped_of c.before.before.before.before.args.contact.skipped c.before.before.before.before.args.skipped.now in skipped)) ≡ true = (let f = c.before in
-    ap keys_distinct (sym (skipped-items f.before.before.before.args.skipped.now f.before.before.before.args.contact.skipped ((let skipped-bytes : Bytes f.before.before.before.args.skipped.now = typed f.before.before.before.args.skipped.now f.before.shared-slice-known2.given in skipped-bytes)) ((let stand : Placed 46 (group key) f.before.before.before.args.skipped.now f.before.before.before.args.contact.skipped = let p = f.before.before.before.requires in record { room = p.skipped; records = _; rest = _; so = p.skipped_granted.reads } in stand))))
-    ∙ sym c.skipped_distinct.ensures ∙ (not-false _ c.if-not-skipped_distinct.false)) in
-    rw (yes-54, yes-17, yes-18, yes-19, (let many-skipped : length ((let skipped : List Skipped = skipped_of c.before.before.before.before.args.contact.skipped c.before.before.before.before.args.skipped.now in skipped)) ≡ c.before.before.before.before.args.contact.skipped = let s = c.before.before.before.before in (skipped-printed s.args.contact.skipped s.args.skipped.now s.pre.skipped_granted.reads ((let skipped-bytes : Bytes c.before.before.before.before.args.skipped.now = typed c.before.before.before.before.args.skipped.now c.before.before.shared-slice-known2.given in skipped-bytes)) s.pre.skipped).count in many-skipped), lt-leb _ _ c.if-contact-gt-MAX_SKIPPED.true)
+    let yes-17 : one_chain_at_most ((let chains : List Chain = chains_of c.args.contact.chains c.args.chains.now in chains)) ≡ true = (sym (ap (λ (a : ChainsAsked). a.one_current) c.chains_lent-asked.ensures) ∙ c.if-not-asked.false) in
+    let yes-18 : gens_distinct ((let chains : List Chain = chains_of c.args.contact.chains c.args.chains.now in chains)) ≡ true = (sym (ap (λ (a : ChainsAsked). a.gens_distinct) c.chains_lent-asked.ensures) ∙ c.if-not-asked-2.false) in
+    let yes-19 : keys_distinct ((let skipped : List Skipped = skipped_of c.args.contact.skipped c.args.skipped.now in skipped)) ≡ true = (
+    ap keys_distinct (sym (skipped-items c.args.skipped.now c.args.contact.skipped ((let skipped-bytes : Bytes c.args.skipped.now = typed c.args.skipped.now c.before.shared-slice-known2.given in skipped-bytes)) ((let stand : Placed 46 (group key) c.args.skipped.now c.args.contact.skipped = let p = c.before.before.before.requires in record { room = p.skipped; records = _; rest = _; so = p.skipped_granted.reads } in stand))))
+    ∙ sym c.skipped_distinct.ensures ∙ c.if-not-skipped_distinct.false) in
+    rw (yes-54, yes-17, yes-18, yes-19, (let many-skipped : length ((let skipped : List Skipped = skipped_of c.args.contact.skipped c.args.skipped.now in skipped)) ≡ c.args.contact.skipped =  (skipped-printed c.args.contact.skipped c.args.skipped.now c.requires.skipped_granted.reads ((let skipped-bytes : Bytes c.args.skipped.now = typed c.args.skipped.now c.before.before.shared-slice-known2.given in skipped-bytes)) c.requires.skipped).count in many-skipped), lt-leb _ _ c.if-contact-gt-MAX_SKIPPED.true)
 
 pub returns : goal.returns
 returns c =
@@ -81,9 +81,9 @@ returns c =
     let chains : List Chain = chains_of c.args.contact.chains c.args.chains.now in
     let many-chains : length chains ≡ c.args.contact.chains = (chains-printed c.args.contact.chains c.args.chains.now c.requires.chains_granted.reads chains-bytes c.requires.chains).count in
     let yes-54 : few_chains chains ≡ true = rw many-chains (le-leb _ _ c.if-contact-gt-MAX_CHAINS.false) in
-    let yes-17 : one_chain_at_most ((let chains : List Chain = chains_of c.before.before.before.before.args.contact.chains c.before.before.before.before.args.chains.now in chains)) ≡ true = (sym (ap (λ (a : ChainsAsked). a.one_current) c.chains_lent-asked.ensures) ∙ (not-false _ c.if-not-asked.false)) in
-    let yes-18 : gens_distinct ((let chains : List Chain = chains_of c.before.before.before.before.args.contact.chains c.before.before.before.before.args.chains.now in chains)) ≡ true = (sym (ap (λ (a : ChainsAsked). a.gens_distinct) c.chains_lent-asked.ensures) ∙ (not-false _ c.if-not-asked-2.false)) in
-    let yes-19 : keys_distinct ((let skipped : List Skipped = skipped_of c.before.before.before.before.args.contact.skipped c.before.before.before.before.args.skipped.now in skipped)) ≡ true = (let f = c.before in
-    ap keys_distinct (sym (skipped-items f.before.before.before.args.skipped.now f.before.before.before.args.contact.skipped ((let skipped-bytes : Bytes f.before.before.before.args.skipped.now = typed f.before.before.before.args.skipped.now f.before.shared-slice-known2.given in skipped-bytes)) ((let stand : Placed 46 (group key) f.before.before.before.args.skipped.now f.before.before.before.args.contact.skipped = let p = f.before.before.before.requires in record { room = p.skipped; records = _; rest = _; so = p.skipped_granted.reads } in stand))))
-    ∙ sym c.skipped_distinct.ensures ∙ (not-false _ c.if-not-skipped_distinct.false)) in
-    rw (yes-54, yes-17, yes-18, yes-19, (let many-skipped : length ((let skipped : List Skipped = skipped_of c.before.before.before.before.args.contact.skipped c.before.before.before.before.args.skipped.now in skipped)) ≡ c.before.before.before.before.args.contact.skipped = let s = c.before.before.before.before in (skipped-printed s.args.contact.skipped s.args.skipped.now s.pre.skipped_granted.reads ((let skipped-bytes : Bytes c.before.before.before.before.args.skipped.now = typed c.before.before.before.before.args.skipped.now c.before.before.shared-slice-known2.given in skipped-bytes)) s.pre.skipped).count in many-skipped), le-leb _ _ c.if-contact-gt-MAX_SKIPPED.false)
+    let yes-17 : one_chain_at_most ((let chains : List Chain = chains_of c.args.contact.chains c.args.chains.now in chains)) ≡ true = (sym (ap (λ (a : ChainsAsked). a.one_current) c.chains_lent-asked.ensures) ∙ c.if-not-asked.false) in
+    let yes-18 : gens_distinct ((let chains : List Chain = chains_of c.args.contact.chains c.args.chains.now in chains)) ≡ true = (sym (ap (λ (a : ChainsAsked). a.gens_distinct) c.chains_lent-asked.ensures) ∙ c.if-not-asked-2.false) in
+    let yes-19 : keys_distinct ((let skipped : List Skipped = skipped_of c.args.contact.skipped c.args.skipped.now in skipped)) ≡ true = (
+    ap keys_distinct (sym (skipped-items c.args.skipped.now c.args.contact.skipped ((let skipped-bytes : Bytes c.args.skipped.now = typed c.args.skipped.now c.before.shared-slice-known2.given in skipped-bytes)) ((let stand : Placed 46 (group key) c.args.skipped.now c.args.contact.skipped = let p = c.before.before.before.requires in record { room = p.skipped; records = _; rest = _; so = p.skipped_granted.reads } in stand))))
+    ∙ sym c.skipped_distinct.ensures ∙ c.if-not-skipped_distinct.false) in
+    rw (yes-54, yes-17, yes-18, yes-19, (let many-skipped : length ((let skipped : List Skipped = skipped_of c.args.contact.skipped c.args.skipped.now in skipped)) ≡ c.args.contact.skipped =  (skipped-printed c.args.contact.skipped c.args.skipped.now c.requires.skipped_granted.reads ((let skipped-bytes : Bytes c.args.skipped.now = typed c.args.skipped.now c.before.before.shared-slice-known2.given in skipped-bytes)) c.requires.skipped).count in many-skipped), le-leb _ _ c.if-contact-gt-MAX_SKIPPED.false)

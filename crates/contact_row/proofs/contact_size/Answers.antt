@@ -35,7 +35,7 @@ returns-then-not-counts_fit c =
       expired = λ i. (c.type_inv.expired i).fits;
     } in
     sym (not-counted c.args.contact c.type-inv.ensures.1 lent bytes
-    (counted_is c.args.contact c.type-inv.ensures.1 lent bytes c.counts_fit.ensures ∙ not-true _ c.if-not-counts_fit.true))
+    (counted_is c.args.contact c.type-inv.ensures.1 lent bytes c.counts_fit.ensures ∙ c.if-not-counts_fit.true))
 
 pub returns-in_default : goal.returns-in_default
 returns-in_default c =
@@ -48,7 +48,7 @@ returns-in_default c =
       unacked = λ i. (c.type_inv.unacked i).fits;
       expired = λ i. (c.type_inv.expired i).fits;
     } in
-    let counts : counted c.args.contact lent ≡ true = counted_is c.args.contact c.typed.ensures.1 lent bytes c.counts_fit.ensures ∙ not-false _ c.if-not-counts_fit.false in
+    let counts : counted c.args.contact lent ≡ true = counted_is c.args.contact c.typed.ensures.1 lent bytes c.counts_fit.ensures ∙ c.if-not-counts_fit.false in
     let told = c.in_default.is in
     ap written_says told ∙ sym (bad-card c.args.contact c.typed.ensures.1 lent bytes counts (learn written_says c.card_size-card.ensures told))
 
@@ -63,7 +63,7 @@ chains_size-chain_bytes-requires c =
       unacked = λ i. (c.type_inv.unacked i).fits;
       expired = λ i. (c.type_inv.expired i).fits;
     } in
-    let counts : counted c.args.contact lent ≡ true = counted_is c.args.contact c.typed.ensures.1 lent bytes c.counts_fit.ensures ∙ not-false _ c.if-not-counts_fit.false in
+    let counts : counted c.args.contact lent ≡ true = counted_is c.args.contact c.typed.ensures.1 lent bytes c.counts_fit.ensures ∙ c.if-not-counts_fit.false in
     let all : AllCounted c.args.contact lent = all-counted c.args.contact lent counts in
     all.chains.held
 
@@ -78,7 +78,7 @@ returns-in_default-chain_bytes c =
       unacked = λ i. (c.type_inv.unacked i).fits;
       expired = λ i. (c.type_inv.expired i).fits;
     } in
-    let counts : counted c.args.contact lent ≡ true = counted_is c.args.contact c.typed.ensures.1 lent bytes c.counts_fit.ensures ∙ not-false _ c.if-not-counts_fit.false in
+    let counts : counted c.args.contact lent ≡ true = counted_is c.args.contact c.typed.ensures.1 lent bytes c.counts_fit.ensures ∙ c.if-not-counts_fit.false in
     let card-asked : asked card_row (cards.image c.args.contact.peer) ≡ wrote c.in-Length.card_len = learn written_says c.card_size-card.ensures c.in-Length.is in
     let told = c.in_default-chain_bytes.is in
     ap written_says told ∙ sym (bad-chains c.args.contact c.typed.ensures.1 lent bytes counts card-asked (learn written_says c.chains_size-chain_bytes.ensures told))
@@ -94,7 +94,7 @@ skipped_size-skipped_bytes-requires c =
       unacked = λ i. (c.type_inv.unacked i).fits;
       expired = λ i. (c.type_inv.expired i).fits;
     } in
-    let counts : counted c.args.contact lent ≡ true = counted_is c.args.contact c.typed.ensures.1 lent bytes c.counts_fit.ensures ∙ not-false _ c.if-not-counts_fit.false in
+    let counts : counted c.args.contact lent ≡ true = counted_is c.args.contact c.typed.ensures.1 lent bytes c.counts_fit.ensures ∙ c.if-not-counts_fit.false in
     let all : AllCounted c.args.contact lent = all-counted c.args.contact lent counts in
     all.skipped.held
 
@@ -109,7 +109,7 @@ returns-in_default-skipped_bytes c =
       unacked = λ i. (c.type_inv.unacked i).fits;
       expired = λ i. (c.type_inv.expired i).fits;
     } in
-    let counts : counted c.args.contact lent ≡ true = counted_is c.args.contact c.typed.ensures.1 lent bytes c.counts_fit.ensures ∙ not-false _ c.if-not-counts_fit.false in
+    let counts : counted c.args.contact lent ≡ true = counted_is c.args.contact c.typed.ensures.1 lent bytes c.counts_fit.ensures ∙ c.if-not-counts_fit.false in
     let card-asked : asked card_row (cards.image c.args.contact.peer) ≡ wrote c.in-Length.card_len = learn written_says c.card_size-card.ensures c.in-Length.is in
     let chains : Granted 51 (group chain) c.args.contact.chains lent.chains × (c.in-Length-chain_bytes.chains_len ≡ length (print_many (group chain) (chains_of c.args.contact.chains lent.chains))) = size-granted 51 (group chain) c.args.contact.chains lent.chains
     (learn written_says c.chains_size-chain_bytes.ensures c.in-Length-chain_bytes.is) in
@@ -128,7 +128,7 @@ consistent_lent-verdict-requires c =
       unacked = λ i. (c.type_inv.unacked i).fits;
       expired = λ i. (c.type_inv.expired i).fits;
     } in
-    let counts : counted c.args.contact lent ≡ true = counted_is c.args.contact c.typed.ensures.1 lent bytes c.counts_fit.ensures ∙ not-false _ c.if-not-counts_fit.false in
+    let counts : counted c.args.contact lent ≡ true = counted_is c.args.contact c.typed.ensures.1 lent bytes c.counts_fit.ensures ∙ c.if-not-counts_fit.false in
     let all : AllCounted c.args.contact lent = all-counted c.args.contact lent counts in
     let chains : Granted 51 (group chain) c.args.contact.chains lent.chains × (c.in-Length-chain_bytes.chains_len ≡ length (print_many (group chain) (chains_of c.args.contact.chains lent.chains))) = size-granted 51 (group chain) c.args.contact.chains lent.chains
     (learn written_says c.chains_size-chain_bytes.ensures c.in-Length-chain_bytes.is) in
@@ -151,7 +151,7 @@ row_size-requires c =
       unacked = λ i. (c.type_inv.unacked i).fits;
       expired = λ i. (c.type_inv.expired i).fits;
     } in
-    let counts : counted c.args.contact lent ≡ true = counted_is c.args.contact c.typed.ensures.1 lent bytes c.counts_fit.ensures ∙ not-false _ c.if-not-counts_fit.false in
+    let counts : counted c.args.contact lent ≡ true = counted_is c.args.contact c.typed.ensures.1 lent bytes c.counts_fit.ensures ∙ c.if-not-counts_fit.false in
     let card-asked : asked card_row (cards.image c.args.contact.peer) ≡ wrote c.in-Length.card_len = learn written_says c.card_size-card.ensures c.in-Length.is in
     let chains : Granted 51 (group chain) c.args.contact.chains lent.chains × (c.in-Length-chain_bytes.chains_len ≡ length (print_many (group chain) (chains_of c.args.contact.chains lent.chains))) = size-granted 51 (group chain) c.args.contact.chains lent.chains
     (learn written_says c.chains_size-chain_bytes.ensures c.in-Length-chain_bytes.is) in
@@ -173,7 +173,7 @@ returns-in_default-verdict c =
       unacked = λ i. (c.type_inv.unacked i).fits;
       expired = λ i. (c.type_inv.expired i).fits;
     } in
-    let counts : counted c.args.contact lent ≡ true = counted_is c.args.contact c.typed.ensures.1 lent bytes c.counts_fit.ensures ∙ not-false _ c.if-not-counts_fit.false in
+    let counts : counted c.args.contact lent ≡ true = counted_is c.args.contact c.typed.ensures.1 lent bytes c.counts_fit.ensures ∙ c.if-not-counts_fit.false in
     let card-asked : asked card_row (cards.image c.args.contact.peer) ≡ wrote c.in-Length.card_len = learn written_says c.card_size-card.ensures c.in-Length.is in
     let chains : Granted 51 (group chain) c.args.contact.chains lent.chains × (c.in-Length-chain_bytes.chains_len ≡ length (print_many (group chain) (chains_of c.args.contact.chains lent.chains))) = size-granted 51 (group chain) c.args.contact.chains lent.chains
     (learn written_says c.chains_size-chain_bytes.ensures c.in-Length-chain_bytes.is) in
@@ -195,7 +195,7 @@ returns c =
       unacked = λ i. (c.type_inv.unacked i).fits;
       expired = λ i. (c.type_inv.expired i).fits;
     } in
-    let counts : counted c.args.contact lent ≡ true = counted_is c.args.contact c.typed.ensures.1 lent bytes c.counts_fit.ensures ∙ not-false _ c.if-not-counts_fit.false in
+    let counts : counted c.args.contact lent ≡ true = counted_is c.args.contact c.typed.ensures.1 lent bytes c.counts_fit.ensures ∙ c.if-not-counts_fit.false in
     let card-asked : asked card_row (cards.image c.args.contact.peer) ≡ wrote c.in-Length.card_len = learn written_says c.card_size-card.ensures c.in-Length.is in
     let chains : Granted 51 (group chain) c.args.contact.chains lent.chains × (c.in-Length-chain_bytes.chains_len ≡ length (print_many (group chain) (chains_of c.args.contact.chains lent.chains))) = size-granted 51 (group chain) c.args.contact.chains lent.chains
     (learn written_says c.chains_size-chain_bytes.ensures c.in-Length-chain_bytes.is) in

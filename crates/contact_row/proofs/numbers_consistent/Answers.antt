@@ -23,34 +23,34 @@ rising_lent-requires c = c.requires.unacked
 pub returns-then-not-rising_lent : goal.returns-then-not-rising_lent
 returns-then-not-rising_lent c =
     let acked : acked_sent c.args.contact.peer_acked c.args.contact.sent_msgno ≡ true = le-leb _ _ c.if-sent-contact.false in
-    rw (acked, (sym c.rising_lent.ensures ∙ (not-true _ c.if-not-rising_lent.true)))
+    rw (acked, (sym c.rising_lent.ensures ∙ c.if-not-rising_lent.true))
 
 pub canonical_lent-requires : goal.canonical_lent-requires
 canonical_lent-requires c = (c.requires.above, omega (arith, c.wide-from.ensures.1))
 
 pub returns-then-not-canonical_lent : goal.returns-then-not-canonical_lent
 returns-then-not-canonical_lent c =
-    let yes-22 : rising 1 c.args.contact.sent_msgno (take c.args.contact.unacked c.args.unacked.now) ≡ true = (sym c.rising_lent.ensures ∙ (not-false _ c.if-not-rising_lent.false)) in
-    rw ((let acked : acked_sent ((let contact : Contact = c.before.before.before.before.before.before.before.args.contact in contact)).peer_acked ((let contact : Contact = c.before.before.before.before.before.before.before.args.contact in contact)).sent_msgno ≡ true = le-leb _ _ c.before.before.if1.false in acked), yes-22, (let s = c.before.before in
-    let words : (i : ℕ) → get_or s.before.before.before.before.before.args.above.now i 0 ≤ 4294967295 = λ i. omega (arith, (s.before.before.before.before.shared-slice-known.given i).fits) in
-    ap (λ (n : ℕ). canonical (n + 2) ((let ranges : List Range = pairs ((let contact : Contact = s.before.before.before.before.before.args.contact in contact)).above s.before.before.before.before.before.args.above.now in ranges))) (sym c.wide-from.ensures.0)
-    ∙ sym (canonical-lent ((let contact : Contact = s.before.before.before.before.before.args.contact in contact)).above (c.wide-from.result + 2) s.before.before.before.before.before.args.above.now words) ∙ sym c.canonical_lent.ensures ∙ (not-true _ c.if-not-canonical_lent.true)))
+    let yes-22 : rising 1 c.args.contact.sent_msgno (take c.args.contact.unacked c.args.unacked.now) ≡ true = (sym c.rising_lent.ensures ∙ c.if-not-rising_lent.false) in
+    rw ((let acked : acked_sent ((let contact : Contact = c.args.contact in contact)).peer_acked ((let contact : Contact = c.args.contact in contact)).sent_msgno ≡ true = le-leb _ _ c.before.before.if1.false in acked), yes-22, (
+    let words : (i : ℕ) → get_or c.args.above.now i 0 ≤ 4294967295 = λ i. omega (arith, (c.type_inv.row i).fits) in
+    ap (λ (n : ℕ). canonical (n + 2) ((let ranges : List Range = pairs ((let contact : Contact = c.args.contact in contact)).above c.args.above.now in ranges))) (sym c.wide-from.ensures.0)
+    ∙ sym (canonical-lent ((let contact : Contact = c.args.contact in contact)).above (c.wide-from.result + 2) c.args.above.now words) ∙ sym c.canonical_lent.ensures ∙ c.if-not-canonical_lent.true))
 
 pub canonical_lent-requires-2 : goal.canonical_lent-requires-2
 canonical_lent-requires-2 c = (c.before.before.before.before.before.before.before.requires.expired, omega arith)
 
 pub returns-then-not-canonical_lent-2 : goal.returns-then-not-canonical_lent-2
 returns-then-not-canonical_lent-2 c =
-    let yes-23 : canonical (((let contact : Contact = c.before.before.before.before.before.before.before.args.contact in contact)).contiguous + 2) ((let ranges : List Range = pairs ((let contact : Contact = c.before.before.before.before.before.before.before.args.contact in contact)).above c.before.before.before.before.before.before.before.args.above.now in ranges)) ≡ true = (let s = c.before.before in
-    let words : (i : ℕ) → get_or s.before.before.before.before.before.args.above.now i 0 ≤ 4294967295 = λ i. omega (arith, (s.before.before.before.before.shared-slice-known.given i).fits) in
-    ap (λ (n : ℕ). canonical (n + 2) ((let ranges : List Range = pairs ((let contact : Contact = s.before.before.before.before.before.args.contact in contact)).above s.before.before.before.before.before.args.above.now in ranges))) (sym c.wide-from.ensures.0)
-    ∙ sym (canonical-lent ((let contact : Contact = s.before.before.before.before.before.args.contact in contact)).above (c.wide-from.result + 2) s.before.before.before.before.before.args.above.now words) ∙ sym c.canonical_lent.ensures ∙ (not-false _ c.if-not-canonical_lent.false)) in
-    rw ((let acked : acked_sent ((let contact : Contact = c.before.before.before.before.before.before.before.before.before.before.args.contact in contact)).peer_acked ((let contact : Contact = c.before.before.before.before.before.before.before.before.before.before.args.contact in contact)).sent_msgno ≡ true = le-leb _ _ c.before.before.before.before.before.if1.false in acked), (let yes-22 : rising 1 ((let contact : Contact = c.before.before.before.before.before.before.before.before.before.before.args.contact in contact)).sent_msgno (take ((let contact : Contact = c.before.before.before.before.before.before.before.before.before.before.args.contact in contact)).unacked c.before.before.before.before.before.before.before.before.before.before.args.unacked.now) ≡ true = (sym c.before.before.before.before.rising-lent.ensures ∙ (not-false _ c.before.before.before.if2.false)) in yes-22), yes-23, (sym c.canonical_lent-2.ensures ∙ (not-true _ c.if-not-canonical_lent-2.true)))
+    let yes-23 : canonical (((let contact : Contact = c.args.contact in contact)).contiguous + 2) ((let ranges : List Range = pairs ((let contact : Contact = c.args.contact in contact)).above c.args.above.now in ranges)) ≡ true = (
+    let words : (i : ℕ) → get_or c.args.above.now i 0 ≤ 4294967295 = λ i. omega (arith, (c.type_inv.row i).fits) in
+    ap (λ (n : ℕ). canonical (n + 2) ((let ranges : List Range = pairs ((let contact : Contact = c.args.contact in contact)).above c.args.above.now in ranges))) (sym c.wide-from.ensures.0)
+    ∙ sym (canonical-lent ((let contact : Contact = c.args.contact in contact)).above (c.wide-from.result + 2) c.args.above.now words) ∙ sym c.canonical_lent.ensures ∙ c.if-not-canonical_lent.false) in
+    rw ((let acked : acked_sent ((let contact : Contact = c.args.contact in contact)).peer_acked ((let contact : Contact = c.args.contact in contact)).sent_msgno ≡ true = le-leb _ _ c.before.before.before.before.before.if1.false in acked), (let yes-22 : rising 1 ((let contact : Contact = c.args.contact in contact)).sent_msgno (take ((let contact : Contact = c.args.contact in contact)).unacked c.args.unacked.now) ≡ true = (sym c.before.before.before.before.rising-lent.ensures ∙ c.before.before.before.if2.false) in yes-22), yes-23, (sym c.canonical_lent-2.ensures ∙ c.if-not-canonical_lent-2.true))
 
 pub returns : goal.returns
 returns c =
-    let yes-23 : canonical (((let contact : Contact = c.before.before.before.before.before.before.before.args.contact in contact)).contiguous + 2) ((let ranges : List Range = pairs ((let contact : Contact = c.before.before.before.before.before.before.before.args.contact in contact)).above c.before.before.before.before.before.before.before.args.above.now in ranges)) ≡ true = (let s = c.before.before in
-    let words : (i : ℕ) → get_or s.before.before.before.before.before.args.above.now i 0 ≤ 4294967295 = λ i. omega (arith, (s.before.before.before.before.shared-slice-known.given i).fits) in
-    ap (λ (n : ℕ). canonical (n + 2) ((let ranges : List Range = pairs ((let contact : Contact = s.before.before.before.before.before.args.contact in contact)).above s.before.before.before.before.before.args.above.now in ranges))) (sym c.wide-from.ensures.0)
-    ∙ sym (canonical-lent ((let contact : Contact = s.before.before.before.before.before.args.contact in contact)).above (c.wide-from.result + 2) s.before.before.before.before.before.args.above.now words) ∙ sym c.canonical_lent.ensures ∙ (not-false _ c.if-not-canonical_lent.false)) in
-    rw ((let acked : acked_sent ((let contact : Contact = c.before.before.before.before.before.before.before.before.before.before.args.contact in contact)).peer_acked ((let contact : Contact = c.before.before.before.before.before.before.before.before.before.before.args.contact in contact)).sent_msgno ≡ true = le-leb _ _ c.before.before.before.before.before.if1.false in acked), (let yes-22 : rising 1 ((let contact : Contact = c.before.before.before.before.before.before.before.before.before.before.args.contact in contact)).sent_msgno (take ((let contact : Contact = c.before.before.before.before.before.before.before.before.before.before.args.contact in contact)).unacked c.before.before.before.before.before.before.before.before.before.before.args.unacked.now) ≡ true = (sym c.before.before.before.before.rising-lent.ensures ∙ (not-false _ c.before.before.before.if2.false)) in yes-22), yes-23, (sym c.canonical_lent-2.ensures ∙ (not-false _ c.if-not-canonical_lent-2.false)))
+    let yes-23 : canonical (((let contact : Contact = c.args.contact in contact)).contiguous + 2) ((let ranges : List Range = pairs ((let contact : Contact = c.args.contact in contact)).above c.args.above.now in ranges)) ≡ true = (
+    let words : (i : ℕ) → get_or c.args.above.now i 0 ≤ 4294967295 = λ i. omega (arith, (c.type_inv.row i).fits) in
+    ap (λ (n : ℕ). canonical (n + 2) ((let ranges : List Range = pairs ((let contact : Contact = c.args.contact in contact)).above c.args.above.now in ranges))) (sym c.wide-from.ensures.0)
+    ∙ sym (canonical-lent ((let contact : Contact = c.args.contact in contact)).above (c.wide-from.result + 2) c.args.above.now words) ∙ sym c.canonical_lent.ensures ∙ c.if-not-canonical_lent.false) in
+    rw ((let acked : acked_sent ((let contact : Contact = c.args.contact in contact)).peer_acked ((let contact : Contact = c.args.contact in contact)).sent_msgno ≡ true = le-leb _ _ c.before.before.before.before.before.if1.false in acked), (let yes-22 : rising 1 ((let contact : Contact = c.args.contact in contact)).sent_msgno (take ((let contact : Contact = c.args.contact in contact)).unacked c.args.unacked.now) ≡ true = (sym c.before.before.before.before.rising-lent.ensures ∙ c.before.before.before.if2.false) in yes-22), yes-23, (sym c.canonical_lent-2.ensures ∙ c.if-not-canonical_lent-2.false))

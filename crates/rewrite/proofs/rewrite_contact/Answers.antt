@@ -19,10 +19,10 @@ returns-then-out-row c =
 
 pub returns-in-Refused : goal.returns-in-Refused
 returns-in-Refused c =
-    let k = c.before in
-    refused k.before.before.before.before.before.before.before.args.version ((let row : List ℕ = k.before.before.before.before.before.before.before.args.row.now in row)) ((let lent : Lists = lists k.before.before.before.before.before.before.before.args.chains.now k.before.before.before.before.before.before.before.args.skipped.now k.before.before.before.before.before.before.before.args.above.now k.before.before.before.before.before.before.before.args.unacked.now k.before.before.before.before.before.before.before.args.expired.now in lent)) k.before.before.before.before.before.before.before.args.out.now c.if-out-row.left c.decode-read.ensures c.in-Refused.is
+    
+    refused c.args.version ((let row : List ℕ = c.args.row.now in row)) ((let lent : Lists = lists c.args.chains.now c.args.skipped.now c.args.above.now c.args.unacked.now c.args.expired.now in lent)) c.args.out.now c.if-out-row.left c.decode-read.ensures c.in-Refused.is
 
 pub returns : goal.returns
 returns c =
-    let k = c.before in
-    granted k.before.before.before.before.before.before.before.args.version ((let row : List ℕ = k.before.before.before.before.before.before.before.args.row.now in row)) ((let lent : Lists = lists k.before.before.before.before.before.before.before.args.chains.now k.before.before.before.before.before.before.before.args.skipped.now k.before.before.before.before.before.before.before.args.above.now k.before.before.before.before.before.before.before.args.unacked.now k.before.before.before.before.before.before.before.args.expired.now in lent)) k.before.before.before.before.before.before.before.args.out.now c.if1.left c.decode.ensures ((let by : Bytes ((let row : List ℕ = k.before.before.before.before.before.before.before.args.row.now in row)) = typed ((let row : List ℕ = k.before.before.before.before.before.before.before.args.row.now in row)) k.before.before.before.before.before.before.shared-slice-known.given in by)) c.enum_told.given.1 c.write_contact.ensures
+    
+    granted c.args.version ((let row : List ℕ = c.args.row.now in row)) ((let lent : Lists = lists c.args.chains.now c.args.skipped.now c.args.above.now c.args.unacked.now c.args.expired.now in lent)) c.args.out.now c.if1.left c.decode.ensures ((let by : Bytes ((let row : List ℕ = c.args.row.now in row)) = typed ((let row : List ℕ = c.args.row.now in row)) c.type_inv.row in by)) c.enum_told.given.1 c.write_contact.ensures

@@ -34,7 +34,7 @@ returns-then-not-long_enough c =
     counts-are c.args.row.now by c.in-Fields.at places lent ∙ sym c.long_enough.ensures in
     let says : check_says c.args.row.now c.check_contact-check.result ≡ read_row (contact c.args.version) c.args.row.now = check-says c.args.row.now by c.args.version c.check_contact-check.ensures in
     let read : read_row (contact c.args.version) c.args.row.now ≡ accepted (contact_from c.args.row.now c.in-Fields.at) = learn (check_says c.args.row.now) says c.in-Fields.is in
-    (ap (λ (t : Bool). cond t OUTPUT LISTS) (sym (enough ∙ (not-true _ c.if-not-long_enough.true)))
+    (ap (λ (t : Bool). cond t OUTPUT LISTS) (sym (enough ∙ c.if-not-long_enough.true))
     ∙ ap (λ (a : Answer value.Contact). without_room a lent) (sym read))
 
 pub returns : goal.returns
@@ -45,5 +45,5 @@ returns c =
     counts-are c.args.row.now by c.in-Fields.at places lent ∙ sym c.long_enough.ensures in
     let says : check_says c.args.row.now c.check_contact-check.result ≡ read_row (contact c.args.version) c.args.row.now = check-says c.args.row.now by c.args.version c.check_contact-check.ensures in
     let read : read_row (contact c.args.version) c.args.row.now ≡ accepted (contact_from c.args.row.now c.in-Fields.at) = learn (check_says c.args.row.now) says c.in-Fields.is in
-    (ap (λ (t : Bool). cond t OUTPUT LISTS) (sym (enough ∙ (not-false _ c.if-not-long_enough.false)))
+    (ap (λ (t : Bool). cond t OUTPUT LISTS) (sym (enough ∙ c.if-not-long_enough.false))
     ∙ ap (λ (a : Answer value.Contact). without_room a lent) (sym read))

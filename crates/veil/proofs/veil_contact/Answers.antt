@@ -29,60 +29,60 @@ returns-in_default c =
 pub returns-then-out-n : goal.returns-then-out-n
 returns-then-out-n c =
     let says : let a = c.args in check_says a.row.now c.check_contact-check.result ≡ read_row (contact a.version) a.row.now = let a = c.args in check-says a.row.now (typed a.row.now c.type_inv.row) a.version c.check_contact-check.ensures in
-    let read : read_row (contact c.before.before.before.args.version) c.before.before.before.args.row.now ≡ accepted (contact_from c.before.before.before.args.row.now c.in-Fields.at) = learn (check_says c.before.before.before.args.row.now) says c.in-Fields.is in
-    let a = c.before.before.before.args in
+    let read : read_row (contact c.args.version) c.args.row.now ≡ accepted (contact_from c.args.row.now c.in-Fields.at) = learn (check_says c.args.row.now) says c.in-Fields.is in
+    let a = c.args in
     copy-short (contact a.version) a.row.now a.out.now read c.if-out-n.true
 
 pub veil_paired-keys_at-requires : goal.veil_paired-keys_at-requires
 veil_paired-keys_at-requires c =
-    let by : Bytes c.before.before.before.args.row.now = typed c.before.before.before.args.row.now c.type_inv.row in
-    let places : Offsets c.before.before.before.args.row.now c.in-Fields.at = subst (Placed c.before.before.before.args.row.now) c.in-Fields.is (check-placed c.before.before.before.args.row.now by c.before.before.before.args.version c.check_contact-check.ensures) in
+    let by : Bytes c.args.row.now = typed c.args.row.now c.type_inv.row in
+    let places : Offsets c.args.row.now c.in-Fields.at = subst (Placed c.args.row.now) c.in-Fields.is (check-placed c.args.row.now by c.args.version c.check_contact-check.ensures) in
     let says : let a = c.args in check_says a.row.now c.check_contact-check.result ≡ read_row (contact a.version) a.row.now = let a = c.args in check-says a.row.now (typed a.row.now c.type_inv.row) a.version c.check_contact-check.ensures in
-    let read : read_row (contact c.before.before.before.args.version) c.before.before.before.args.row.now ≡ accepted (contact_from c.before.before.before.args.row.now c.in-Fields.at) = learn (check_says c.before.before.before.args.row.now) says c.in-Fields.is in
-    let stands : Stands paired c.before.before.before.args.row.now 0 (paired_from c.before.before.before.args.row.now c.in-Fields.at.paired) = paired-stands c.before.before.before.args.version c.before.before.before.args.row.now by c.in-Fields.at.paired c.in-Fields.at.keys c.in-Fields.at.chained c.in-Fields.at.numbers read in
-    let long : length (print paired (blank_of paired veil (paired_from c.before.before.before.args.row.now c.in-Fields.at.paired))) + (length (print keys (veiled_keys c.in-Fields.at.keys)) + (length (print chained (veiled_chained c.before.before.before.args.row.now c.in-Fields.at.chained)) + length (print numbers (numbers_from c.before.before.before.args.row.now c.in-Fields.at.numbers)))) ≡ length c.before.before.before.args.row.now = copy-long c.before.before.before.args.version c.before.before.before.args.row.now by c.in-Fields.at.paired c.in-Fields.at.keys c.in-Fields.at.chained c.in-Fields.at.numbers read in
+    let read : read_row (contact c.args.version) c.args.row.now ≡ accepted (contact_from c.args.row.now c.in-Fields.at) = learn (check_says c.args.row.now) says c.in-Fields.is in
+    let stands : Stands paired c.args.row.now 0 (paired_from c.args.row.now c.in-Fields.at.paired) = paired-stands c.args.version c.args.row.now by c.in-Fields.at.paired c.in-Fields.at.keys c.in-Fields.at.chained c.in-Fields.at.numbers read in
+    let long : length (print paired (blank_of paired veil (paired_from c.args.row.now c.in-Fields.at.paired))) + (length (print keys (veiled_keys c.in-Fields.at.keys)) + (length (print chained (veiled_chained c.args.row.now c.in-Fields.at.chained)) + length (print numbers (numbers_from c.args.row.now c.in-Fields.at.numbers)))) ≡ length c.args.row.now = copy-long c.args.version c.args.row.now by c.in-Fields.at.paired c.in-Fields.at.keys c.in-Fields.at.chained c.in-Fields.at.numbers read in
     (places.card, stands, omega (arith, long))
 
 pub veil_keys-chained_at-requires : goal.veil_keys-chained_at-requires
 veil_keys-chained_at-requires c =
-    let by : Bytes c.before.before.before.args.row.now = typed c.before.before.before.args.row.now c.type_inv.row in
+    let by : Bytes c.args.row.now = typed c.args.row.now c.type_inv.row in
     let says : let a = c.args in check_says a.row.now c.check_contact-check.result ≡ read_row (contact a.version) a.row.now = let a = c.args in check-says a.row.now (typed a.row.now c.type_inv.row) a.version c.check_contact-check.ensures in
-    let read : read_row (contact c.before.before.before.args.version) c.before.before.before.args.row.now ≡ accepted (contact_from c.before.before.before.args.row.now c.in-Fields.at) = learn (check_says c.before.before.before.args.row.now) says c.in-Fields.is in
-    let long : length (print paired (blank_of paired veil (paired_from c.before.before.before.args.row.now c.in-Fields.at.paired))) + (length (print keys (veiled_keys c.in-Fields.at.keys)) + (length (print chained (veiled_chained c.before.before.before.args.row.now c.in-Fields.at.chained)) + length (print numbers (numbers_from c.before.before.before.args.row.now c.in-Fields.at.numbers)))) ≡ length c.before.before.before.args.row.now = copy-long c.before.before.before.args.version c.before.before.before.args.row.now by c.in-Fields.at.paired c.in-Fields.at.keys c.in-Fields.at.chained c.in-Fields.at.numbers read in
+    let read : read_row (contact c.args.version) c.args.row.now ≡ accepted (contact_from c.args.row.now c.in-Fields.at) = learn (check_says c.args.row.now) says c.in-Fields.is in
+    let long : length (print paired (blank_of paired veil (paired_from c.args.row.now c.in-Fields.at.paired))) + (length (print keys (veiled_keys c.in-Fields.at.keys)) + (length (print chained (veiled_chained c.args.row.now c.in-Fields.at.chained)) + length (print numbers (numbers_from c.args.row.now c.in-Fields.at.numbers)))) ≡ length c.args.row.now = copy-long c.args.version c.args.row.now by c.in-Fields.at.paired c.in-Fields.at.keys c.in-Fields.at.chained c.in-Fields.at.numbers read in
     omega (arith, long)
 
 pub veil_chained-numbers_at-requires : goal.veil_chained-numbers_at-requires
 veil_chained-numbers_at-requires c =
-    let by : Bytes c.before.before.before.args.row.now = typed c.before.before.before.args.row.now c.type_inv.row in
-    let places : Offsets c.before.before.before.args.row.now c.in-Fields.at = subst (Placed c.before.before.before.args.row.now) c.in-Fields.is (check-placed c.before.before.before.args.row.now by c.before.before.before.args.version c.check_contact-check.ensures) in
+    let by : Bytes c.args.row.now = typed c.args.row.now c.type_inv.row in
+    let places : Offsets c.args.row.now c.in-Fields.at = subst (Placed c.args.row.now) c.in-Fields.is (check-placed c.args.row.now by c.args.version c.check_contact-check.ensures) in
     let says : let a = c.args in check_says a.row.now c.check_contact-check.result ≡ read_row (contact a.version) a.row.now = let a = c.args in check-says a.row.now (typed a.row.now c.type_inv.row) a.version c.check_contact-check.ensures in
-    let read : read_row (contact c.before.before.before.args.version) c.before.before.before.args.row.now ≡ accepted (contact_from c.before.before.before.args.row.now c.in-Fields.at) = learn (check_says c.before.before.before.args.row.now) says c.in-Fields.is in
-    let long : length (print paired (blank_of paired veil (paired_from c.before.before.before.args.row.now c.in-Fields.at.paired))) + (length (print keys (veiled_keys c.in-Fields.at.keys)) + (length (print chained (veiled_chained c.before.before.before.args.row.now c.in-Fields.at.chained)) + length (print numbers (numbers_from c.before.before.before.args.row.now c.in-Fields.at.numbers)))) ≡ length c.before.before.before.args.row.now = copy-long c.before.before.before.args.version c.before.before.before.args.row.now by c.in-Fields.at.paired c.in-Fields.at.keys c.in-Fields.at.chained c.in-Fields.at.numbers read in
+    let read : read_row (contact c.args.version) c.args.row.now ≡ accepted (contact_from c.args.row.now c.in-Fields.at) = learn (check_says c.args.row.now) says c.in-Fields.is in
+    let long : length (print paired (blank_of paired veil (paired_from c.args.row.now c.in-Fields.at.paired))) + (length (print keys (veiled_keys c.in-Fields.at.keys)) + (length (print chained (veiled_chained c.args.row.now c.in-Fields.at.chained)) + length (print numbers (numbers_from c.args.row.now c.in-Fields.at.numbers)))) ≡ length c.args.row.now = copy-long c.args.version c.args.row.now by c.in-Fields.at.paired c.in-Fields.at.keys c.in-Fields.at.chained c.in-Fields.at.numbers read in
     (places.chained, omega (arith, long, c.if-out-n.false, c.veil_paired-keys_at.ensures.0, c.veil_keys-chained_at.ensures.0, wrote-long c.veil_paired-keys_at.ensures.1, wrote-long c.veil_keys-chained_at.ensures.1))
 
 pub overflow_sub-n : goal.overflow_sub-n
 overflow_sub-n c =
-    let by : Bytes c.before.before.before.args.row.now = typed c.before.before.before.args.row.now c.type_inv.row in
+    let by : Bytes c.args.row.now = typed c.args.row.now c.type_inv.row in
     let says : let a = c.args in check_says a.row.now c.check_contact-check.result ≡ read_row (contact a.version) a.row.now = let a = c.args in check-says a.row.now (typed a.row.now c.type_inv.row) a.version c.check_contact-check.ensures in
-    let read : read_row (contact c.before.before.before.args.version) c.before.before.before.args.row.now ≡ accepted (contact_from c.before.before.before.args.row.now c.in-Fields.at) = learn (check_says c.before.before.before.args.row.now) says c.in-Fields.is in
-    let long : length (print paired (blank_of paired veil (paired_from c.before.before.before.args.row.now c.in-Fields.at.paired))) + (length (print keys (veiled_keys c.in-Fields.at.keys)) + (length (print chained (veiled_chained c.before.before.before.args.row.now c.in-Fields.at.chained)) + length (print numbers (numbers_from c.before.before.before.args.row.now c.in-Fields.at.numbers)))) ≡ length c.before.before.before.args.row.now = copy-long c.before.before.before.args.version c.before.before.before.args.row.now by c.in-Fields.at.paired c.in-Fields.at.keys c.in-Fields.at.chained c.in-Fields.at.numbers read in
+    let read : read_row (contact c.args.version) c.args.row.now ≡ accepted (contact_from c.args.row.now c.in-Fields.at) = learn (check_says c.args.row.now) says c.in-Fields.is in
+    let long : length (print paired (blank_of paired veil (paired_from c.args.row.now c.in-Fields.at.paired))) + (length (print keys (veiled_keys c.in-Fields.at.keys)) + (length (print chained (veiled_chained c.args.row.now c.in-Fields.at.chained)) + length (print numbers (numbers_from c.args.row.now c.in-Fields.at.numbers)))) ≡ length c.args.row.now = copy-long c.args.version c.args.row.now by c.in-Fields.at.paired c.in-Fields.at.keys c.in-Fields.at.chained c.in-Fields.at.numbers read in
     omega (arith, long, c.if-out-n.false, c.veil_paired-keys_at.ensures.0, c.veil_keys-chained_at.ensures.0, c.veil_chained-numbers_at.ensures.0, wrote-long c.veil_paired-keys_at.ensures.1, wrote-long c.veil_keys-chained_at.ensures.1, wrote-long c.veil_chained-numbers_at.ensures.1)
 
 pub put_run-requires : goal.put_run-requires
 put_run-requires c =
-    let by : Bytes c.before.before.before.args.row.now = typed c.before.before.before.args.row.now c.type_inv.row in
+    let by : Bytes c.args.row.now = typed c.args.row.now c.type_inv.row in
     let says : let a = c.args in check_says a.row.now c.check_contact-check.result ≡ read_row (contact a.version) a.row.now = let a = c.args in check-says a.row.now (typed a.row.now c.type_inv.row) a.version c.check_contact-check.ensures in
-    let read : read_row (contact c.before.before.before.args.version) c.before.before.before.args.row.now ≡ accepted (contact_from c.before.before.before.args.row.now c.in-Fields.at) = learn (check_says c.before.before.before.args.row.now) says c.in-Fields.is in
-    let long : length (print paired (blank_of paired veil (paired_from c.before.before.before.args.row.now c.in-Fields.at.paired))) + (length (print keys (veiled_keys c.in-Fields.at.keys)) + (length (print chained (veiled_chained c.before.before.before.args.row.now c.in-Fields.at.chained)) + length (print numbers (numbers_from c.before.before.before.args.row.now c.in-Fields.at.numbers)))) ≡ length c.before.before.before.args.row.now = copy-long c.before.before.before.args.version c.before.before.before.args.row.now by c.in-Fields.at.paired c.in-Fields.at.keys c.in-Fields.at.chained c.in-Fields.at.numbers read in
+    let read : read_row (contact c.args.version) c.args.row.now ≡ accepted (contact_from c.args.row.now c.in-Fields.at) = learn (check_says c.args.row.now) says c.in-Fields.is in
+    let long : length (print paired (blank_of paired veil (paired_from c.args.row.now c.in-Fields.at.paired))) + (length (print keys (veiled_keys c.in-Fields.at.keys)) + (length (print chained (veiled_chained c.args.row.now c.in-Fields.at.chained)) + length (print numbers (numbers_from c.args.row.now c.in-Fields.at.numbers)))) ≡ length c.args.row.now = copy-long c.args.version c.args.row.now by c.in-Fields.at.paired c.in-Fields.at.keys c.in-Fields.at.chained c.in-Fields.at.numbers read in
     (omega (arith, long, c.if-out-n.false, c.veil_paired-keys_at.ensures.0, c.veil_keys-chained_at.ensures.0, c.veil_chained-numbers_at.ensures.0, wrote-long c.veil_paired-keys_at.ensures.1, wrote-long c.veil_keys-chained_at.ensures.1, wrote-long c.veil_chained-numbers_at.ensures.1), omega (arith, long, c.if-out-n.false, c.veil_paired-keys_at.ensures.0, c.veil_keys-chained_at.ensures.0, c.veil_chained-numbers_at.ensures.0, wrote-long c.veil_paired-keys_at.ensures.1, wrote-long c.veil_keys-chained_at.ensures.1, wrote-long c.veil_chained-numbers_at.ensures.1))
 
 pub returns : goal.returns
 returns c =
-    let by : Bytes c.before.before.before.args.row.now = typed c.before.before.before.args.row.now c.type_inv.row in
+    let by : Bytes c.args.row.now = typed c.args.row.now c.type_inv.row in
     let says : let a = c.args in check_says a.row.now c.check_contact-check.result ≡ read_row (contact a.version) a.row.now = let a = c.args in check-says a.row.now (typed a.row.now c.type_inv.row) a.version c.check_contact-check.ensures in
-    let read : read_row (contact c.before.before.before.args.version) c.before.before.before.args.row.now ≡ accepted (contact_from c.before.before.before.args.row.now c.in-Fields.at) = learn (check_says c.before.before.before.args.row.now) says c.in-Fields.is in
-    let long : length (print paired (blank_of paired veil (paired_from c.before.before.before.args.row.now c.in-Fields.at.paired))) + (length (print keys (veiled_keys c.in-Fields.at.keys)) + (length (print chained (veiled_chained c.before.before.before.args.row.now c.in-Fields.at.chained)) + length (print numbers (numbers_from c.before.before.before.args.row.now c.in-Fields.at.numbers)))) ≡ length c.before.before.before.args.row.now = copy-long c.before.before.before.args.version c.before.before.before.args.row.now by c.in-Fields.at.paired c.in-Fields.at.keys c.in-Fields.at.chained c.in-Fields.at.numbers read in
-    let a = c.before.before.before.args in
+    let read : read_row (contact c.args.version) c.args.row.now ≡ accepted (contact_from c.args.row.now c.in-Fields.at) = learn (check_says c.args.row.now) says c.in-Fields.is in
+    let long : length (print paired (blank_of paired veil (paired_from c.args.row.now c.in-Fields.at.paired))) + (length (print keys (veiled_keys c.in-Fields.at.keys)) + (length (print chained (veiled_chained c.args.row.now c.in-Fields.at.chained)) + length (print numbers (numbers_from c.args.row.now c.in-Fields.at.numbers)))) ≡ length c.args.row.now = copy-long c.args.version c.args.row.now by c.in-Fields.at.paired c.in-Fields.at.keys c.in-Fields.at.chained c.in-Fields.at.numbers read in
+    let a = c.args in
     let here : c.veil_chained-numbers_at.result + length (print numbers (numbers_from a.row.now c.in-Fields.at.numbers)) ≡ length a.row.now = omega (arith, long, c.veil_paired-keys_at.ensures.0, c.veil_keys-chained_at.ensures.0, c.veil_chained-numbers_at.ensures.0) in
     let w = c.veil_paired-keys_at.ensures.1 then (c.veil_keys-chained_at.ensures.1 then (c.veil_chained-numbers_at.ensures.1 then rw (numbers-run a.version a.row.now by c.in-Fields.at.paired c.in-Fields.at.keys c.in-Fields.at.chained c.in-Fields.at.numbers read _ here) (let at : ContactAt = c.put_run.ensures.1.before.check.given.0.0 in at))) in
     copy_stored (contact a.version) a.row.now a.out.now read c.if-out-n.false

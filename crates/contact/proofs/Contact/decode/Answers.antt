@@ -33,14 +33,14 @@ returns-then-not-long_enough c =
     let accepted : read_row (contact c.args.version) c.args.row.now ≡ answer.accepted (contact_from c.args.row.now c.in-Fields.at) = learn (check_says c.args.row.now) says c.in-Fields.is in
     let places : Offsets c.args.row.now c.in-Fields.at = subst (Placed c.args.row.now) c.in-Fields.is (check-placed c.args.row.now by c.args.version c.check_contact-check.ensures) in
     ap (λ (r : ContactRead). leaves r lent) c.refused-then-not-long_enough.ensures
-    ∙ sym (too_short _ c.args.row.now lent accepted (counts-are c.args.row.now by c.in-Fields.at places lent ∙ sym c.long_enough.ensures ∙ not-true _ c.if-not-long_enough.true))
+    ∙ sym (too_short _ c.args.row.now lent accepted (counts-are c.args.row.now by c.in-Fields.at places lent ∙ sym c.long_enough.ensures ∙ c.if-not-long_enough.true))
 
 pub fill_lists-requires : goal.fill_lists-requires
 fill_lists-requires c =
     let by : Bytes c.args.row.now = typed c.args.row.now c.type_inv.row in
     let places : Offsets c.args.row.now c.in-Fields.at = subst (Placed c.args.row.now) c.in-Fields.is (check-placed c.args.row.now by c.args.version c.check_contact-check.ensures) in
     let lent : Lists = lists c.args.chains.now c.args.skipped.now c.args.above.now c.args.unacked.now c.args.expired.now in
-    let enough : counts c.args.row.now by c.in-Fields.at places lent ≡ true = sym c.long_enough.ensures ∙ not-false _ c.if-not-long_enough.false in
+    let enough : counts c.args.row.now by c.in-Fields.at places lent ≡ true = sym c.long_enough.ensures ∙ c.if-not-long_enough.false in
     fillable c.args.row.now by c.in-Fields.at places lent enough
 
 pub contact_from-requires : goal.contact_from-requires
@@ -58,6 +58,6 @@ returns c =
     let says : check_says c.args.row.now c.check_contact-check.result ≡ read_row (contact c.args.version) c.args.row.now = check-says c.args.row.now by c.args.version c.check_contact-check.ensures in
     let accepted : read_row (contact c.args.version) c.args.row.now ≡ answer.accepted (contact_from c.args.row.now c.in-Fields.at) = learn (check_says c.args.row.now) says c.in-Fields.is in
     let places : Offsets c.args.row.now c.in-Fields.at = subst (Placed c.args.row.now) c.in-Fields.is (check-placed c.args.row.now by c.args.version c.check_contact-check.ensures) in
-    let enough : counts c.args.row.now by c.in-Fields.at places lent ≡ true = sym c.long_enough.ensures ∙ not-false _ c.if-not-long_enough.false in
+    let enough : counts c.args.row.now by c.in-Fields.at places lent ≡ true = sym c.long_enough.ensures ∙ c.if-not-long_enough.false in
     ap₂ leaves (λ i. record { verdict = Accepted; contact = c.contact_from.ensures i }) c.fill_lists.ensures
     ∙ sym (is_read c.args.version c.args.row.now lent accepted (counts-are c.args.row.now by c.in-Fields.at places lent ∙ enough))
