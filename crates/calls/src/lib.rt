@@ -3,7 +3,7 @@
 #![tactic(auto)]
 
 ghost use Rattle.std.specs.Prelude.{◌≡◌, List, ℕ};
-ghost use Rattle.contact.specs.Contact.{lists_before, lists_after};
+ghost use Rattle.contact.specs.Contact.{lists, lists_before, lists_after};
 ghost use Rattle.calls_step.specs.Step.{step};
 ghost use Rattle.calls_step.specs.Proved.{HIGHEST};
 ghost use Rattle.calls_dispatch.specs.Dispatch.{call_of, input_of, left_of, gate_of, id_in, id_for, counts_queued, OfStore};
@@ -164,7 +164,7 @@ fn facts_for(
     unacked: &[u32],
     expired: &[u32],
 ) -> Facts
-    ensures { (out : List ℕ) → OfStore call (input_of mark run.now entries.now contact (lists_before chains skipped above unacked expired) out) result }
+    ensures { (out : List ℕ) → OfStore call (input_of mark run.now entries.now contact (lists chains.now skipped.now above.now unacked.now expired.now) out) result }
 {
     let id = id_for(call, mark);
     let asking = asking_for(call, mark);

@@ -4,7 +4,7 @@
 
 ghost use Rattle.std.specs.Prelude.{◌≡◌};
 ghost use Rattle.rows.specs.Answers.{written_says};
-ghost use Rattle.contact.specs.Contact.{lists_before, lists_after};
+ghost use Rattle.contact.specs.Contact.{lists, lists_before, lists_after};
 ghost use Rattle.contact_image.specs.Row.{writes_contact};
 ghost use Rattle.numbers.specs.Ranges.{is_range};
 ghost use Rattle.calls_step.specs.Step.{renumbered};
@@ -196,7 +196,7 @@ pub fn write(
     expired: &[u32],
     out: &mut [u8],
 ) -> Left
-    ensures { let row = writes_contact contact (lists_before chains skipped above unacked expired) out.old in WrittenBy contact mark row_says row result out.new }
+    ensures { let row = writes_contact contact (lists chains.now skipped.now above.now unacked.now expired.now) out.old in WrittenBy contact mark row_says row result out.new }
 {
     let written = contact_row::write_contact(
         contact, chains, skipped, above, unacked, expired, out,

@@ -3,7 +3,7 @@
 #![tactic(auto)]
 
 ghost use Rattle.std.specs.Prelude.{◌≡◌, ◌&&◌, not};
-ghost use Rattle.contact.specs.Contact.{lists, lists_before};
+ghost use Rattle.contact.specs.Contact.{lists};
 ghost use Rattle.restore.specs.Restored.{is_granted};
 ghost use Rattle.calls_find.specs.Sought.{sought_in};
 ghost use Rattle.calls_store.specs.Passes.{Writable, WritableFor, omitted_for, count_for, yes_for, passed_as, passes_for};
@@ -47,7 +47,7 @@ fn is_writable(
     unacked: &[u32],
     expired: &[u32],
 ) -> bool
-    ensures { Writable contact (lists_before chains skipped above unacked expired) result }
+    ensures { Writable contact (lists chains.now skipped.now above.now unacked.now expired.now) result }
 {
     contact_image::typed(contact);
     let Written::Length(_) = contact_row::contact_size(
@@ -68,7 +68,7 @@ fn is_writable_for(
     unacked: &[u32],
     expired: &[u32],
 ) -> bool
-    ensures { WritableFor asking contact (lists_before chains skipped above unacked expired) result }
+    ensures { WritableFor asking contact (lists chains.now skipped.now above.now unacked.now expired.now) result }
 {
     match asking {
         Asking::Nothing => false,
