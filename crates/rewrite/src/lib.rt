@@ -6,7 +6,7 @@ ghost use Rattle.layout.specs.Layout.{read_row};
 ghost use Rattle.layout.specs.Write.{writes};
 ghost use Rattle.rows.specs.Rows.{device, queued, courier, contact};
 ghost use Rattle.rows.specs.Answers.{written_says, leaves};
-ghost use Rattle.contact.specs.Contact.{lists_before, lists_after};
+ghost use Rattle.contact.specs.Contact.{lists, lists_before, lists_after};
 ghost use Rattle.rewrite.specs.Rewrite as spec;
 ghost use Rattle.rewrite.specs.Rewrite.{without_room, rewrites};
 
@@ -59,7 +59,7 @@ fn without_room(
     unacked: &[u32],
     expired: &[u32],
 ) -> u8
-    ensures { result ≡ without_room (read_row (contact version) row.now) (lists_before chains skipped above unacked expired) }
+    ensures { result ≡ without_room (read_row (contact version) row.now) (lists chains.now skipped.now above.now unacked.now expired.now) }
 {
     let check = contact::check_contact(version, row);
     let ContactCheck::Fields(at) = check else {

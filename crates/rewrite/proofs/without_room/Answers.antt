@@ -2,7 +2,6 @@
 -- Assumes nothing.
 use mathlib.Core.Bool.{Bool, cond}
 use mathlib.Core.Path.{◌≡◌, sym, ap, subst, ◌∙◌}
-use borrow.Author.Tests.{not-true, not-false}
 use Rattle.layout.specs.Questions.{LISTS, OUTPUT}
 use Rattle.layout.specs.Layout.{Answer, accepted, read_row}
 use Rattle.layout.specs.RowLaws.{Bytes}
