@@ -2,7 +2,7 @@
 -- Assumes nothing.
 use Prim.Native.Nat.{ℕ, zero, suc, ◌+◌, ◌-◌, ◌*◌, ◌≤◌}
 use mathlib.Core.List.{List, [], ◌∷◌}
-use mathlib.Core.Bool.{Bool, true, cond, ◌||◌, not}
+use mathlib.Core.Bool.{Bool, cond, ◌||◌, not}
 use mathlib.Core.Path.{◌≡◌, refl, subst, sym, ap, ◌∙◌}
 use native.Mathlib.Omega.{arith}
 use lib.ListN.{length}
@@ -99,7 +99,7 @@ same_set e p = record { is-canonical = p.is-canonical; in-width = λ n t. p.in-w
 all-added : {N : ℕ} {S : ℕ → Bool} {v : Received} → Records N S v → (rs : List Range) → Coverable N rs → Records N (λ n. any (inside n n) rs || S n) (insert_all rs v)
 all-added p [] h = p
 all-added {N} {S} {v} p (r ∷ rs) h =
-    same_set (λ n. or-joined (inside n n r) (any (inside n n) rs) (S n)) (all-added ((record-laws p).insert-adds r.from r.to h.0 h.1 h.2) rs h.3)
+    same_set (λ n. or-joined (inside n n r) (any (inside n n) rs) (S n)) (all-added {S = add r.from r.to S} {v = inserted v r.from r.to} ((record-laws p).insert-adds r.from r.to h.0 h.1 h.2) rs h.3)
 
 any_order : {N : ℕ} {S : ℕ → Bool} {v : Received} → Records N S v → (rs ss : List Range) → Coverable N rs → Coverable N ss
     → ((n : ℕ) → any (inside n n) rs ≡ any (inside n n) ss) → insert_all rs v ≡ insert_all ss v
@@ -112,7 +112,7 @@ all-counted : {N : ℕ} {S : ℕ → Bool} {v : Received} → Records N S v → 
 all-counted p [] h = omega arith
 all-counted {N} {S} {v} p (r ∷ rs) h =
     let laws = record-laws p in
-    let rest = all-counted (laws.insert-adds r.from r.to h.0 h.1 h.2) rs h.3 in
+    let rest = all-counted {S = add r.from r.to S} {v = inserted v r.from r.to} (laws.insert-adds r.from r.to h.0 h.1 h.2) rs h.3 in
     let same = same_count _ _ 1 N (λ n one. or-joined (inside n n r) (any (inside n n) rs) (S n)) in
     omega (arith, laws.added_more r.from r.to h.0 h.2, rest, same)
 

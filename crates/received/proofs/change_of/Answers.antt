@@ -9,10 +9,10 @@ pub returns-then-wide : goal.returns-then-wide
 returns-then-wide c =
     let a = c.args in
     let all = length_pairs a.held a.above.now (omega arith) in
-    joined-found a.contiguous a.held (pairs a.held a.above.now) all a.from a.to _ _ _ _ c.added-added.ensures _ (omega arith) c.higher.ensures c.merge-m.ensures.0
+    joined-found a.contiguous a.held (pairs a.held a.above.now) all a.from a.to _ _ _ _ c.added-added.ensures _ (omega arith) c.higher.ensures c.merge-m.ensures.above_value
 
 pub returns : goal.returns
 returns c =
     let a = c.args in
     let all = length_pairs a.held a.above.now (omega arith) in
-    apart-found a.contiguous a.held (pairs a.held a.above.now) all a.from a.to _ _ _ _ c.added-added.ensures _ (omega arith) c.below-i.ensures.0 c.merge-m-2.ensures.0
+    apart-found a.contiguous a.held (pairs a.held a.above.now) all a.from a.to _ _ _ _ c.added-added.ensures _ (omega arith) c.below-i.ensures.0 c.merge-m-2.ensures.above_value

@@ -7,4 +7,4 @@ use Rattle.received.proofs.close.Goals as goal
 pub returns : goal.returns
 returns c =
     let a = c.args in
-    c.shift.ensures ∙ rw (c.get.ensures, c.get-b.ensures) (close-shifts a.d a.l.now (omega arith))
+    c.shift.ensures ∙ rw (c.get-a.ensures, c.get-b.ensures) (close-shifts a.d a.l.now (omega arith))

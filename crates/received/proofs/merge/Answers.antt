@@ -11,7 +11,10 @@ loop-next-init c = (omega arith, omega arith, omega arith, refl)
 pub returns-then-wide : goal.returns-then-wide
 returns-then-wide c =
     let a = c.args in
-    (merged-stop a.above.now a.held c.loop-next.next (omega arith) (omega arith) _ _ _ c.loop-next.invariant.3 (omega arith), (omega arith, omega arith))
+    record {
+      above_value = merged-stop a.above.now a.held c.loop-next.next (omega arith) (omega arith) _ _ _ c.loop-next.invariant.3 (omega arith);
+      i_le_next = (omega arith, omega arith);
+    }
 
 pub loop-next-preserved : goal.loop-next-preserved
 loop-next-preserved c =
@@ -24,4 +27,4 @@ loop-next-preserved c =
     )
 
 pub returns : goal.returns
-returns c = (search merged-end, (omega arith, omega arith))
+returns c = record { above_value = search merged-end; i_le_next = (omega arith, omega arith) }

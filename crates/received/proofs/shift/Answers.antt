@@ -14,9 +14,9 @@ loop-j-preserved c =
     let long = length-shifted s.d s.from s.to s.l.now in (
       omega arith,
       simp length-set (omega arith),
-      c.loop.invariant.3,
-      c.get-x.ensures ∙ shift-read s.d s.from s.to c.loop.j s.l.now _ (omega arith) c.loop.invariant.4,
-      over-step _ s.l.now _ c.loop.j _ (omega arith) (omega arith) c.loop.invariant.4 c.loop.invariant.2,
+      c.loop-j.invariant.3,
+      c.get-x.ensures ∙ shift-read s.d s.from s.to c.loop-j.j s.l.now _ (omega arith) c.loop-j.invariant.4,
+      over-step _ s.l.now _ c.loop-j.j _ (omega arith) (omega arith) c.loop-j.invariant.4 c.loop-j.invariant.2,
     )
 
 pub returns : goal.returns

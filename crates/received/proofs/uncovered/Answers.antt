@@ -21,14 +21,14 @@ returns-then-end-here c =
 pub overflow_add-found : goal.overflow_add-found
 overflow_add-found c =
     let answer : ℕ = uncovered c.args.at c.args.to (pairs c.args.held c.args.above.now) in
-    let passed : c.loop-i.found + (c.higher-start.result - c.loop-i.here) + uncovered (max c.higher-start.result (get_or c.args.above.now (2 * c.loop-i.i + 1) 0 + 1)) c.args.to (drop (c.loop-i.i + 1) (pairs c.args.held c.args.above.now)) ≡ answer = uncovered-on c.args.above.now c.args.held c.loop-i.i (omega arith) (omega arith) c.loop-i.here c.args.to c.loop-i.found answer c.higher-start.result c.loop-i.inv.1 (omega arith) in
+    let passed : c.loop-i.found + (c.higher-start.result - c.loop-i.here) + uncovered (max c.higher-start.result (get_or c.args.above.now (2 * c.loop-i.i + 1) 0 + 1)) c.args.to (drop (c.loop-i.i + 1) (pairs c.args.held c.args.above.now)) ≡ answer = uncovered-on c.args.above.now c.args.held c.loop-i.i (omega arith) (omega arith) c.loop-i.here c.args.to c.loop-i.found answer c.higher-start.result c.loop-i.invariant.1 (omega arith) in
     let most : answer ≤ c.args.to + 1 = omega (arith, uncovered-most c.args.at c.args.to (pairs c.args.held c.args.above.now)) in
     omega (arith, passed, most)
 
 pub loop-i-preserved : goal.loop-i-preserved
 loop-i-preserved c =
     let answer : ℕ = uncovered c.args.at c.args.to (pairs c.args.held c.args.above.now) in
-    let passed : c.loop-i.found + (c.higher-start.result - c.loop-i.here) + uncovered (max c.higher-start.result (get_or c.args.above.now (2 * c.loop-i.i + 1) 0 + 1)) c.args.to (drop (c.loop-i.i + 1) (pairs c.args.held c.args.above.now)) ≡ answer = uncovered-on c.args.above.now c.args.held c.loop-i.i (omega arith) (omega arith) c.loop-i.here c.args.to c.loop-i.found answer c.higher-start.result c.loop-i.inv.1 (omega arith) in
+    let passed : c.loop-i.found + (c.higher-start.result - c.loop-i.here) + uncovered (max c.higher-start.result (get_or c.args.above.now (2 * c.loop-i.i + 1) 0 + 1)) c.args.to (drop (c.loop-i.i + 1) (pairs c.args.held c.args.above.now)) ≡ answer = uncovered-on c.args.above.now c.args.held c.loop-i.i (omega arith) (omega arith) c.loop-i.here c.args.to c.loop-i.found answer c.higher-start.result c.loop-i.invariant.1 (omega arith) in
     let next : c.higher-here.result ≡ max c.higher-start.result (get_or c.args.above.now (2 * c.loop-i.i + 1) 0 + 1) = omega arith in
     (omega arith, rw next passed)
 
