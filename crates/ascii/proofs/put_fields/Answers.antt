@@ -18,12 +18,11 @@ put_field-here-requires c =
     (field_room ((take (c.args.count) (c.args.fields))) c.loop-i.i c.loop-i.invariant.1 (omega (arith, (let many : length ((take (c.args.count) (c.args.fields))) ≡ c.args.count = first-many (c.args.fields) (c.args.count) ((let seven : length (c.args.fields) ≡ 7 = search rules in seven)) c.requires.0 in many))) c.requires.1)
 
 pub loop-i-preserved : goal.loop-i-preserved
-loop-i-preserved c =
-    (
-      omega arith,
-      field-turn ((take (c.args.count) (c.args.fields))) c.loop-i.i c.loop-i.invariant.1 (omega (arith, (let many : length ((take (c.args.count) (c.args.fields))) ≡ c.args.count = first-many (c.args.fields) (c.args.count) ((let seven : length (c.args.fields) ≡ 7 = search rules in seven)) c.requires.0 in many)))
-          (rw (first-at (c.args.fields) (c.args.count) ((let seven : length (c.args.fields) ≡ 7 = search rules in seven)) c.requires.0 c.loop-i.i (omega arith)) c.put_field-here.ensures.1),
-    )
+loop-i-preserved c = (
+  omega arith,
+  field-turn ((take (c.args.count) (c.args.fields))) c.loop-i.i c.loop-i.invariant.1 (omega (arith, (let many : length ((take (c.args.count) (c.args.fields))) ≡ c.args.count = first-many (c.args.fields) (c.args.count) ((let seven : length (c.args.fields) ≡ 7 = search rules in seven)) c.requires.0 in many)))
+      (rw (first-at (c.args.fields) (c.args.count) ((let seven : length (c.args.fields) ≡ 7 = search rules in seven)) c.requires.0 c.loop-i.i (omega arith)) c.put_field-here.ensures.1),
+)
 
 pub put_byte-requires : goal.put_byte-requires
 put_byte-requires c =
