@@ -54,9 +54,13 @@ loop-i-preserved-then-n-gt0 c =
     let n = c.pairs_in-n.result in
     let chunk = c.args.chunk.now in
     let after : drop (c.loop-i.i + 2 * n) chunk ≡ drop (2 * n) (drop c.loop-i.i chunk) = sym (drop-drop (2 * n) c.loop-i.i chunk) in
-    let h = held c.loop-i.s c.loop-i.run c.loop-i.records in
-    (((let found : Counted c.loop-i.s.phase c.args.chunk.now c.loop-i.i c.pairs_in-n.result = counted c.loop-i.s.phase c.args.chunk.now c.loop-i.i c.pairs_in-n.result c.loop-i.invariant.0 c.pairs_in-n.ensures in found)).stand, rw after (ap (fed (drop (2 * n) (drop c.loop-i.i chunk))) (c.take_pairs-s.ensures c.loop-i.records ∙ ap (λ (x : List ℕ). fed x h) ((let lent-are : let rest = drop c.loop-i.i c.args.chunk.now in take (c.loop-i.i + 2 * c.pairs_in-n.result - c.loop-i.i) rest ≡ take (2 * c.pairs_in-n.result) rest = let same : c.loop-i.i + 2 * c.pairs_in-n.result - c.loop-i.i ≡ 2 * c.pairs_in-n.result = omega arith in
-    ap (λ (k : ℕ). take k (drop c.loop-i.i c.args.chunk.now)) same in lent-are))) ∙ fed-split (2 * n) (drop c.loop-i.i chunk) h ∙ c.loop-i.invariant.1), search rules, search rules)
+    let h = held c.loop-i.s c.loop-i.run c.loop-i.records in (
+      ((let found : Counted c.loop-i.s.phase c.args.chunk.now c.loop-i.i c.pairs_in-n.result = counted c.loop-i.s.phase c.args.chunk.now c.loop-i.i c.pairs_in-n.result c.loop-i.invariant.0 c.pairs_in-n.ensures in found)).stand,
+      rw after (ap (fed (drop (2 * n) (drop c.loop-i.i chunk))) (c.take_pairs-s.ensures c.loop-i.records ∙ ap (λ (x : List ℕ). fed x h) ((let lent-are : let rest = drop c.loop-i.i c.args.chunk.now in take (c.loop-i.i + 2 * c.pairs_in-n.result - c.loop-i.i) rest ≡ take (2 * c.pairs_in-n.result) rest = let same : c.loop-i.i + 2 * c.pairs_in-n.result - c.loop-i.i ≡ 2 * c.pairs_in-n.result = omega arith in
+          ap (λ (k : ℕ). take k (drop c.loop-i.i c.args.chunk.now)) same in lent-are))) ∙ fed-split (2 * n) (drop c.loop-i.i chunk) h ∙ c.loop-i.invariant.1),
+      search rules,
+      search rules,
+    )
 
 pub loop-i-preserved : goal.loop-i-preserved
 loop-i-preserved c =
