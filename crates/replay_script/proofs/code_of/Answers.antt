@@ -23,13 +23,16 @@ name-asked word code e h asked =
     sym (asked ∙ ap (same word) (rw wide (name_of e code h)))
 
 pub slice_bounds-is-end : goal.slice_bounds-is-end
+unfolding TABLE
 slice_bounds-is-end c = omega (arith, row_in c.requires c.loop-code.code (search rules))
 
 pub returns-then-is : goal.returns-then-is
+unfolding TABLE
 returns-then-is c =
     sym (this-name with_unknown c.loop-code.code _ (search rules) (name-asked _ c.loop-code.code c.requires (search rules) c.is.ensures ∙ c.if-is.true)) ∙ c.loop-code.invariant
 
 pub loop-code-preserved : goal.loop-code-preserved
+unfolding TABLE
 loop-code-preserved c =
     sym (other_name with_unknown c.loop-code.code _ (search rules) (name-asked _ c.loop-code.code c.requires (search rules) c.is.ensures ∙ c.if-is.false)) ∙ c.loop-code.invariant
 

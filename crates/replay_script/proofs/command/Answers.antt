@@ -8,15 +8,15 @@ use Rattle.replay_script.proofs.command.Goals as goal
 
 pub returns-then-are_decimals : goal.returns-then-are_decimals
 returns-then-are_decimals c =
-    let e = sym (c.code_of_lem.ensures ∙ ap code_of c.word.ensures) in
-    rw e (sym (counted c.code_of_lem.result c.narrow_of-narrow.result c.wide_of.result c.others_of.result c.marks.result (parted SPACE c.args.line.now) c.narrow_of-narrow.ensures.0 c.wide_of.ensures.0 c.others_of.ensures.0 c.marks.ensures c.if-marks-count.true c.are_decimals.result c.are_decimals.ensures ∙ rw c.if-are_decimals.true))
+    let e = sym (c.code_of-code.ensures ∙ ap code_of c.word.ensures) in
+    rw e (sym (counted c.code_of-code.result c.narrow_of-narrow.result c.wide_of.result c.others_of.result c.marks.result (parted SPACE c.args.line.now) c.narrow_of-narrow.ensures.0 c.wide_of.ensures.0 c.others_of.ensures.0 c.marks.ensures c.if-marks-count.true c.are_decimals.result c.are_decimals.ensures ∙ rw c.if-are_decimals.true))
 
 pub returns-then-marks-count : goal.returns-then-marks-count
 returns-then-marks-count c =
-    let e = sym (c.code_of_lem.ensures ∙ ap code_of c.word.ensures) in
-    rw e (sym (counted c.code_of_lem.result c.narrow_of-narrow.result c.wide_of.result c.others_of.result c.marks.result (parted SPACE c.args.line.now) c.narrow_of-narrow.ensures.0 c.wide_of.ensures.0 c.others_of.ensures.0 c.marks.ensures c.if-marks-count.true c.are_decimals.result c.are_decimals.ensures ∙ rw c.if-are_decimals.false))
+    let e = sym (c.code_of-code.ensures ∙ ap code_of c.word.ensures) in
+    rw e (sym (counted c.code_of-code.result c.narrow_of-narrow.result c.wide_of.result c.others_of.result c.marks.result (parted SPACE c.args.line.now) c.narrow_of-narrow.ensures.0 c.wide_of.ensures.0 c.others_of.ensures.0 c.marks.ensures c.if-marks-count.true c.are_decimals.result c.are_decimals.ensures ∙ rw c.if-are_decimals.false))
 
 pub returns : goal.returns
 returns c =
-    let e = sym (c.code_of_lem.ensures ∙ ap code_of c.word.ensures) in
-    rw e (sym (miscounted c.code_of_lem.result c.narrow_of-narrow.result c.wide_of.result c.others_of.result c.marks.result (parted SPACE c.args.line.now) c.narrow_of-narrow.ensures.0 c.wide_of.ensures.0 c.others_of.ensures.0 c.marks.ensures c.if-marks-count.false))
+    let e = sym (c.code_of-code.ensures ∙ ap code_of c.word.ensures) in
+    rw e (sym (miscounted c.code_of-code.result c.narrow_of-narrow.result c.wide_of.result c.others_of.result c.marks.result (parted SPACE c.args.line.now) c.narrow_of-narrow.ensures.0 c.wide_of.ensures.0 c.others_of.ensures.0 c.marks.ensures c.if-marks-count.false))

@@ -8,12 +8,15 @@ use borrow.Author.Rules.{rules}
 use Rattle.replay_script.proofs.others_of.Goals as goal
 
 pub bounds-table-i : goal.bounds-table-i
+unfolding Rattle.replay_script.specs.Table.TABLE
 bounds-table-i c = omega (arith, row_in c.requires c.index-i.result c.if-i-lt-CODES.true)
 
 pub overflow_sub-table : goal.overflow_sub-table
+unfolding Rattle.replay_script.specs.Table.TABLE
 overflow_sub-table c = (others-digit c.requires c.index-i.result c.if-i-lt-CODES.true).0
 
 pub returns-then-i-lt-CODES : goal.returns-then-i-lt-CODES
+unfolding Rattle.replay_script.specs.Table.TABLE
 returns-then-i-lt-CODES c =
     (c.index.ensures.0 ∙ (others-digit c.requires c.index-i.result c.if-i-lt-CODES.true).1 ∙ ap others_of c.index-i.ensures.0, search rules)
 
