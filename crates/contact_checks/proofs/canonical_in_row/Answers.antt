@@ -10,7 +10,7 @@ use Rattle.rows.specs.Checks.{canonical, none_above}
 use Rattle.rows.specs.Rows.{range}
 use Rattle.contact_checks.proofs.Turns.{ordered-turned, ordered-low, ordered-high, ordered-on, ordered_end}
 use Rattle.contact_checks.proofs.Cells.{standing, all_shown, Turn, turn, none_left}
-use Rattle.contact_checks.proofs.Fields.{range_at, ranges, range-shows, Begin, range-read}
+use Rattle.contact_checks.proofs.Fields.{range_at, range-shows, Begin, range-read}
 use Rattle.contact_checks.proofs.canonical_in_row.Goals as goal
 
 pub loop-i-init : goal.loop-i-init
@@ -22,7 +22,7 @@ loop-i-init c =
 pub be32-a-requires : goal.be32-a-requires
 be32-a-requires c =
     let turned : Turn (λ l. 8) range_at c.args.row.now c.args.count c.loop-i.i c.loop-i.p = turn (λ l. 8) range_at c.args.row.now c.args.count c.loop-i.i c.loop-i.p c.loop-i-test.true c.loop-i.invariant.1 in
-    omega (arith, turned.ranges)
+    omega (arith, turned.fits)
 
 pub overflow_add-p : goal.overflow_add-p
 overflow_add-p c =

@@ -45,13 +45,12 @@ pub after_chain-p-requires : goal.after_chain-p-requires
 after_chain-p-requires c =
     let turned : Turn (chain_width c.args.padded) gen_at c.args.bytes.now c.args.count c.loop-i.i c.loop-i.p = turn (chain_width c.args.padded) gen_at c.args.bytes.now c.args.count c.loop-i.i c.loop-i.p c.loop-i-test.true c.loop-i.invariant.1 in
     let long : 43 ≤ chain_width c.args.padded (drop c.loop-i.p c.args.bytes.now) = width-least c.args.bytes.now c.loop-i.p c.args.padded in
-    omega (arith, turned.ranges, long)
+    omega (arith, turned.fits, long)
 
 pub loop-i-preserved : goal.loop-i-preserved
 loop-i-preserved c =
     let turned : Turn (chain_width c.args.padded) gen_at c.args.bytes.now c.args.count c.loop-i.i c.loop-i.p = turn (chain_width c.args.padded) gen_at c.args.bytes.now c.args.count c.loop-i.i c.loop-i.p c.loop-i-test.true c.loop-i.invariant.1 in
-    let here : gens c.args.padded (c.args.count - c.loop-i.i) (drop c.loop-i.p c.args.bytes.now) ≡ get_or c.args.bytes.now c.loop-i.p 0 ∷ gens c.args.padded (c.args.count - (c.loop-i.i + 1)) (drop (c.loop-i.p + chain_width c.args.padded (drop c.loop-i.p c.args.bytes.now)) c.args.bytes.now) = rw (← gen-at c.args.bytes.now c.loop-i.p) turned.here in
-    (
+    let here : gens c.args.padded (c.args.count - c.loop-i.i) (drop c.loop-i.p c.args.bytes.now) ≡ get_or c.args.bytes.now c.loop-i.p 0 ∷ gens c.args.padded (c.args.count - (c.loop-i.i + 1)) (drop (c.loop-i.p + chain_width c.args.padded (drop c.loop-i.p c.args.bytes.now)) c.args.bytes.now) = rw (← gen-at c.args.bytes.now c.loop-i.p) turned.here in (
       omega arith,
       rw c.after_chain-p.ensures turned.rooms,
       simp length-set c.loop-i.invariant.2,

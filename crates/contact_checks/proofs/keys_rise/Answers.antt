@@ -16,7 +16,7 @@ loop-i-init c = rw sub-zero (omega arith, c.requires, record { so = refl })
 pub key_at-key-requires : goal.key_at-key-requires
 key_at-key-requires c =
     let turned : Turn (λ l. 46) key_number c.args.bytes.now c.args.count c.loop-i.i c.loop-i.p = turn (λ l. 46) key_number c.args.bytes.now c.args.count c.loop-i.i c.loop-i.p c.loop-i-test.true c.loop-i.invariant.1 in
-    omega (arith, turned.ranges)
+    omega (arith, turned.fits)
 
 pub returns-then-key-low : goal.returns-then-key-low
 returns-then-key-low c =

@@ -17,7 +17,7 @@ pub current_at-found-requires : goal.current_at-found-requires
 current_at-found-requires c =
     let turned : Turn (chain_width c.args.padded) superseded_at c.args.bytes.now c.args.count c.loop-i.i c.loop-i.p = turn (chain_width c.args.padded) superseded_at c.args.bytes.now c.args.count c.loop-i.i c.loop-i.p c.loop-i-test.true c.loop-i.invariant.1 in
     let long : 43 ≤ chain_width c.args.padded (drop c.loop-i.p c.args.bytes.now) = width-least c.args.bytes.now c.loop-i.p c.args.padded in
-    omega (arith, turned.ranges, long)
+    omega (arith, turned.fits, long)
 
 pub returns-then-found-gt1 : goal.returns-then-found-gt1
 returns-then-found-gt1 c =
@@ -28,12 +28,11 @@ pub after_chain-p-requires : goal.after_chain-p-requires
 after_chain-p-requires c =
     let turned : Turn (chain_width c.args.padded) superseded_at c.args.bytes.now c.args.count c.loop-i.i c.loop-i.p = turn (chain_width c.args.padded) superseded_at c.args.bytes.now c.args.count c.loop-i.i c.loop-i.p c.loop-i-test.true c.loop-i.invariant.1 in
     let long : 43 ≤ chain_width c.args.padded (drop c.loop-i.p c.args.bytes.now) = width-least c.args.bytes.now c.loop-i.p c.args.padded in
-    omega (arith, turned.ranges, long)
+    omega (arith, turned.fits, long)
 
 pub loop-i-preserved : goal.loop-i-preserved
 loop-i-preserved c =
-    let turned : Turn (chain_width c.args.padded) superseded_at c.args.bytes.now c.args.count c.loop-i.i c.loop-i.p = turn (chain_width c.args.padded) superseded_at c.args.bytes.now c.args.count c.loop-i.i c.loop-i.p c.loop-i-test.true c.loop-i.invariant.1 in
-    (
+    let turned : Turn (chain_width c.args.padded) superseded_at c.args.bytes.now c.args.count c.loop-i.i c.loop-i.p = turn (chain_width c.args.padded) superseded_at c.args.bytes.now c.args.count c.loop-i.i c.loop-i.p c.loop-i-test.true c.loop-i.invariant.1 in (
       omega arith,
       rw c.after_chain-p.ensures turned.rooms,
       omega arith,

@@ -21,7 +21,7 @@ loop-i-init c =
 pub be32-n-requires : goal.be32-n-requires
 be32-n-requires c =
     let turned : Turn (λ l. 4) (big_endian 4) c.args.row.now c.args.count c.loop-i.i c.loop-i.p = turn (λ l. 4) (big_endian 4) c.args.row.now c.args.count c.loop-i.i c.loop-i.p c.loop-i-test.true c.loop-i.invariant.1 in
-    omega (arith, turned.ranges)
+    omega (arith, turned.fits)
 
 pub returns-then-n-low : goal.returns-then-n-low
 returns-then-n-low c =
