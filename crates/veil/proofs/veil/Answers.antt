@@ -1,5 +1,6 @@
 -- `veil::veil` meets its contract: kind by kind.
 use mathlib.Core.Path.{sym, ◌∙◌}
+use native.Mathlib.Omega.{arith}
 use Rattle.veil.proofs.ByKind.{of-device, of-contact, of-queued, of-courier, of_none}
 use Rattle.veil.proofs.veil.Goals as goal
 
@@ -16,4 +17,5 @@ pub returns-in-3 : goal.returns-in-3
 returns-in-3 c = c.veil_courier.ensures ∙ sym (of-courier _ _ _ c.in-3.is)
 
 pub returns-in_default : goal.returns-in_default
-returns-in_default c = let r = c.in_default.rest in sym (of_none _ _ _ r.0.0.0.1 r.0.0.1 r.0.1 r.1)
+returns-in_default c =
+    sym (of_none c.args.version c.args.row.now c.args.out.now {kind = c.args.kind} (λ e. omega arith) (λ e. omega arith) (λ e. omega arith) (λ e. omega arith))

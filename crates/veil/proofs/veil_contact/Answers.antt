@@ -13,7 +13,6 @@ use Rattle.contact_parts.specs.Parts.{paired, keys, chained, numbers}
 use Rattle.contact_parts.specs.Offsets.{paired_from, numbers_from}
 use Rattle.contact.specs.Check.{contact_from, Offsets, check_refusal}
 use Rattle.contact.proofs.Placed.{Placed, check_says, check-says, check-placed}
-use Rattle.contact.specs.declared.ContactAt.{ContactAt}
 use Rattle.veil_contact.specs.Veiled.{Stands, veiled_keys, veiled_chained}
 use Rattle.veil_contact.proofs.Whole.{paired-stands, veiled-copy, copy-long, numbers-run}
 use Rattle.veil.proofs.Copied.{copy-refused, copy-short, copy_stored}
@@ -21,14 +20,14 @@ use Rattle.veil.proofs.veil_contact.Goals as goal
 
 pub returns-in_default : goal.returns-in_default
 returns-in_default c =
-    let says : let a = c.args in check_says a.row.now c.check_contact-check.result ≡ read_row (contact a.version) a.row.now = let a = c.args in check-says a.row.now (typed a.row.now c.type_inv.row) a.version c.check_contact-check.ensures in
+    let says : check_says c.args.row.now c.check_contact-check.result ≡ read_row (contact c.args.version) c.args.row.now = check-says c.args.row.now (typed c.args.row.now c.type_inv.row) c.args.version c.check_contact-check.ensures in
     let a = c.args in
     let told = c.in_default.is in
     rw (c.refusal.ensures ∙ ap check_refusal told) (copy-refused (contact a.version) a.row.now a.out.now (learn (check_says a.row.now) says told))
 
 pub returns-then-out-n : goal.returns-then-out-n
 returns-then-out-n c =
-    let says : let a = c.args in check_says a.row.now c.check_contact-check.result ≡ read_row (contact a.version) a.row.now = let a = c.args in check-says a.row.now (typed a.row.now c.type_inv.row) a.version c.check_contact-check.ensures in
+    let says : check_says c.args.row.now c.check_contact-check.result ≡ read_row (contact c.args.version) c.args.row.now = check-says c.args.row.now (typed c.args.row.now c.type_inv.row) c.args.version c.check_contact-check.ensures in
     let read : read_row (contact c.args.version) c.args.row.now ≡ accepted (contact_from c.args.row.now c.in-Fields.at) = learn (check_says c.args.row.now) says c.in-Fields.is in
     let a = c.args in
     copy-short (contact a.version) a.row.now a.out.now read c.if-out-n.true
@@ -37,7 +36,7 @@ pub veil_paired-keys_at-requires : goal.veil_paired-keys_at-requires
 veil_paired-keys_at-requires c =
     let by : Bytes c.args.row.now = typed c.args.row.now c.type_inv.row in
     let places : Offsets c.args.row.now c.in-Fields.at = subst (Placed c.args.row.now) c.in-Fields.is (check-placed c.args.row.now by c.args.version c.check_contact-check.ensures) in
-    let says : let a = c.args in check_says a.row.now c.check_contact-check.result ≡ read_row (contact a.version) a.row.now = let a = c.args in check-says a.row.now (typed a.row.now c.type_inv.row) a.version c.check_contact-check.ensures in
+    let says : check_says c.args.row.now c.check_contact-check.result ≡ read_row (contact c.args.version) c.args.row.now = check-says c.args.row.now (typed c.args.row.now c.type_inv.row) c.args.version c.check_contact-check.ensures in
     let read : read_row (contact c.args.version) c.args.row.now ≡ accepted (contact_from c.args.row.now c.in-Fields.at) = learn (check_says c.args.row.now) says c.in-Fields.is in
     let stands : Stands paired c.args.row.now 0 (paired_from c.args.row.now c.in-Fields.at.paired) = paired-stands c.args.version c.args.row.now by c.in-Fields.at.paired c.in-Fields.at.keys c.in-Fields.at.chained c.in-Fields.at.numbers read in
     let long : length (print paired (blank_of paired veil (paired_from c.args.row.now c.in-Fields.at.paired))) + (length (print keys (veiled_keys c.in-Fields.at.keys)) + (length (print chained (veiled_chained c.args.row.now c.in-Fields.at.chained)) + length (print numbers (numbers_from c.args.row.now c.in-Fields.at.numbers)))) ≡ length c.args.row.now = copy-long c.args.version c.args.row.now by c.in-Fields.at.paired c.in-Fields.at.keys c.in-Fields.at.chained c.in-Fields.at.numbers read in
@@ -46,7 +45,7 @@ veil_paired-keys_at-requires c =
 pub veil_keys-chained_at-requires : goal.veil_keys-chained_at-requires
 veil_keys-chained_at-requires c =
     let by : Bytes c.args.row.now = typed c.args.row.now c.type_inv.row in
-    let says : let a = c.args in check_says a.row.now c.check_contact-check.result ≡ read_row (contact a.version) a.row.now = let a = c.args in check-says a.row.now (typed a.row.now c.type_inv.row) a.version c.check_contact-check.ensures in
+    let says : check_says c.args.row.now c.check_contact-check.result ≡ read_row (contact c.args.version) c.args.row.now = check-says c.args.row.now (typed c.args.row.now c.type_inv.row) c.args.version c.check_contact-check.ensures in
     let read : read_row (contact c.args.version) c.args.row.now ≡ accepted (contact_from c.args.row.now c.in-Fields.at) = learn (check_says c.args.row.now) says c.in-Fields.is in
     let long : length (print paired (blank_of paired veil (paired_from c.args.row.now c.in-Fields.at.paired))) + (length (print keys (veiled_keys c.in-Fields.at.keys)) + (length (print chained (veiled_chained c.args.row.now c.in-Fields.at.chained)) + length (print numbers (numbers_from c.args.row.now c.in-Fields.at.numbers)))) ≡ length c.args.row.now = copy-long c.args.version c.args.row.now by c.in-Fields.at.paired c.in-Fields.at.keys c.in-Fields.at.chained c.in-Fields.at.numbers read in
     omega (arith, long)
@@ -55,7 +54,7 @@ pub veil_chained-numbers_at-requires : goal.veil_chained-numbers_at-requires
 veil_chained-numbers_at-requires c =
     let by : Bytes c.args.row.now = typed c.args.row.now c.type_inv.row in
     let places : Offsets c.args.row.now c.in-Fields.at = subst (Placed c.args.row.now) c.in-Fields.is (check-placed c.args.row.now by c.args.version c.check_contact-check.ensures) in
-    let says : let a = c.args in check_says a.row.now c.check_contact-check.result ≡ read_row (contact a.version) a.row.now = let a = c.args in check-says a.row.now (typed a.row.now c.type_inv.row) a.version c.check_contact-check.ensures in
+    let says : check_says c.args.row.now c.check_contact-check.result ≡ read_row (contact c.args.version) c.args.row.now = check-says c.args.row.now (typed c.args.row.now c.type_inv.row) c.args.version c.check_contact-check.ensures in
     let read : read_row (contact c.args.version) c.args.row.now ≡ accepted (contact_from c.args.row.now c.in-Fields.at) = learn (check_says c.args.row.now) says c.in-Fields.is in
     let long : length (print paired (blank_of paired veil (paired_from c.args.row.now c.in-Fields.at.paired))) + (length (print keys (veiled_keys c.in-Fields.at.keys)) + (length (print chained (veiled_chained c.args.row.now c.in-Fields.at.chained)) + length (print numbers (numbers_from c.args.row.now c.in-Fields.at.numbers)))) ≡ length c.args.row.now = copy-long c.args.version c.args.row.now by c.in-Fields.at.paired c.in-Fields.at.keys c.in-Fields.at.chained c.in-Fields.at.numbers read in
     (places.chained, omega (arith, long, c.if-out-n.false, c.veil_paired-keys_at.ensures.0, c.veil_keys-chained_at.ensures.0, wrote-long c.veil_paired-keys_at.ensures.1, wrote-long c.veil_keys-chained_at.ensures.1))
@@ -63,7 +62,7 @@ veil_chained-numbers_at-requires c =
 pub overflow_sub-n : goal.overflow_sub-n
 overflow_sub-n c =
     let by : Bytes c.args.row.now = typed c.args.row.now c.type_inv.row in
-    let says : let a = c.args in check_says a.row.now c.check_contact-check.result ≡ read_row (contact a.version) a.row.now = let a = c.args in check-says a.row.now (typed a.row.now c.type_inv.row) a.version c.check_contact-check.ensures in
+    let says : check_says c.args.row.now c.check_contact-check.result ≡ read_row (contact c.args.version) c.args.row.now = check-says c.args.row.now (typed c.args.row.now c.type_inv.row) c.args.version c.check_contact-check.ensures in
     let read : read_row (contact c.args.version) c.args.row.now ≡ accepted (contact_from c.args.row.now c.in-Fields.at) = learn (check_says c.args.row.now) says c.in-Fields.is in
     let long : length (print paired (blank_of paired veil (paired_from c.args.row.now c.in-Fields.at.paired))) + (length (print keys (veiled_keys c.in-Fields.at.keys)) + (length (print chained (veiled_chained c.args.row.now c.in-Fields.at.chained)) + length (print numbers (numbers_from c.args.row.now c.in-Fields.at.numbers)))) ≡ length c.args.row.now = copy-long c.args.version c.args.row.now by c.in-Fields.at.paired c.in-Fields.at.keys c.in-Fields.at.chained c.in-Fields.at.numbers read in
     omega (arith, long, c.if-out-n.false, c.veil_paired-keys_at.ensures.0, c.veil_keys-chained_at.ensures.0, c.veil_chained-numbers_at.ensures.0, wrote-long c.veil_paired-keys_at.ensures.1, wrote-long c.veil_keys-chained_at.ensures.1, wrote-long c.veil_chained-numbers_at.ensures.1)
@@ -71,7 +70,7 @@ overflow_sub-n c =
 pub put_run-requires : goal.put_run-requires
 put_run-requires c =
     let by : Bytes c.args.row.now = typed c.args.row.now c.type_inv.row in
-    let says : let a = c.args in check_says a.row.now c.check_contact-check.result ≡ read_row (contact a.version) a.row.now = let a = c.args in check-says a.row.now (typed a.row.now c.type_inv.row) a.version c.check_contact-check.ensures in
+    let says : check_says c.args.row.now c.check_contact-check.result ≡ read_row (contact c.args.version) c.args.row.now = check-says c.args.row.now (typed c.args.row.now c.type_inv.row) c.args.version c.check_contact-check.ensures in
     let read : read_row (contact c.args.version) c.args.row.now ≡ accepted (contact_from c.args.row.now c.in-Fields.at) = learn (check_says c.args.row.now) says c.in-Fields.is in
     let long : length (print paired (blank_of paired veil (paired_from c.args.row.now c.in-Fields.at.paired))) + (length (print keys (veiled_keys c.in-Fields.at.keys)) + (length (print chained (veiled_chained c.args.row.now c.in-Fields.at.chained)) + length (print numbers (numbers_from c.args.row.now c.in-Fields.at.numbers)))) ≡ length c.args.row.now = copy-long c.args.version c.args.row.now by c.in-Fields.at.paired c.in-Fields.at.keys c.in-Fields.at.chained c.in-Fields.at.numbers read in
     (omega (arith, long, c.if-out-n.false, c.veil_paired-keys_at.ensures.0, c.veil_keys-chained_at.ensures.0, c.veil_chained-numbers_at.ensures.0, wrote-long c.veil_paired-keys_at.ensures.1, wrote-long c.veil_keys-chained_at.ensures.1, wrote-long c.veil_chained-numbers_at.ensures.1), omega (arith, long, c.if-out-n.false, c.veil_paired-keys_at.ensures.0, c.veil_keys-chained_at.ensures.0, c.veil_chained-numbers_at.ensures.0, wrote-long c.veil_paired-keys_at.ensures.1, wrote-long c.veil_keys-chained_at.ensures.1, wrote-long c.veil_chained-numbers_at.ensures.1))
@@ -79,11 +78,11 @@ put_run-requires c =
 pub returns : goal.returns
 returns c =
     let by : Bytes c.args.row.now = typed c.args.row.now c.type_inv.row in
-    let says : let a = c.args in check_says a.row.now c.check_contact-check.result ≡ read_row (contact a.version) a.row.now = let a = c.args in check-says a.row.now (typed a.row.now c.type_inv.row) a.version c.check_contact-check.ensures in
+    let says : check_says c.args.row.now c.check_contact-check.result ≡ read_row (contact c.args.version) c.args.row.now = check-says c.args.row.now (typed c.args.row.now c.type_inv.row) c.args.version c.check_contact-check.ensures in
     let read : read_row (contact c.args.version) c.args.row.now ≡ accepted (contact_from c.args.row.now c.in-Fields.at) = learn (check_says c.args.row.now) says c.in-Fields.is in
     let long : length (print paired (blank_of paired veil (paired_from c.args.row.now c.in-Fields.at.paired))) + (length (print keys (veiled_keys c.in-Fields.at.keys)) + (length (print chained (veiled_chained c.args.row.now c.in-Fields.at.chained)) + length (print numbers (numbers_from c.args.row.now c.in-Fields.at.numbers)))) ≡ length c.args.row.now = copy-long c.args.version c.args.row.now by c.in-Fields.at.paired c.in-Fields.at.keys c.in-Fields.at.chained c.in-Fields.at.numbers read in
     let a = c.args in
     let here : c.veil_chained-numbers_at.result + length (print numbers (numbers_from a.row.now c.in-Fields.at.numbers)) ≡ length a.row.now = omega (arith, long, c.veil_paired-keys_at.ensures.0, c.veil_keys-chained_at.ensures.0, c.veil_chained-numbers_at.ensures.0) in
-    let w = c.veil_paired-keys_at.ensures.1 then (c.veil_keys-chained_at.ensures.1 then (c.veil_chained-numbers_at.ensures.1 then rw (numbers-run a.version a.row.now by c.in-Fields.at.paired c.in-Fields.at.keys c.in-Fields.at.chained c.in-Fields.at.numbers read _ here) (let at : ContactAt = c.put_run.ensures.1.before.check.given.0.0 in at))) in
+    let w = c.veil_paired-keys_at.ensures.1 then (c.veil_keys-chained_at.ensures.1 then (c.veil_chained-numbers_at.ensures.1 then rw (numbers-run a.version a.row.now by c.in-Fields.at.paired c.in-Fields.at.keys c.in-Fields.at.chained c.in-Fields.at.numbers read _ here) at c.put_run.ensures.1)) in
     copy_stored (contact a.version) a.row.now a.out.now read c.if-out-n.false
-    (rw (← veiled-copy a.version a.row.now by c.in-Fields.at.paired c.in-Fields.at.keys c.in-Fields.at.chained c.in-Fields.at.numbers read) (let at : ContactAt = w.before.check.given.0.0 in at))
+    (rw (← veiled-copy a.version a.row.now by c.in-Fields.at.paired c.in-Fields.at.keys c.in-Fields.at.chained c.in-Fields.at.numbers read) at w)
