@@ -18,7 +18,7 @@ use Rattle.layout.specs.Field.{takes, read_at}
 use Rattle.layout.specs.Write.{Written, wrote, refuses}
 use Rattle.layout.specs.RowLaws.{Bytes}
 use Rattle.layout.proofs.Lawful.{Lawful, value≢refused}
-use Rattle.layout.proofs.Front.{bytes_take, got, left}
+use Rattle.layout.proofs.Front.{bytes_take, left}
 use Rattle.layout.proofs.At.{took, took-next, bytes_drop}
 use Rattle.layout.proofs.Parts.{times-lawful}
 use Rattle.layout.proofs.Wrapped.{inner}
