@@ -32,6 +32,8 @@ module _ (N : ℕ) where
       ∙ sym ((chain_laws N).eight-enough u.call (lent_of u.input) (lent_of u.input).chains same.eight-too l few)
 
   same_from : (l : Ledger) → FewChains l → (g : Input) (ts us : List Turn) → AllButChains ts us → Legal N g ts → AgreesAll N l ts → AgreesAll N l us → SameAnswers N ts us
+  same_from l few g (t ∷ ts) [] same legal a b = elim same [ ]
+  same_from l few g [] (u ∷ us) same legal a b = elim same [ ]
   same_from l few g [] [] same legal a b = tt
   same_from l few g (t ∷ ts) (u ∷ us) same legal a b =
       let account = same-account l few t u same.0 in (

@@ -45,6 +45,10 @@ module _ (N : ℕ) where
 
   -- ---- the ledger is fed calls and lent lengths alone: turns that serve the same requests come to one state
   pub one_state : (l : Ledger) (ws : List Request) (ps qs : List Turn) → Serves ws ps → Serves ws qs → closing N l ps ≡ closing N l qs
+  one_state l (w ∷ ws) (t ∷ ts) [] s s' = elim s' [ ]
+  one_state l (w ∷ ws) [] qs s s' = elim s [ ]
+  one_state l [] (t ∷ ts) qs s s' = elim s [ ]
+  one_state l [] [] (u ∷ us) s s' = elim s' [ ]
   one_state l [] [] [] s s' = refl
   one_state l (w ∷ ws) (t ∷ ts) (u ∷ us) s s' =
       let call : t.call ≡ u.call = s.0 ∙ sym s'.0 in
