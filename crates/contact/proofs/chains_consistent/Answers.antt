@@ -28,15 +28,15 @@ returns-then-not-asked c =
     let chains : List Chain = (chained_from c.args.row.now c.args.at).chains in
     let many-chains : length chains ≡ c.args.at.chains.count = (listed-fits _ chain-lawful (typed c.args.row.now c.type_inv.row) c.requires.chains).0 in
     let yes-54 : few_chains chains ≡ true = rw many-chains (le-leb _ _ c.if-chains-gt-MAX_CHAINS.false) in
-    rw (yes-54, (sym (ap (λ (a : ChainsAsked). a.one_current) c.chains_in_row-asked.ensures) ∙ c.if-not-asked.true))
+    rw (yes-54, (sym (ap (λ (a : ChainsAsked). a.one_current) c.chains_in_row-asked.ensures) ∙ not-true _ c.if-not-asked.true))
 
 pub returns-then-not-asked-2 : goal.returns-then-not-asked-2
 returns-then-not-asked-2 c =
     let chains : List Chain = (chained_from c.args.row.now c.args.at).chains in
     let many-chains : length chains ≡ c.args.at.chains.count = (listed-fits _ chain-lawful (typed c.args.row.now c.type_inv.row) c.requires.chains).0 in
     let yes-54 : few_chains chains ≡ true = rw many-chains (le-leb _ _ c.if-chains-gt-MAX_CHAINS.false) in
-    let yes-17 : one_chain_at_most ((let chains : List Chain = (chained_from c.args.row.now c.args.at).chains in chains)) ≡ true = (sym (ap (λ (a : ChainsAsked). a.one_current) c.chains_in_row-asked.ensures) ∙ c.if-not-asked.false) in
-    rw (yes-54, yes-17, (sym (ap (λ (a : ChainsAsked). a.gens_distinct) c.chains_in_row-asked.ensures) ∙ c.if-not-asked-2.true))
+    let yes-17 : one_chain_at_most ((let chains : List Chain = (chained_from c.args.row.now c.args.at).chains in chains)) ≡ true = (sym (ap (λ (a : ChainsAsked). a.one_current) c.chains_in_row-asked.ensures) ∙ not-false _ c.if-not-asked.false) in
+    rw (yes-54, yes-17, (sym (ap (λ (a : ChainsAsked). a.gens_distinct) c.chains_in_row-asked.ensures) ∙ not-true _ c.if-not-asked-2.true))
 
 pub skipped_distinct-requires : goal.skipped_distinct-requires
 skipped_distinct-requires c = record { next = _; so = c.requires.skipped }
@@ -46,8 +46,8 @@ returns-then-not-skipped_distinct c =
     let chains : List Chain = (chained_from c.args.row.now c.args.at).chains in
     let many-chains : length chains ≡ c.args.at.chains.count = (listed-fits _ chain-lawful (typed c.args.row.now c.type_inv.row) c.requires.chains).0 in
     let yes-54 : few_chains chains ≡ true = rw many-chains (le-leb _ _ c.if-chains-gt-MAX_CHAINS.false) in
-    let yes-17 : one_chain_at_most ((let chains : List Chain = (chained_from c.args.row.now c.args.at).chains in chains)) ≡ true = (sym (ap (λ (a : ChainsAsked). a.one_current) c.chains_in_row-asked.ensures) ∙ c.if-not-asked.false) in
-    let yes-18 : gens_distinct ((let chains : List Chain = (chained_from c.args.row.now c.args.at).chains in chains)) ≡ true = (sym (ap (λ (a : ChainsAsked). a.gens_distinct) c.chains_in_row-asked.ensures) ∙ c.if-not-asked-2.false) in
+    let yes-17 : one_chain_at_most ((let chains : List Chain = (chained_from c.args.row.now c.args.at).chains in chains)) ≡ true = (sym (ap (λ (a : ChainsAsked). a.one_current) c.chains_in_row-asked.ensures) ∙ not-false _ c.if-not-asked.false) in
+    let yes-18 : gens_distinct ((let chains : List Chain = (chained_from c.args.row.now c.args.at).chains in chains)) ≡ true = (sym (ap (λ (a : ChainsAsked). a.gens_distinct) c.chains_in_row-asked.ensures) ∙ not-false _ c.if-not-asked-2.false) in
     rw (yes-54, yes-17, yes-18, (sym c.skipped_distinct.ensures ∙ c.if-not-skipped_distinct.true))
 
 pub returns-then-skipped-gt-MAX_SKIPPED : goal.returns-then-skipped-gt-MAX_SKIPPED
@@ -55,8 +55,8 @@ returns-then-skipped-gt-MAX_SKIPPED c =
     let chains : List Chain = (chained_from c.args.row.now c.args.at).chains in
     let many-chains : length chains ≡ c.args.at.chains.count = (listed-fits _ chain-lawful (typed c.args.row.now c.type_inv.row) c.requires.chains).0 in
     let yes-54 : few_chains chains ≡ true = rw many-chains (le-leb _ _ c.if-chains-gt-MAX_CHAINS.false) in
-    let yes-17 : one_chain_at_most ((let chains : List Chain = (chained_from c.args.row.now c.args.at).chains in chains)) ≡ true = (sym (ap (λ (a : ChainsAsked). a.one_current) c.chains_in_row-asked.ensures) ∙ c.if-not-asked.false) in
-    let yes-18 : gens_distinct ((let chains : List Chain = (chained_from c.args.row.now c.args.at).chains in chains)) ≡ true = (sym (ap (λ (a : ChainsAsked). a.gens_distinct) c.chains_in_row-asked.ensures) ∙ c.if-not-asked-2.false) in
+    let yes-17 : one_chain_at_most ((let chains : List Chain = (chained_from c.args.row.now c.args.at).chains in chains)) ≡ true = (sym (ap (λ (a : ChainsAsked). a.one_current) c.chains_in_row-asked.ensures) ∙ not-false _ c.if-not-asked.false) in
+    let yes-18 : gens_distinct ((let chains : List Chain = (chained_from c.args.row.now c.args.at).chains in chains)) ≡ true = (sym (ap (λ (a : ChainsAsked). a.gens_distinct) c.chains_in_row-asked.ensures) ∙ not-false _ c.if-not-asked-2.false) in
     let yes-19 : keys_distinct ((let skipped : List Skipped = (chained_from c.args.row.now c.args.at).skipped in skipped)) ≡ true = (sym c.skipped_distinct.ensures ∙ c.if-not-skipped_distinct.false) in
     rw (yes-54, yes-17, yes-18, yes-19, (let many-skipped : length ((let skipped : List Skipped = (chained_from c.args.row.now c.args.at).skipped in skipped)) ≡ c.args.at.skipped.count = (listed-fits _ skipped-lawful (typed c.args.row.now c.type_inv.row) c.requires.skipped).0 in many-skipped), lt-leb _ _ c.if-skipped-gt-MAX_SKIPPED.true)
 
@@ -65,7 +65,7 @@ returns c =
     let chains : List Chain = (chained_from c.args.row.now c.args.at).chains in
     let many-chains : length chains ≡ c.args.at.chains.count = (listed-fits _ chain-lawful (typed c.args.row.now c.type_inv.row) c.requires.chains).0 in
     let yes-54 : few_chains chains ≡ true = rw many-chains (le-leb _ _ c.if-chains-gt-MAX_CHAINS.false) in
-    let yes-17 : one_chain_at_most ((let chains : List Chain = (chained_from c.args.row.now c.args.at).chains in chains)) ≡ true = (sym (ap (λ (a : ChainsAsked). a.one_current) c.chains_in_row-asked.ensures) ∙ c.if-not-asked.false) in
-    let yes-18 : gens_distinct ((let chains : List Chain = (chained_from c.args.row.now c.args.at).chains in chains)) ≡ true = (sym (ap (λ (a : ChainsAsked). a.gens_distinct) c.chains_in_row-asked.ensures) ∙ c.if-not-asked-2.false) in
+    let yes-17 : one_chain_at_most ((let chains : List Chain = (chained_from c.args.row.now c.args.at).chains in chains)) ≡ true = (sym (ap (λ (a : ChainsAsked). a.one_current) c.chains_in_row-asked.ensures) ∙ not-false _ c.if-not-asked.false) in
+    let yes-18 : gens_distinct ((let chains : List Chain = (chained_from c.args.row.now c.args.at).chains in chains)) ≡ true = (sym (ap (λ (a : ChainsAsked). a.gens_distinct) c.chains_in_row-asked.ensures) ∙ not-false _ c.if-not-asked-2.false) in
     let yes-19 : keys_distinct ((let skipped : List Skipped = (chained_from c.args.row.now c.args.at).skipped in skipped)) ≡ true = (sym c.skipped_distinct.ensures ∙ c.if-not-skipped_distinct.false) in
     rw (yes-54, yes-17, yes-18, yes-19, (let many-skipped : length ((let skipped : List Skipped = (chained_from c.args.row.now c.args.at).skipped in skipped)) ≡ c.args.at.skipped.count = (listed-fits _ skipped-lawful (typed c.args.row.now c.type_inv.row) c.requires.skipped).0 in many-skipped), le-leb _ _ c.if-skipped-gt-MAX_SKIPPED.false)

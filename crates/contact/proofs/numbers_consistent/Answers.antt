@@ -30,11 +30,14 @@ canonical_in_row-requires c = (record { next = _; so = c.requires.above }, omega
 pub returns-then-not-canonical_in_row : goal.returns-then-not-canonical_in_row
 returns-then-not-canonical_in_row c =
     let yes-22 : rising 1 (c.args.sent) (numbers_from c.args.row.now c.args.at).unacked ≡ true = (sym c.rising_in_row.ensures ∙ c.if-not-rising_in_row.false) in
-    rw ((let acked : acked_sent (numbers_from c.args.row.now c.args.at).peer_acked (c.args.sent) ≡ true = le-leb _ _ c.if-sent-at.false in acked), yes-22, (
-    
-    ap (λ (n : ℕ). canonical (n + 2) (numbers_from c.args.row.now c.args.at).above) (sym c.wide-from.ensures.0)
-    ∙ sym (canonical-in-row c.args.row.now _ _ (c.wide-from.result + 2) (typed c.args.row.now c.type_inv.row) (record { next = _; so = c.requires.above }))
-    ∙ sym c.canonical_in_row.ensures ∙ c.if-not-canonical_in_row.true))
+    rw (
+      (let acked : acked_sent (numbers_from c.args.row.now c.args.at).peer_acked (c.args.sent) ≡ true = le-leb _ _ c.if-sent-at.false in acked),
+      yes-22,
+      (
+          ap (λ (n : ℕ). canonical (n + 2) (numbers_from c.args.row.now c.args.at).above) (sym c.wide-from.ensures.0)
+          ∙ sym (canonical-in-row c.args.row.now _ _ (c.wide-from.result + 2) (typed c.args.row.now c.type_inv.row) (record { next = _; so = c.requires.above }))
+          ∙ sym c.canonical_in_row.ensures ∙ c.if-not-canonical_in_row.true),
+    )
 
 pub canonical_in_row-requires-2 : goal.canonical_in_row-requires-2
 canonical_in_row-requires-2 c =
@@ -43,19 +46,15 @@ canonical_in_row-requires-2 c =
 pub returns-then-not-canonical_in_row-2 : goal.returns-then-not-canonical_in_row-2
 returns-then-not-canonical_in_row-2 c =
     let yes-23 : canonical ((numbers_from c.args.row.now c.args.at).contiguous + 2) (numbers_from c.args.row.now c.args.at).above ≡ true = (
-    
     ap (λ (n : ℕ). canonical (n + 2) (numbers_from c.args.row.now c.args.at).above) (sym c.wide-from.ensures.0)
     ∙ sym (canonical-in-row c.args.row.now _ _ (c.wide-from.result + 2) (typed c.args.row.now c.type_inv.row) (record { next = _; so = c.requires.above }))
     ∙ sym c.canonical_in_row.ensures ∙ c.if-not-canonical_in_row.false) in
-    
     rw ((let acked : acked_sent (numbers_from c.args.row.now c.args.at).peer_acked (c.args.sent) ≡ true = le-leb _ _ c.if-sent-at.false in acked), (let yes-22 : rising 1 (c.args.sent) (numbers_from c.args.row.now c.args.at).unacked ≡ true = (sym c.rising_in_row.ensures ∙ c.if-not-rising_in_row.false) in yes-22), yes-23, (sym c.canonical_in_row-2.ensures ∙ c.if-not-canonical_in_row-2.true))
 
 pub returns : goal.returns
 returns c =
     let yes-23 : canonical ((numbers_from c.args.row.now c.args.at).contiguous + 2) (numbers_from c.args.row.now c.args.at).above ≡ true = (
-    
     ap (λ (n : ℕ). canonical (n + 2) (numbers_from c.args.row.now c.args.at).above) (sym c.wide-from.ensures.0)
     ∙ sym (canonical-in-row c.args.row.now _ _ (c.wide-from.result + 2) (typed c.args.row.now c.type_inv.row) (record { next = _; so = c.requires.above }))
     ∙ sym c.canonical_in_row.ensures ∙ c.if-not-canonical_in_row.false) in
-    
     rw ((let acked : acked_sent (numbers_from c.args.row.now c.args.at).peer_acked (c.args.sent) ≡ true = le-leb _ _ c.if-sent-at.false in acked), (let yes-22 : rising 1 (c.args.sent) (numbers_from c.args.row.now c.args.at).unacked ≡ true = (sym c.rising_in_row.ensures ∙ c.if-not-rising_in_row.false) in yes-22), yes-23, (sym c.canonical_in_row-2.ensures ∙ c.if-not-canonical_in_row-2.false))
