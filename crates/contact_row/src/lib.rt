@@ -7,7 +7,7 @@ ghost use Rattle.rows.specs.Answers as answers;
 ghost use Rattle.received.specs.Lent.{pairs};
 ghost use Rattle.contact_lent.specs.Lent.{chains_of, skipped_of};
 ghost use Rattle.contact.specs.Consistent.{chains_refusal, numbers_refusal, inconsistency, refusal_in};
-ghost use Rattle.contact.specs.Contact.{lists, lists_before, counts_of};
+ghost use Rattle.contact.specs.Contact.{lists, counts_of};
 ghost use Rattle.numbers.specs.Lists.{counts, within, counted};
 ghost use Rattle.contact_image.specs.Row.{ChainsLent, NumbersLent, contact_in, asked_contact, writes_contact};
 ghost use Rattle.contact_row.specs.Sizes.{send_size, row_size};
@@ -140,7 +140,7 @@ fn consistent_lent(
     expired: &[u32],
 ) -> Verdict
     requires { ChainsLent contact (lists chains.now skipped.now [] [] []) × NumbersLent contact (lists [] [] above.now unacked.now expired.now) }
-    ensures { refusal_in result ≡ inconsistency (contact_in contact (lists_before chains skipped above unacked expired)) }
+    ensures { refusal_in result ≡ inconsistency (contact_in contact (lists chains.now skipped.now above.now unacked.now expired.now)) }
 {
     let first = chains_consistent(contact, chains, skipped);
     let Verdict::Accepted = first else {
@@ -158,7 +158,7 @@ pub fn contact_size(
     unacked: &[u32],
     expired: &[u32],
 ) -> Written
-    ensures { written_says result ≡ asked_contact contact (lists_before chains skipped above unacked expired) }
+    ensures { written_says result ≡ asked_contact contact (lists chains.now skipped.now above.now unacked.now expired.now) }
 {
     contact_image::typed(contact);
     if !counts_fit(
@@ -201,7 +201,7 @@ pub fn write_contact(
     expired: &[u32],
     out: &mut [u8],
 ) -> Written
-    ensures { answers.leaves result out.new ≡ writes_contact contact (lists_before chains skipped above unacked expired) out.old }
+    ensures { answers.leaves result out.new ≡ writes_contact contact (lists chains.now skipped.now above.now unacked.now expired.now) out.old }
 {
     contact_image::typed(contact);
     let size = contact_size(contact, chains, skipped, above, unacked, expired);

@@ -4,7 +4,6 @@ use mathlib.Core.Bool.{true}
 use mathlib.Core.Path.{◌≡◌, sym, ap, ◌∙◌}
 use native.Mathlib.Omega.{arith}
 use lib.ListN.{length}
-use borrow.Author.Tests.{not-true, not-false}
 use Rattle.layout.specs.Form.{print_many}
 use Rattle.layout.specs.Layout.{group}
 use Rattle.layout.specs.Write.{wrote, asked}
@@ -27,22 +26,20 @@ pub returns-then-not-counts_fit : goal.returns-then-not-counts_fit
 returns-then-not-counts_fit c =
     let lent : Lists = lists c.args.chains.now c.args.skipped.now c.args.above.now c.args.unacked.now c.args.expired.now in
     let bytes : ListsTyped lent = record {
-      (let chains : let t = =.before.before.before.before.before.before.before.before.before.before.before in Granted 51 (group chain) ((let contact : Contact = t.before.before.before.before.before.before.args.contact in contact)).chains ((let lent : Lists = lists t.before.before.before.before.before.before.args.chains.now t.before.before.before.before.before.before.args.skipped.now t.before.before.before.before.before.before.args.above.now t.before.before.before.before.before.before.args.unacked.now t.before.before.before.before.before.before.args.expired.now in lent)).chains × ((let chains-len : ℕ = =.before.chain-bytes.given.0.0 in chains-len) ≡ length (print_many (group chain) (chains_of ((let contact : Contact = t.before.before.before.before.before.before.args.contact in contact)).chains ((let lent : Lists = lists t.before.before.before.before.before.before.args.chains.now t.before.before.before.before.before.before.args.skipped.now t.before.before.before.before.before.before.args.above.now t.before.before.before.before.before.before.args.unacked.now t.before.before.before.before.before.before.args.expired.now in lent)).chains))) = size-granted 51 (group chain) ((let contact : Contact = =.before.before.before.before.before.before.before.before.before.before.before.before.before.before.before.before.before.args.contact in contact)).chains ((let lent : Lists = lists =.before.before.before.before.before.before.before.before.before.before.before.before.before.before.before.before.before.args.chains.now =.before.before.before.before.before.before.before.before.before.before.before.before.before.before.before.before.before.args.skipped.now =.before.before.before.before.before.before.before.before.before.before.before.before.before.before.before.before.before.args.above.now =.before.before.before.before.before.before.before.before.before.before.before.before.before.before.before.before.before.args.unacked.now =.before.before.before.before.before.before.before.before.before.before.before.before.before.before.before.before.before.args.expired.now in lent)).chains
-    (learn written_says =.before.before.before.chains-size.ensures =.before.chain-bytes.given.1) in chains) typed c.args.chains.now c.type_inv.chains;
+      chains = typed c.args.chains.now c.type_inv.chains;
       skipped = typed c.args.skipped.now c.type_inv.skipped;
       above = λ i. (c.type_inv.above i).fits;
       unacked = λ i. (c.type_inv.unacked i).fits;
       expired = λ i. (c.type_inv.expired i).fits;
     } in
-    sym (not-counted c.args.contact c.type-inv.ensures.1 lent bytes
-    (counted_is c.args.contact c.type-inv.ensures.1 lent bytes c.counts_fit.ensures ∙ c.if-not-counts_fit.true))
+    sym (not-counted c.args.contact c.typed.ensures.1 lent bytes
+    (counted_is c.args.contact c.typed.ensures.1 lent bytes c.counts_fit.ensures ∙ c.if-not-counts_fit.true))
 
 pub returns-in_default : goal.returns-in_default
 returns-in_default c =
     let lent : Lists = lists c.args.chains.now c.args.skipped.now c.args.above.now c.args.unacked.now c.args.expired.now in
     let bytes : ListsTyped lent = record {
-      (let chains : let t = =.before.before.before.before.before.before.before.before.before.before.before in Granted 51 (group chain) ((let contact : Contact = t.before.before.before.before.before.before.args.contact in contact)).chains ((let lent : Lists = lists t.before.before.before.before.before.before.args.chains.now t.before.before.before.before.before.before.args.skipped.now t.before.before.before.before.before.before.args.above.now t.before.before.before.before.before.before.args.unacked.now t.before.before.before.before.before.before.args.expired.now in lent)).chains × ((let chains-len : ℕ = =.before.chain-bytes.given.0.0 in chains-len) ≡ length (print_many (group chain) (chains_of ((let contact : Contact = t.before.before.before.before.before.before.args.contact in contact)).chains ((let lent : Lists = lists t.before.before.before.before.before.before.args.chains.now t.before.before.before.before.before.before.args.skipped.now t.before.before.before.before.before.before.args.above.now t.before.before.before.before.before.before.args.unacked.now t.before.before.before.before.before.before.args.expired.now in lent)).chains))) = size-granted 51 (group chain) ((let contact : Contact = =.before.before.before.before.before.before.before.before.before.before.before.before.before.before.before.before.before.args.contact in contact)).chains ((let lent : Lists = lists =.before.before.before.before.before.before.before.before.before.before.before.before.before.before.before.before.before.args.chains.now =.before.before.before.before.before.before.before.before.before.before.before.before.before.before.before.before.before.args.skipped.now =.before.before.before.before.before.before.before.before.before.before.before.before.before.before.before.before.before.args.above.now =.before.before.before.before.before.before.before.before.before.before.before.before.before.before.before.before.before.args.unacked.now =.before.before.before.before.before.before.before.before.before.before.before.before.before.before.before.before.before.args.expired.now in lent)).chains
-    (learn written_says =.before.before.before.chains-size.ensures =.before.chain-bytes.given.1) in chains) typed c.args.chains.now c.type_inv.chains;
+      chains = typed c.args.chains.now c.type_inv.chains;
       skipped = typed c.args.skipped.now c.type_inv.skipped;
       above = λ i. (c.type_inv.above i).fits;
       unacked = λ i. (c.type_inv.unacked i).fits;
@@ -56,8 +53,7 @@ pub chains_size-chain_bytes-requires : goal.chains_size-chain_bytes-requires
 chains_size-chain_bytes-requires c =
     let lent : Lists = lists c.args.chains.now c.args.skipped.now c.args.above.now c.args.unacked.now c.args.expired.now in
     let bytes : ListsTyped lent = record {
-      (let chains : let t = =.before.before.before.before.before.before.before.before.before.before.before in Granted 51 (group chain) ((let contact : Contact = t.before.before.before.before.before.before.args.contact in contact)).chains ((let lent : Lists = lists t.before.before.before.before.before.before.args.chains.now t.before.before.before.before.before.before.args.skipped.now t.before.before.before.before.before.before.args.above.now t.before.before.before.before.before.before.args.unacked.now t.before.before.before.before.before.before.args.expired.now in lent)).chains × ((let chains-len : ℕ = =.before.chain-bytes.given.0.0 in chains-len) ≡ length (print_many (group chain) (chains_of ((let contact : Contact = t.before.before.before.before.before.before.args.contact in contact)).chains ((let lent : Lists = lists t.before.before.before.before.before.before.args.chains.now t.before.before.before.before.before.before.args.skipped.now t.before.before.before.before.before.before.args.above.now t.before.before.before.before.before.before.args.unacked.now t.before.before.before.before.before.before.args.expired.now in lent)).chains))) = size-granted 51 (group chain) ((let contact : Contact = =.before.before.before.before.before.before.before.before.before.before.before.before.before.before.before.before.before.args.contact in contact)).chains ((let lent : Lists = lists =.before.before.before.before.before.before.before.before.before.before.before.before.before.before.before.before.before.args.chains.now =.before.before.before.before.before.before.before.before.before.before.before.before.before.before.before.before.before.args.skipped.now =.before.before.before.before.before.before.before.before.before.before.before.before.before.before.before.before.before.args.above.now =.before.before.before.before.before.before.before.before.before.before.before.before.before.before.before.before.before.args.unacked.now =.before.before.before.before.before.before.before.before.before.before.before.before.before.before.before.before.before.args.expired.now in lent)).chains
-    (learn written_says =.before.before.before.chains-size.ensures =.before.chain-bytes.given.1) in chains) typed c.args.chains.now c.type_inv.chains;
+      chains = typed c.args.chains.now c.type_inv.chains;
       skipped = typed c.args.skipped.now c.type_inv.skipped;
       above = λ i. (c.type_inv.above i).fits;
       unacked = λ i. (c.type_inv.unacked i).fits;
@@ -71,8 +67,7 @@ pub returns-in_default-chain_bytes : goal.returns-in_default-chain_bytes
 returns-in_default-chain_bytes c =
     let lent : Lists = lists c.args.chains.now c.args.skipped.now c.args.above.now c.args.unacked.now c.args.expired.now in
     let bytes : ListsTyped lent = record {
-      (let chains : let t = =.before.before.before.before.before.before.before.before.before.before.before in Granted 51 (group chain) ((let contact : Contact = t.before.before.before.before.before.before.args.contact in contact)).chains ((let lent : Lists = lists t.before.before.before.before.before.before.args.chains.now t.before.before.before.before.before.before.args.skipped.now t.before.before.before.before.before.before.args.above.now t.before.before.before.before.before.before.args.unacked.now t.before.before.before.before.before.before.args.expired.now in lent)).chains × ((let chains-len : ℕ = =.before.chain-bytes.given.0.0 in chains-len) ≡ length (print_many (group chain) (chains_of ((let contact : Contact = t.before.before.before.before.before.before.args.contact in contact)).chains ((let lent : Lists = lists t.before.before.before.before.before.before.args.chains.now t.before.before.before.before.before.before.args.skipped.now t.before.before.before.before.before.before.args.above.now t.before.before.before.before.before.before.args.unacked.now t.before.before.before.before.before.before.args.expired.now in lent)).chains))) = size-granted 51 (group chain) ((let contact : Contact = =.before.before.before.before.before.before.before.before.before.before.before.before.before.before.before.before.before.args.contact in contact)).chains ((let lent : Lists = lists =.before.before.before.before.before.before.before.before.before.before.before.before.before.before.before.before.before.args.chains.now =.before.before.before.before.before.before.before.before.before.before.before.before.before.before.before.before.before.args.skipped.now =.before.before.before.before.before.before.before.before.before.before.before.before.before.before.before.before.before.args.above.now =.before.before.before.before.before.before.before.before.before.before.before.before.before.before.before.before.before.args.unacked.now =.before.before.before.before.before.before.before.before.before.before.before.before.before.before.before.before.before.args.expired.now in lent)).chains
-    (learn written_says =.before.before.before.chains-size.ensures =.before.chain-bytes.given.1) in chains) typed c.args.chains.now c.type_inv.chains;
+      chains = typed c.args.chains.now c.type_inv.chains;
       skipped = typed c.args.skipped.now c.type_inv.skipped;
       above = λ i. (c.type_inv.above i).fits;
       unacked = λ i. (c.type_inv.unacked i).fits;
@@ -87,8 +82,7 @@ pub skipped_size-skipped_bytes-requires : goal.skipped_size-skipped_bytes-requir
 skipped_size-skipped_bytes-requires c =
     let lent : Lists = lists c.args.chains.now c.args.skipped.now c.args.above.now c.args.unacked.now c.args.expired.now in
     let bytes : ListsTyped lent = record {
-      (let chains : let t = =.before.before.before.before.before.before.before.before.before.before.before in Granted 51 (group chain) ((let contact : Contact = t.before.before.before.before.before.before.args.contact in contact)).chains ((let lent : Lists = lists t.before.before.before.before.before.before.args.chains.now t.before.before.before.before.before.before.args.skipped.now t.before.before.before.before.before.before.args.above.now t.before.before.before.before.before.before.args.unacked.now t.before.before.before.before.before.before.args.expired.now in lent)).chains × ((let chains-len : ℕ = =.before.chain-bytes.given.0.0 in chains-len) ≡ length (print_many (group chain) (chains_of ((let contact : Contact = t.before.before.before.before.before.before.args.contact in contact)).chains ((let lent : Lists = lists t.before.before.before.before.before.before.args.chains.now t.before.before.before.before.before.before.args.skipped.now t.before.before.before.before.before.before.args.above.now t.before.before.before.before.before.before.args.unacked.now t.before.before.before.before.before.before.args.expired.now in lent)).chains))) = size-granted 51 (group chain) ((let contact : Contact = =.before.before.before.before.before.before.before.before.before.before.before.before.before.before.before.before.before.args.contact in contact)).chains ((let lent : Lists = lists =.before.before.before.before.before.before.before.before.before.before.before.before.before.before.before.before.before.args.chains.now =.before.before.before.before.before.before.before.before.before.before.before.before.before.before.before.before.before.args.skipped.now =.before.before.before.before.before.before.before.before.before.before.before.before.before.before.before.before.before.args.above.now =.before.before.before.before.before.before.before.before.before.before.before.before.before.before.before.before.before.args.unacked.now =.before.before.before.before.before.before.before.before.before.before.before.before.before.before.before.before.before.args.expired.now in lent)).chains
-    (learn written_says =.before.before.before.chains-size.ensures =.before.chain-bytes.given.1) in chains) typed c.args.chains.now c.type_inv.chains;
+      chains = typed c.args.chains.now c.type_inv.chains;
       skipped = typed c.args.skipped.now c.type_inv.skipped;
       above = λ i. (c.type_inv.above i).fits;
       unacked = λ i. (c.type_inv.unacked i).fits;
@@ -102,8 +96,7 @@ pub returns-in_default-skipped_bytes : goal.returns-in_default-skipped_bytes
 returns-in_default-skipped_bytes c =
     let lent : Lists = lists c.args.chains.now c.args.skipped.now c.args.above.now c.args.unacked.now c.args.expired.now in
     let bytes : ListsTyped lent = record {
-      (let chains : let t = =.before.before.before.before.before.before.before.before.before.before.before in Granted 51 (group chain) ((let contact : Contact = t.before.before.before.before.before.before.args.contact in contact)).chains ((let lent : Lists = lists t.before.before.before.before.before.before.args.chains.now t.before.before.before.before.before.before.args.skipped.now t.before.before.before.before.before.before.args.above.now t.before.before.before.before.before.before.args.unacked.now t.before.before.before.before.before.before.args.expired.now in lent)).chains × ((let chains-len : ℕ = =.before.chain-bytes.given.0.0 in chains-len) ≡ length (print_many (group chain) (chains_of ((let contact : Contact = t.before.before.before.before.before.before.args.contact in contact)).chains ((let lent : Lists = lists t.before.before.before.before.before.before.args.chains.now t.before.before.before.before.before.before.args.skipped.now t.before.before.before.before.before.before.args.above.now t.before.before.before.before.before.before.args.unacked.now t.before.before.before.before.before.before.args.expired.now in lent)).chains))) = size-granted 51 (group chain) ((let contact : Contact = =.before.before.before.before.before.before.before.before.before.before.before.before.before.before.before.before.before.args.contact in contact)).chains ((let lent : Lists = lists =.before.before.before.before.before.before.before.before.before.before.before.before.before.before.before.before.before.args.chains.now =.before.before.before.before.before.before.before.before.before.before.before.before.before.before.before.before.before.args.skipped.now =.before.before.before.before.before.before.before.before.before.before.before.before.before.before.before.before.before.args.above.now =.before.before.before.before.before.before.before.before.before.before.before.before.before.before.before.before.before.args.unacked.now =.before.before.before.before.before.before.before.before.before.before.before.before.before.before.before.before.before.args.expired.now in lent)).chains
-    (learn written_says =.before.before.before.chains-size.ensures =.before.chain-bytes.given.1) in chains) typed c.args.chains.now c.type_inv.chains;
+      chains = typed c.args.chains.now c.type_inv.chains;
       skipped = typed c.args.skipped.now c.type_inv.skipped;
       above = λ i. (c.type_inv.above i).fits;
       unacked = λ i. (c.type_inv.unacked i).fits;
@@ -121,8 +114,7 @@ pub consistent_lent-verdict-requires : goal.consistent_lent-verdict-requires
 consistent_lent-verdict-requires c =
     let lent : Lists = lists c.args.chains.now c.args.skipped.now c.args.above.now c.args.unacked.now c.args.expired.now in
     let bytes : ListsTyped lent = record {
-      (let chains : let t = =.before.before.before.before.before.before.before.before.before.before.before in Granted 51 (group chain) ((let contact : Contact = t.before.before.before.before.before.before.args.contact in contact)).chains ((let lent : Lists = lists t.before.before.before.before.before.before.args.chains.now t.before.before.before.before.before.before.args.skipped.now t.before.before.before.before.before.before.args.above.now t.before.before.before.before.before.before.args.unacked.now t.before.before.before.before.before.before.args.expired.now in lent)).chains × ((let chains-len : ℕ = =.before.chain-bytes.given.0.0 in chains-len) ≡ length (print_many (group chain) (chains_of ((let contact : Contact = t.before.before.before.before.before.before.args.contact in contact)).chains ((let lent : Lists = lists t.before.before.before.before.before.before.args.chains.now t.before.before.before.before.before.before.args.skipped.now t.before.before.before.before.before.before.args.above.now t.before.before.before.before.before.before.args.unacked.now t.before.before.before.before.before.before.args.expired.now in lent)).chains))) = size-granted 51 (group chain) ((let contact : Contact = =.before.before.before.before.before.before.before.before.before.before.before.before.before.before.before.before.before.args.contact in contact)).chains ((let lent : Lists = lists =.before.before.before.before.before.before.before.before.before.before.before.before.before.before.before.before.before.args.chains.now =.before.before.before.before.before.before.before.before.before.before.before.before.before.before.before.before.before.args.skipped.now =.before.before.before.before.before.before.before.before.before.before.before.before.before.before.before.before.before.args.above.now =.before.before.before.before.before.before.before.before.before.before.before.before.before.before.before.before.before.args.unacked.now =.before.before.before.before.before.before.before.before.before.before.before.before.before.before.before.before.before.args.expired.now in lent)).chains
-    (learn written_says =.before.before.before.chains-size.ensures =.before.chain-bytes.given.1) in chains) typed c.args.chains.now c.type_inv.chains;
+      chains = typed c.args.chains.now c.type_inv.chains;
       skipped = typed c.args.skipped.now c.type_inv.skipped;
       above = λ i. (c.type_inv.above i).fits;
       unacked = λ i. (c.type_inv.unacked i).fits;
@@ -135,8 +127,7 @@ consistent_lent-verdict-requires c =
     let skips : Granted 46 (group skipped) c.args.contact.skipped lent.skipped × (c.in-Length-skipped_bytes.skipped_len ≡ length (print_many (group skipped) (skipped_of c.args.contact.skipped lent.skipped))) = size-granted 46 (group skipped) c.args.contact.skipped lent.skipped
     (learn written_says c.skipped_size-skipped_bytes.ensures c.in-Length-skipped_bytes.is) in
     let counted = all in (
-      record { chains_granted = chains.0; skipped_granted = skips.0; (let chains : let t = =.before.before.before.before.before.before.before.before.before.before.before in Granted 51 (group chain) ((let contact : Contact = t.before.before.before.before.before.before.args.contact in contact)).chains ((let lent : Lists = lists t.before.before.before.before.before.before.args.chains.now t.before.before.before.before.before.before.args.skipped.now t.before.before.before.before.before.before.args.above.now t.before.before.before.before.before.before.args.unacked.now t.before.before.before.before.before.before.args.expired.now in lent)).chains × ((let chains-len : ℕ = =.before.chain-bytes.given.0.0 in chains-len) ≡ length (print_many (group chain) (chains_of ((let contact : Contact = t.before.before.before.before.before.before.args.contact in contact)).chains ((let lent : Lists = lists t.before.before.before.before.before.before.args.chains.now t.before.before.before.before.before.before.args.skipped.now t.before.before.before.before.before.before.args.above.now t.before.before.before.before.before.before.args.unacked.now t.before.before.before.before.before.before.args.expired.now in lent)).chains))) = size-granted 51 (group chain) ((let contact : Contact = =.before.before.before.before.before.before.before.before.before.before.before.before.before.before.before.before.before.args.contact in contact)).chains ((let lent : Lists = lists =.before.before.before.before.before.before.before.before.before.before.before.before.before.before.before.before.before.args.chains.now =.before.before.before.before.before.before.before.before.before.before.before.before.before.before.before.before.before.args.skipped.now =.before.before.before.before.before.before.before.before.before.before.before.before.before.before.before.before.before.args.above.now =.before.before.before.before.before.before.before.before.before.before.before.before.before.before.before.before.before.args.unacked.now =.before.before.before.before.before.before.before.before.before.before.before.before.before.before.before.before.before.args.expired.now in lent)).chains
-    (learn written_says =.before.before.before.chains-size.ensures =.before.chain-bytes.given.1) in chains) counted.chains.held; skipped = counted.skipped.held },
+      record { chains_granted = chains.0; skipped_granted = skips.0; chains = counted.chains.held; skipped = counted.skipped.held },
       record { above = counted.above.held; unacked = omega (arith, counted.unacked.held); expired = counted.expired.held },
     )
 
@@ -144,8 +135,7 @@ pub row_size-requires : goal.row_size-requires
 row_size-requires c =
     let lent : Lists = lists c.args.chains.now c.args.skipped.now c.args.above.now c.args.unacked.now c.args.expired.now in
     let bytes : ListsTyped lent = record {
-      (let chains : let t = =.before.before.before.before.before.before.before.before.before.before.before in Granted 51 (group chain) ((let contact : Contact = t.before.before.before.before.before.before.args.contact in contact)).chains ((let lent : Lists = lists t.before.before.before.before.before.before.args.chains.now t.before.before.before.before.before.before.args.skipped.now t.before.before.before.before.before.before.args.above.now t.before.before.before.before.before.before.args.unacked.now t.before.before.before.before.before.before.args.expired.now in lent)).chains × ((let chains-len : ℕ = =.before.chain-bytes.given.0.0 in chains-len) ≡ length (print_many (group chain) (chains_of ((let contact : Contact = t.before.before.before.before.before.before.args.contact in contact)).chains ((let lent : Lists = lists t.before.before.before.before.before.before.args.chains.now t.before.before.before.before.before.before.args.skipped.now t.before.before.before.before.before.before.args.above.now t.before.before.before.before.before.before.args.unacked.now t.before.before.before.before.before.before.args.expired.now in lent)).chains))) = size-granted 51 (group chain) ((let contact : Contact = =.before.before.before.before.before.before.before.before.before.before.before.before.before.before.before.before.before.args.contact in contact)).chains ((let lent : Lists = lists =.before.before.before.before.before.before.before.before.before.before.before.before.before.before.before.before.before.args.chains.now =.before.before.before.before.before.before.before.before.before.before.before.before.before.before.before.before.before.args.skipped.now =.before.before.before.before.before.before.before.before.before.before.before.before.before.before.before.before.before.args.above.now =.before.before.before.before.before.before.before.before.before.before.before.before.before.before.before.before.before.args.unacked.now =.before.before.before.before.before.before.before.before.before.before.before.before.before.before.before.before.before.args.expired.now in lent)).chains
-    (learn written_says =.before.before.before.chains-size.ensures =.before.chain-bytes.given.1) in chains) typed c.args.chains.now c.type_inv.chains;
+      chains = typed c.args.chains.now c.type_inv.chains;
       skipped = typed c.args.skipped.now c.type_inv.skipped;
       above = λ i. (c.type_inv.above i).fits;
       unacked = λ i. (c.type_inv.unacked i).fits;
@@ -166,8 +156,7 @@ pub returns-in_default-verdict : goal.returns-in_default-verdict
 returns-in_default-verdict c =
     let lent : Lists = lists c.args.chains.now c.args.skipped.now c.args.above.now c.args.unacked.now c.args.expired.now in
     let bytes : ListsTyped lent = record {
-      (let chains : let t = =.before.before.before.before.before.before.before.before.before.before.before in Granted 51 (group chain) ((let contact : Contact = t.before.before.before.before.before.before.args.contact in contact)).chains ((let lent : Lists = lists t.before.before.before.before.before.before.args.chains.now t.before.before.before.before.before.before.args.skipped.now t.before.before.before.before.before.before.args.above.now t.before.before.before.before.before.before.args.unacked.now t.before.before.before.before.before.before.args.expired.now in lent)).chains × ((let chains-len : ℕ = =.before.chain-bytes.given.0.0 in chains-len) ≡ length (print_many (group chain) (chains_of ((let contact : Contact = t.before.before.before.before.before.before.args.contact in contact)).chains ((let lent : Lists = lists t.before.before.before.before.before.before.args.chains.now t.before.before.before.before.before.before.args.skipped.now t.before.before.before.before.before.before.args.above.now t.before.before.before.before.before.before.args.unacked.now t.before.before.before.before.before.before.args.expired.now in lent)).chains))) = size-granted 51 (group chain) ((let contact : Contact = =.before.before.before.before.before.before.before.before.before.before.before.before.before.before.before.before.before.args.contact in contact)).chains ((let lent : Lists = lists =.before.before.before.before.before.before.before.before.before.before.before.before.before.before.before.before.before.args.chains.now =.before.before.before.before.before.before.before.before.before.before.before.before.before.before.before.before.before.args.skipped.now =.before.before.before.before.before.before.before.before.before.before.before.before.before.before.before.before.before.args.above.now =.before.before.before.before.before.before.before.before.before.before.before.before.before.before.before.before.before.args.unacked.now =.before.before.before.before.before.before.before.before.before.before.before.before.before.before.before.before.before.args.expired.now in lent)).chains
-    (learn written_says =.before.before.before.chains-size.ensures =.before.chain-bytes.given.1) in chains) typed c.args.chains.now c.type_inv.chains;
+      chains = typed c.args.chains.now c.type_inv.chains;
       skipped = typed c.args.skipped.now c.type_inv.skipped;
       above = λ i. (c.type_inv.above i).fits;
       unacked = λ i. (c.type_inv.unacked i).fits;
@@ -188,8 +177,7 @@ pub returns : goal.returns
 returns c =
     let lent : Lists = lists c.args.chains.now c.args.skipped.now c.args.above.now c.args.unacked.now c.args.expired.now in
     let bytes : ListsTyped lent = record {
-      (let chains : let t = =.before.before.before.before.before.before.before.before.before.before.before in Granted 51 (group chain) ((let contact : Contact = t.before.before.before.before.before.before.args.contact in contact)).chains ((let lent : Lists = lists t.before.before.before.before.before.before.args.chains.now t.before.before.before.before.before.before.args.skipped.now t.before.before.before.before.before.before.args.above.now t.before.before.before.before.before.before.args.unacked.now t.before.before.before.before.before.before.args.expired.now in lent)).chains × ((let chains-len : ℕ = =.before.chain-bytes.given.0.0 in chains-len) ≡ length (print_many (group chain) (chains_of ((let contact : Contact = t.before.before.before.before.before.before.args.contact in contact)).chains ((let lent : Lists = lists t.before.before.before.before.before.before.args.chains.now t.before.before.before.before.before.before.args.skipped.now t.before.before.before.before.before.before.args.above.now t.before.before.before.before.before.before.args.unacked.now t.before.before.before.before.before.before.args.expired.now in lent)).chains))) = size-granted 51 (group chain) ((let contact : Contact = =.before.before.before.before.before.before.before.before.before.before.before.before.before.before.before.before.before.args.contact in contact)).chains ((let lent : Lists = lists =.before.before.before.before.before.before.before.before.before.before.before.before.before.before.before.before.before.args.chains.now =.before.before.before.before.before.before.before.before.before.before.before.before.before.before.before.before.before.args.skipped.now =.before.before.before.before.before.before.before.before.before.before.before.before.before.before.before.before.before.args.above.now =.before.before.before.before.before.before.before.before.before.before.before.before.before.before.before.before.before.args.unacked.now =.before.before.before.before.before.before.before.before.before.before.before.before.before.before.before.before.before.args.expired.now in lent)).chains
-    (learn written_says =.before.before.before.chains-size.ensures =.before.chain-bytes.given.1) in chains) typed c.args.chains.now c.type_inv.chains;
+      chains = typed c.args.chains.now c.type_inv.chains;
       skipped = typed c.args.skipped.now c.type_inv.skipped;
       above = λ i. (c.type_inv.above i).fits;
       unacked = λ i. (c.type_inv.unacked i).fits;
