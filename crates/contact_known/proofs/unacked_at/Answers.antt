@@ -1,6 +1,4 @@
 -- `contact_known::unacked_at` meets its contract: four numbers, the ranges above contiguous, and then the list.
-use Prim.Native.Nat.{ℕ}
-use mathlib.Core.List.{List}
 use Rattle.layout.specs.Layout.{group}
 use Rattle.layout.specs.RowLaws.{Bytes}
 use Rattle.layout.proofs.At.{learn, typed}
@@ -12,18 +10,18 @@ use Rattle.contact_known.proofs.unacked_at.Goals as goal
 
 pub returns-in_default : goal.returns-in_default
 returns-in_default c =
+    let by : Bytes c.args.row.now = typed c.args.row.now c.type_inv.row in
     λ n next read.
-    let row = c.args.row.now in
-    absurd (never (four-run (let row : List ℕ = ((((typed (let row : List ℕ = c.type_inv.row.before.before.before.before.before.before.args.row.now in row))).before.before.before.before.before)).before.args.row.now in row) _ read) (learn (run_says _ row) c.run_at.ensures.0 c.in_default.is))
+    absurd (never (four-run c.args.row.now by c.args.at read) (learn (run_says 16 c.args.row.now) c.run_at.ensures.0 c.in_default.is))
 
 pub returns-in_default-above_field : goal.returns-in_default-above_field
 returns-in_default-above_field c =
     let by : Bytes c.args.row.now = typed c.args.row.now c.type_inv.row in
     λ n next read.
-    absurd (never (above-read c.args.row.now by c.args.at read _ (((once (learn (run_says _ c.args.row.now) c.run_at.ensures.0 c.in-Value.is) (four-run c.args.row.now by c.args.at read)).1))) (learn (list_says (group range) c.args.row.now) c.ranges_at-above_field.ensures.0 c.in_default-above_field.is))
+    absurd (never (above-read c.args.row.now by c.args.at read _ (((once (learn (run_says 16 c.args.row.now) c.run_at.ensures.0 c.in-Value.is) (four-run c.args.row.now by c.args.at read)).1))) (learn (list_says (group range) c.args.row.now) c.ranges_at-above_field.ensures.0 c.in_default-above_field.is))
 
 pub returns : goal.returns
 returns c =
     let by : Bytes c.args.row.now = typed c.args.row.now c.type_inv.row in
     λ n next read.
-    unacked-is c.args.row.now by c.args.at read _ (((once (learn (run_says _ c.args.row.now) c.run_at.ensures.0 c.in-Value.is) (four-run c.args.row.now by c.args.at read)).1)) (learn (list_says (group range) c.args.row.now) c.ranges_at-above_field.ensures.0 c.in-Value-above_field.is) c.numbers_at.result c.numbers_at.ensures
+    unacked-is c.args.row.now by c.args.at read _ (((once (learn (run_says 16 c.args.row.now) c.run_at.ensures.0 c.in-Value.is) (four-run c.args.row.now by c.args.at read)).1)) (learn (list_says (group range) c.args.row.now) c.ranges_at-above_field.ensures.0 c.in-Value-above_field.is) c.numbers_at.result c.numbers_at.ensures
