@@ -7,7 +7,7 @@ use mathlib.Core.Logic.{◌⊎◌, inl, inr}
 use mathlib.Core.Path.{◌≡◌, refl, ap, subst}
 use native.Mathlib.Omega.{arith}
 use native.Mathlib.Decide.{dec_le}
-use lib.Dec.{leb, eqb, T, T_not, eqb→eq, leb→le, nleb→lt}
+use lib.Dec.{leb, eqb, T_not, eqb→eq, leb→le, nleb→lt}
 use Rattle.store.specs.declared.Entry.{Entry}
 use Rattle.store.specs.Kinds.{COURIER}
 use Rattle.store.specs.Store.{entry_at, slots_below}

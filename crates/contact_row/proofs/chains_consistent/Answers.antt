@@ -66,7 +66,7 @@ returns-then-not-skipped_distinct c =
     let yes-17 : one_chain_at_most chains ≡ true = sym (ap (λ (a : ChainsAsked). a.one_current) c.chains_lent-asked.ensures) ∙ not-false _ c.if-not-asked.false in
     let yes-18 : gens_distinct chains ≡ true = sym (ap (λ (a : ChainsAsked). a.gens_distinct) c.chains_lent-asked.ensures) ∙ not-false _ c.if-not-asked-2.false in
     let no-19 : keys_distinct skipped ≡ false =
-        ap keys_distinct (sym (skipped-items c.args.skipped.now c.args.contact.skipped skipped-bytes stand)) ∙ sym c.skipped_distinct.ensures ∙ c.if-not-skipped_distinct.true in
+    ap keys_distinct (sym (skipped-items c.args.skipped.now c.args.contact.skipped skipped-bytes stand)) ∙ sym c.skipped_distinct.ensures ∙ c.if-not-skipped_distinct.true in
     rw (yes-54, yes-17, yes-18, no-19)
 
 pub returns-then-contact-gt-MAX_SKIPPED : goal.returns-then-contact-gt-MAX_SKIPPED
@@ -81,7 +81,7 @@ returns-then-contact-gt-MAX_SKIPPED c =
     let yes-17 : one_chain_at_most chains ≡ true = sym (ap (λ (a : ChainsAsked). a.one_current) c.chains_lent-asked.ensures) ∙ not-false _ c.if-not-asked.false in
     let yes-18 : gens_distinct chains ≡ true = sym (ap (λ (a : ChainsAsked). a.gens_distinct) c.chains_lent-asked.ensures) ∙ not-false _ c.if-not-asked-2.false in
     let yes-19 : keys_distinct skipped ≡ true =
-        ap keys_distinct (sym (skipped-items c.args.skipped.now c.args.contact.skipped skipped-bytes stand)) ∙ sym c.skipped_distinct.ensures ∙ c.if-not-skipped_distinct.false in
+    ap keys_distinct (sym (skipped-items c.args.skipped.now c.args.contact.skipped skipped-bytes stand)) ∙ sym c.skipped_distinct.ensures ∙ c.if-not-skipped_distinct.false in
     let many-skipped : length skipped ≡ c.args.contact.skipped = (skipped-printed c.args.contact.skipped c.args.skipped.now c.requires.skipped_granted.reads skipped-bytes c.requires.skipped).count in
     rw (yes-54, yes-17, yes-18, yes-19, many-skipped, lt-leb _ _ c.if-contact-gt-MAX_SKIPPED.true)
 
@@ -97,6 +97,6 @@ returns c =
     let yes-17 : one_chain_at_most chains ≡ true = sym (ap (λ (a : ChainsAsked). a.one_current) c.chains_lent-asked.ensures) ∙ not-false _ c.if-not-asked.false in
     let yes-18 : gens_distinct chains ≡ true = sym (ap (λ (a : ChainsAsked). a.gens_distinct) c.chains_lent-asked.ensures) ∙ not-false _ c.if-not-asked-2.false in
     let yes-19 : keys_distinct skipped ≡ true =
-        ap keys_distinct (sym (skipped-items c.args.skipped.now c.args.contact.skipped skipped-bytes stand)) ∙ sym c.skipped_distinct.ensures ∙ c.if-not-skipped_distinct.false in
+    ap keys_distinct (sym (skipped-items c.args.skipped.now c.args.contact.skipped skipped-bytes stand)) ∙ sym c.skipped_distinct.ensures ∙ c.if-not-skipped_distinct.false in
     let many-skipped : length skipped ≡ c.args.contact.skipped = (skipped-printed c.args.contact.skipped c.args.skipped.now c.requires.skipped_granted.reads skipped-bytes c.requires.skipped).count in
     rw (yes-54, yes-17, yes-18, yes-19, many-skipped, le-leb _ _ c.if-contact-gt-MAX_SKIPPED.false)

@@ -38,8 +38,8 @@ returns-then-not-canonical_lent c =
     let ranges : List Range = pairs c.args.contact.above c.args.above.now in
     let words : (i : ℕ) → get_or c.args.above.now i 0 ≤ 4294967295 = λ i. omega (arith, (c.type_inv.above i).fits) in
     let no-23 : canonical (c.args.contact.contiguous + 2) ranges ≡ false =
-        ap (λ (n : ℕ). canonical (n + 2) ranges) (sym c.wide-from.ensures.0)
-        ∙ sym (canonical-lent c.args.contact.above (c.wide-from.result + 2) c.args.above.now words) ∙ sym c.canonical_lent.ensures ∙ c.if-not-canonical_lent.true in
+    ap (λ (n : ℕ). canonical (n + 2) ranges) (sym c.wide-from.ensures.0)
+    ∙ sym (canonical-lent c.args.contact.above (c.wide-from.result + 2) c.args.above.now words) ∙ sym c.canonical_lent.ensures ∙ c.if-not-canonical_lent.true in
     rw (acked, yes-22, no-23)
 
 pub canonical_lent-requires-2 : goal.canonical_lent-requires-2
@@ -53,8 +53,8 @@ returns-then-not-canonical_lent-2 c =
     let ranges : List Range = pairs c.args.contact.above c.args.above.now in
     let words : (i : ℕ) → get_or c.args.above.now i 0 ≤ 4294967295 = λ i. omega (arith, (c.type_inv.above i).fits) in
     let yes-23 : canonical (c.args.contact.contiguous + 2) ranges ≡ true =
-        ap (λ (n : ℕ). canonical (n + 2) ranges) (sym c.wide-from.ensures.0)
-        ∙ sym (canonical-lent c.args.contact.above (c.wide-from.result + 2) c.args.above.now words) ∙ sym c.canonical_lent.ensures ∙ c.if-not-canonical_lent.false in
+    ap (λ (n : ℕ). canonical (n + 2) ranges) (sym c.wide-from.ensures.0)
+    ∙ sym (canonical-lent c.args.contact.above (c.wide-from.result + 2) c.args.above.now words) ∙ sym c.canonical_lent.ensures ∙ c.if-not-canonical_lent.false in
     let gone : List Range = pairs c.args.contact.expired c.args.expired.now in
     let no-24 : (canonical 1 gone && none_above c.args.contact.sent_msgno gone) ≡ false = sym c.canonical_lent-2.ensures ∙ c.if-not-canonical_lent-2.true in
     rw (acked, yes-22, yes-23, no-24)
@@ -66,8 +66,8 @@ returns c =
     let ranges : List Range = pairs c.args.contact.above c.args.above.now in
     let words : (i : ℕ) → get_or c.args.above.now i 0 ≤ 4294967295 = λ i. omega (arith, (c.type_inv.above i).fits) in
     let yes-23 : canonical (c.args.contact.contiguous + 2) ranges ≡ true =
-        ap (λ (n : ℕ). canonical (n + 2) ranges) (sym c.wide-from.ensures.0)
-        ∙ sym (canonical-lent c.args.contact.above (c.wide-from.result + 2) c.args.above.now words) ∙ sym c.canonical_lent.ensures ∙ c.if-not-canonical_lent.false in
+    ap (λ (n : ℕ). canonical (n + 2) ranges) (sym c.wide-from.ensures.0)
+    ∙ sym (canonical-lent c.args.contact.above (c.wide-from.result + 2) c.args.above.now words) ∙ sym c.canonical_lent.ensures ∙ c.if-not-canonical_lent.false in
     let gone : List Range = pairs c.args.contact.expired c.args.expired.now in
     let yes-24 : (canonical 1 gone && none_above c.args.contact.sent_msgno gone) ≡ true = sym c.canonical_lent-2.ensures ∙ c.if-not-canonical_lent-2.false in
     rw (acked, yes-22, yes-23, yes-24)

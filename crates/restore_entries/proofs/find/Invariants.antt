@@ -1,5 +1,5 @@
 -- Before each turn, the entry that is looked for is the first from the i-th on.
-use Rattle.std.proofs.Common.{ℕ, ◌-◌}
+use Rattle.std.proofs.Common.{◌-◌}
 use Rattle.store.specs.Store.{entry_at}
 use Rattle.store.specs.Find.{is_wanted}
 use Rattle.restore_entries.proofs.Looking.{Looking}

@@ -1,7 +1,6 @@
 -- `Contact::decode` meets its contract: checked, then counted, then copied; a refusal changes nothing.
 use mathlib.Core.Bool.{true}
 use mathlib.Core.Path.{◌≡◌, sym, ap, ap₂, subst, ◌∙◌}
-use borrow.Author.Tests.{not-true, not-false}
 use Rattle.layout.specs.Layout.{read_row}
 use Rattle.layout.specs.Layout as answer
 use Rattle.layout.specs.RowLaws.{Bytes}
