@@ -10,7 +10,7 @@ use native.Mathlib.Decide.{dec_le}
 use lib.ListN.{length}
 use lib.Dec.{leb, eqb, T, leb→le, le→leb, eqb→eq, eqb-suc-zero}
 use Rattle.layout.specs.Questions.{ORDER, BOUNDS}
-use Rattle.layout.specs.Layout.{Answer, accepted, refused_by, print, read_row}
+use Rattle.layout.specs.Layout.{Answer, accepted, refused_by, read_row}
 use Rattle.layout.specs.RowLaws.{Bytes}
 use Rattle.store.specs.declared.Entry.{Entry}
 use Rattle.store.specs.declared.Asked.TheVariants.{Going, Refused}

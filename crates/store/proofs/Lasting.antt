@@ -16,7 +16,7 @@ use Rattle.rows.specs.Rows as rows
 use Rattle.store.specs.declared.Entry.{Entry}
 use Rattle.store.specs.declared.Asked.TheVariants.{Going}
 use Rattle.store.specs.Rounds.{ask}
-use Rattle.store.specs.Kinds.{CONTACT, contact, kind_of, layout_of, seen_of, refusal_in}
+use Rattle.store.specs.Kinds.{CONTACT, kind_of, layout_of, seen_of, refusal_in}
 use Rattle.store.specs.Store.{Store, entry_at, is_of, within, part_of, opened_in, answer_of, seen, read, asked}
 use Rattle.store.proofs.Rounds.{some≢none}
 use Rattle.store.proofs.Tests.{truth, all_yes, is-of}
