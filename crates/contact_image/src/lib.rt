@@ -11,7 +11,7 @@ ghost use Rattle.contact_parts.specs.Parts.{paired, keys, numbers};
 ghost use Rattle.received.specs.Lent.{pairs};
 ghost use Rattle.contact_lent.specs.Lent.{Granted, chains_bytes, skipped_bytes};
 ghost use Rattle.contact_image.specs.Row.{SendTyped, ContactTyped, paired_of, keys_of, pending_of, send_of, numbers_of, counters, lists_image, chained_image, image, ChainsLent, NumbersLent, Writable};
-ghost use Rattle.contact.specs.Contact.{lists, lists_before};
+ghost use Rattle.contact.specs.Contact.{lists};
 
 use contact::{Contact, SendChain};
 use rows::{Dir, PairingRole, Verification};
@@ -264,7 +264,7 @@ pub fn put_row(
     expired: &[u32],
 ) -> usize
     requires { Writable contact (lists chains.now skipped.now above.now unacked.now expired.now) out.old }
-    ensures { (result ≡ length (image contact (lists_before chains skipped above unacked expired))) × Wrote out.old 0 (image contact (lists_before chains skipped above unacked expired)) out.new result }
+    ensures { (result ≡ length (image contact (lists chains.now skipped.now above.now unacked.now expired.now))) × Wrote out.old 0 (image contact (lists chains.now skipped.now above.now unacked.now expired.now)) out.new result }
 {
     let keys_at = put_paired(out, 0, contact);
     let chained_at = put_keys(out, keys_at, contact);

@@ -1,5 +1,6 @@
 -- `contact_image::put_chained` meets its contract: one writer behind another.
 use Prim.Native.Nat.{◌+◌, ◌*◌, ◌≤◌}
+use mathlib.Core.List.{[]}
 use native.Mathlib.Omega.{arith}
 use lib.ListN.{length}
 use Rattle.layout.specs.Layout.{group, optional}

@@ -1,5 +1,5 @@
 -- `contact_image::put_codes` meets its contract: one byte behind another.
-use mathlib.Core.List.{◌∷◌}
+use mathlib.Core.List.{[], ◌∷◌}
 use mathlib.Core.Path.{sym}
 use native.Mathlib.Omega.{arith}
 use Rattle.put.proofs.Put.{◌then◌}

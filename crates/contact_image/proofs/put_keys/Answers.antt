@@ -11,32 +11,32 @@ use Rattle.contact_image.proofs.put_keys.Goals as goal
 
 pub put_32-door_at-requires : goal.put_32-door_at-requires
 put_32-door_at-requires c =
-    let fit : c.args.at + 140 ≤ length c.args.out.now = omega (arith, keys-long c.args.contact c.type-inv.ensures.1, c.requires) in
+    let fit : c.args.at + 140 ≤ length c.args.out.now = omega (arith, keys-long c.args.contact c.typed.ensures.1, c.requires) in
     omega (arith, fit)
 
 pub put_32-route_key_at-requires : goal.put_32-route_key_at-requires
 put_32-route_key_at-requires c =
-    let fit : c.args.at + 140 ≤ length c.args.out.now = omega (arith, keys-long c.args.contact c.type-inv.ensures.1, c.requires) in
+    let fit : c.args.at + 140 ≤ length c.args.out.now = omega (arith, keys-long c.args.contact c.typed.ensures.1, c.requires) in
     room 32 (stored c.put_32-door_at.ensures) (omega (arith, fit))
 
 pub put_32-resume_index_at-requires : goal.put_32-resume_index_at-requires
 put_32-resume_index_at-requires c =
-    let fit : c.args.at + 140 ≤ length c.args.out.now = omega (arith, keys-long c.args.contact c.type-inv.ensures.1, c.requires) in
+    let fit : c.args.at + 140 ≤ length c.args.out.now = omega (arith, keys-long c.args.contact c.typed.ensures.1, c.requires) in
     room 32 (stored c.put_32-door_at.ensures on stored c.put_32-route_key_at.ensures) (omega (arith, fit))
 
 pub put_be-chain_key_at-requires : goal.put_be-chain_key_at-requires
 put_be-chain_key_at-requires c =
-    let fit : c.args.at + 140 ≤ length c.args.out.now = omega (arith, keys-long c.args.contact c.type-inv.ensures.1, c.requires) in
+    let fit : c.args.at + 140 ≤ length c.args.out.now = omega (arith, keys-long c.args.contact c.typed.ensures.1, c.requires) in
     room 8 (stored c.put_32-door_at.ensures on stored c.put_32-route_key_at.ensures on stored c.put_32-resume_index_at.ensures) (omega (arith, fit))
 
 pub put_32-sent_msgno_at-requires : goal.put_32-sent_msgno_at-requires
 put_32-sent_msgno_at-requires c =
-    let fit : c.args.at + 140 ≤ length c.args.out.now = omega (arith, keys-long c.args.contact c.type-inv.ensures.1, c.requires) in
+    let fit : c.args.at + 140 ≤ length c.args.out.now = omega (arith, keys-long c.args.contact c.typed.ensures.1, c.requires) in
     room 32 (stored c.put_32-door_at.ensures on stored c.put_32-route_key_at.ensures on stored c.put_32-resume_index_at.ensures on stored c.put_be-chain_key_at.ensures) (omega (arith, fit))
 
 pub put_be-requires : goal.put_be-requires
 put_be-requires c =
-    let fit : c.args.at + 140 ≤ length c.args.out.now = omega (arith, keys-long c.args.contact c.type-inv.ensures.1, c.requires) in
+    let fit : c.args.at + 140 ≤ length c.args.out.now = omega (arith, keys-long c.args.contact c.typed.ensures.1, c.requires) in
     room 4 (stored c.put_32-door_at.ensures on stored c.put_32-route_key_at.ensures on stored c.put_32-resume_index_at.ensures on stored c.put_be-chain_key_at.ensures on stored c.put_32-sent_msgno_at.ensures) (omega (arith, fit))
 
 pub shape_of-out : goal.shape_of-out

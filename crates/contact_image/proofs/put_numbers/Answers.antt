@@ -1,4 +1,5 @@
 -- `contact_image::put_numbers` meets its contract: the counters, and the lists behind them.
+use mathlib.Core.List.{[]}
 use native.Mathlib.Omega.{arith}
 use Rattle.put.proofs.Put.{◌then◌}
 use Rattle.sealed.proofs.Text.{wrote_as}

@@ -11,25 +11,25 @@ use Rattle.contact_image.proofs.put_pending.Goals as goal
 
 pub put_byte-chain_key_at-requires : goal.put_byte-chain_key_at-requires
 put_byte-chain_key_at-requires c =
-    let fit : c.args.at + 65 ≤ length c.args.out.now = omega (arith, pending-long c.args.contact c.type-inv.ensures.1 c.if-contact.true, c.requires) in
+    let fit : c.args.at + 65 ≤ length c.args.out.now = omega (arith, pending-long c.args.contact c.typed.ensures.1 c.if-contact.true, c.requires) in
     omega (arith, fit)
 
 pub put_32-msg_seed_at-requires : goal.put_32-msg_seed_at-requires
 put_32-msg_seed_at-requires c =
-    let fit : c.args.at + 65 ≤ length c.args.out.now = omega (arith, pending-long c.args.contact c.type-inv.ensures.1 c.if-contact.true, c.requires) in
+    let fit : c.args.at + 65 ≤ length c.args.out.now = omega (arith, pending-long c.args.contact c.typed.ensures.1 c.if-contact.true, c.requires) in
     room 32 (stored c.put_byte-chain_key_at.ensures) (omega (arith, fit))
 
 pub put_32-requires : goal.put_32-requires
 put_32-requires c =
-    let fit : c.args.at + 65 ≤ length c.args.out.now = omega (arith, pending-long c.args.contact c.type-inv.ensures.1 c.if-contact.true, c.requires) in
+    let fit : c.args.at + 65 ≤ length c.args.out.now = omega (arith, pending-long c.args.contact c.typed.ensures.1 c.if-contact.true, c.requires) in
     room 32 (stored c.put_byte-chain_key_at.ensures on stored c.put_32-msg_seed_at.ensures) fit
 
 pub returns-then-contact : goal.returns-then-contact
 returns-then-contact c =
-    wrote_as (pending-some c.args.contact c.if-contact.taken) (c.put_byte-chain_key_at.ensures.1 then (c.put_32-msg_seed_at.ensures.1 then c.put_32.ensures.1))
+    wrote_as (pending-some c.args.contact c.if-contact.true) (c.put_byte-chain_key_at.ensures.1 then (c.put_32-msg_seed_at.ensures.1 then c.put_32.ensures.1))
 
 pub put_byte-requires : goal.put_byte-requires
-put_byte-requires c = omega (arith, pending-absent c.args.contact c.type-inv.ensures.1 c.if-contact.false, c.requires)
+put_byte-requires c = omega (arith, pending-absent c.args.contact c.typed.ensures.1 c.if-contact.false, c.requires)
 
 pub returns : goal.returns
 returns c = wrote_as (pending-none c.args.contact c.if-contact.false) c.put_byte.ensures.1

@@ -1,5 +1,6 @@
 -- `contact_image::put_row` meets its contract: one part behind another.
 use Prim.Native.Nat.{◌+◌, ◌*◌, ◌≤◌}
+use mathlib.Core.List.{[]}
 use native.Mathlib.Omega.{arith}
 use lib.ListN.{length}
 use Rattle.layout.specs.Layout.{print}

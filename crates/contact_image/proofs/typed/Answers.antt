@@ -6,7 +6,7 @@ use Rattle.contact_image.proofs.typed.Goals as goal
 pub returns : goal.returns
 returns c =
     -- from `peer` on, which lies too deep for the search
-    let later = c.well-formed.0.1.1.1.1.1.1.1.1.1.1.1.1.1.1.1.1.1 in (
+    let later = c.well_formed.0.1.1.1.1.1.1.1.1.1.1.1.1.1.1.1.1.1 in (
       refl,
       record {
         resume_index = search rules;
