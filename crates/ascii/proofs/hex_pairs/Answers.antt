@@ -5,7 +5,6 @@ use mathlib.Core.Bool.{true, false}
 use mathlib.Core.Path.{◌≡◌, sym, ◌∙◌}
 use native.Mathlib.Omega.{arith}
 use lib.ListN.{drop, length-drop}
-use borrow.Author.Tests.{not-true, not-false}
 use Rattle.ascii.proofs.Blobs.{pair-more, no-first, no_second, no-pair}
 use Rattle.ascii.proofs.hex_pairs.Goals as goal
 

@@ -1,5 +1,4 @@
 -- `contact_row::contact_size` meets its contract: 36, the card, the places, 54 and 17 to 24, and then the length.
-use Prim.Native.Nat.{ℕ}
 use mathlib.Core.Bool.{true}
 use mathlib.Core.Path.{◌≡◌, sym, ap, ◌∙◌}
 use native.Mathlib.Omega.{arith}
@@ -16,7 +15,6 @@ use Rattle.contact_lent.specs.Lent.{Granted, chains_of, skipped_of}
 use Rattle.contact_lent.proofs.Offsets.{size-granted}
 use Rattle.contact.specs.Consistent.{refusal_in}
 use Rattle.contact.specs.Contact.{Lists, lists}
-use Rattle.contact.specs.declared.Contact.{Contact}
 use Rattle.contact_image.specs.Row.{counted, ListsTyped}
 use Rattle.contact_image.proofs.Counts.{AllCounted, all-counted}
 use Rattle.contact_row.proofs.Asked.{counted_is, not-counted, bad-card, bad-chains, bad-skipped, inconsistent, whole, size_is, sizes-few}

@@ -1,12 +1,10 @@
 -- `courier_row::courier_size` meets its contract: question by question, as reading the row would ask.
 use mathlib.Core.Bool.{true, not}
 use mathlib.Core.Path.{◌≡◌, sym, ap, ◌∙◌}
-use native.Mathlib.Omega.{arith}
 use lib.ListN.{length}
 use borrow.Author.Tests.{eq-eqb, ne_eqb}
 use Rattle.layout.specs.Write.{wrote}
 use Rattle.rows.specs.Checks.{sealed_carried, not_zero}
-use Rattle.sealed.proofs.Buckets.{carried-few}
 use Rattle.courier_row.proofs.Image.{whole-tombstone, length-tombstone, bad-expiry, bad-copies, bad-length, whole-carried, length-carried}
 use Rattle.courier_row.proofs.courier_size.Goals as goal
 

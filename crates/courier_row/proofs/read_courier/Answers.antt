@@ -1,14 +1,14 @@
 -- `courier_row::read_courier` meets its contract: checked, then copied; or refused, and zeros.
 use Prim.Native.Nat.{ℕ, ◌-◌}
 use mathlib.Core.List.{List}
-use mathlib.Core.Path.{◌≡◌, ap, subst, ◌∙◌}
+use mathlib.Core.Path.{◌≡◌, subst}
 use native.Mathlib.Omega.{arith}
 use native.Mathlib.Nat.{sub-zero}
 use lib.ListN.{length, length-drop}
 use Rattle.layout.specs.Layout.{read_row}
 use Rattle.layout.proofs.At.{learn, typed}
 use Rattle.rows.specs.Rows.{courier}
-use Rattle.courier.specs.Courier.{check_refusal, Offsets, sealed_at, held_from}
+use Rattle.courier.specs.Courier.{Offsets, sealed_at, held_from}
 use Rattle.courier.proofs.Placed.{check_says, Placed, check-says, check-placed}
 use Rattle.courier.specs.declared.HeldAt.{HeldAt}
 use Rattle.courier.specs.declared.HeldAt.TheVariants.{Carried, Tombstone}

@@ -6,7 +6,7 @@ use mathlib.Core.Path.{◌≡◌, sym, ap, ◌∙◌}
 use native.Mathlib.Omega.{arith}
 use lib.ListN.{length}
 use lib.Dec.{leb}
-use borrow.Author.Tests.{leb-true, lt-leb, not-true, not-false}
+use borrow.Author.Tests.{leb-true, lt-leb}
 use Rattle.put.specs.Put.{Wrote}
 use Rattle.put.proofs.Put.{wrote_none}
 use Rattle.envelope.specs.Envelope.{EnvelopeTyped, image, storable}

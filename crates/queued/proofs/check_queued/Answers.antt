@@ -11,7 +11,6 @@ use Rattle.layout.specs.Veil.{veiled}
 use Rattle.layout.specs.Form.{u8, u64, leb128}
 use Rattle.layout.specs.Layout.{group, optional, answer}
 use Rattle.layout.specs.Field.{takes, read_at}
-use Rattle.layout.specs.RowLaws.{Bytes}
 use Rattle.layout.proofs.Front.{number-lawful}
 use Rattle.layout.proofs.Leb.{leb128-lawful}
 use Rattle.layout.proofs.Derived.{optional-lawful}

@@ -7,7 +7,6 @@ use lib.ListN.{take, drop}
 use Rattle.layout.specs.Veil.{plain, veiled}
 use Rattle.layout.specs.Form.{u8, u32, flag}
 use Rattle.layout.specs.Layout.{group}
-use Rattle.layout.specs.RowLaws.{Bytes}
 use Rattle.layout.proofs.Front.{number-lawful, flag-lawful}
 use Rattle.layout.proofs.At.{learn, Took, typed, took, refused-at}
 use Rattle.layout.proofs.Steps.{Reached, start, field-yes, field-no, done-yes}

@@ -8,7 +8,6 @@ use native.Mathlib.Omega.{arith}
 use Rattle.layout.specs.Form.{flag}
 use Rattle.layout.specs.Layout.{group, optional_layout, optional}
 use Rattle.layout.specs.Field.{takes, read_at}
-use Rattle.layout.specs.RowLaws.{Bytes}
 use Rattle.layout.proofs.Front.{flag-lawful}
 use Rattle.layout.proofs.At.{learn, Took, typed, took, refused-at}
 use Rattle.layout.proofs.Steps.{optional-some, optional-none, optional-no-flag, optional-no}

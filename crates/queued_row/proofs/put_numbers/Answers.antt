@@ -1,6 +1,6 @@
 -- `queued_row::put_numbers` meets its contract: one writer behind another.
 use native.Mathlib.Omega.{arith}
-use Rattle.put.proofs.Put.{◌then◌, wrote-long}
+use Rattle.put.proofs.Put.{◌then◌}
 use Rattle.queued_row.proofs.put_numbers.Goals as goal
 
 pub returns-then-renewed : goal.returns-then-renewed

@@ -1,13 +1,11 @@
 -- `queued_row::read_queued` meets its contract: checked, then copied; or refused, and zeros.
 use Prim.Native.Nat.{◌-◌, ◌≤◌}
-use mathlib.Core.Path.{◌≡◌, ap, subst, ◌∙◌}
+use mathlib.Core.Path.{◌≡◌, subst}
 use native.Mathlib.Omega.{arith}
-use native.Mathlib.Nat.{sub-zero}
 use lib.ListN.{length, drop, length-drop}
 use Rattle.layout.specs.Layout.{read_row}
 use Rattle.layout.proofs.At.{learn, typed}
 use Rattle.rows.specs.Rows.{queued}
-use Rattle.queued.specs.Queued.{check_refusal}
 use Rattle.queued.proofs.Placed.{check_says, Placed, check-says, check-placed}
 use Rattle.queued_row.proofs.read_queued.Goals as goal
 
