@@ -7,7 +7,7 @@ use Rattle.c_card.specs.Faces.{length_or}
 use Rattle.c_card.proofs.length_or.Goals as goal
 
 pub returns-in-Length : goal.returns-in-Length
-returns-in-Length c = sym (ap (λ (w : Written). length_or (written_says w)) c.written-1.given.1)
+returns-in-Length c = sym (ap (λ (w : Written). length_or (written_says w)) c.in-Length.is)
 
 pub returns-in-Refused : goal.returns-in-Refused
-returns-in-Refused c = sym (ap (λ (w : Written). length_or (written_says w)) c.written-in-Refused-1.given.1)
+returns-in-Refused c = sym (ap (λ (w : Written). length_or (written_says w)) c.in-Refused.is)

@@ -15,7 +15,7 @@ use Rattle.c_card.proofs.sicklestar_card.Goals as goal
 pub returns-in-Refused : goal.returns-in-Refused
 unfolding rewrite_card
 returns-in-Refused c =
-    rw (refused-again c.args.out.now (read_row card_row c.args.input.now) (ap (λ (d : Decoded). d.verdict) (sym c.decode-decoded.ensures) ∙ c.verdict-1.given.1))
+    rw (refused-again c.args.out.now (read_row card_row c.args.input.now) (ap (λ (d : Decoded). d.verdict) (sym c.decode-decoded.ensures) ∙ c.in-Refused.is))
 
 pub returns : goal.returns
 unfolding rewrite_card
@@ -23,8 +23,8 @@ returns c =
     let input = c.args.input.now in
     let out = c.args.out.now in
     let is = c.decode-decoded.ensures in
-    let by = typed input c.shared_slice_known-1.given in
+    let by = typed input c.type_inv.input in
     answered zero_or c.zero_or.ensures
     (c.encode.ensures
     ∙ ap (λ (x : Decoded). writes card_row (image x.card) out) is
-    ∙ written-again out input by (read_row card_row input) refl (ap (λ (x : Decoded). x.verdict) (sym is) ∙ c.enum_told-1.given.1))
+    ∙ written-again out input by (read_row card_row input) refl (ap (λ (x : Decoded). x.verdict) (sym is) ∙ c.in_default.is))

@@ -9,13 +9,13 @@ use Rattle.c_card.proofs.sicklestar_read_leb128.Goals as goal
 
 pub returns-then-answer-lt2 : goal.returns-then-answer-lt2
 unfolding read_leb128
-returns-then-answer-lt2 c = rw (learn leb128_says c.read_leb128.ensures c.value-1.given.1, lt-leb 2 _ c.if-answer-lt2.true)
+returns-then-answer-lt2 c = rw (learn leb128_says c.read_leb128.ensures c.in-Value.is, lt-leb 2 _ c.if-answer-lt2.true)
 
 pub returns-in-Value : goal.returns-in-Value
 unfolding read_leb128
 returns-in-Value c =
-    rw (learn leb128_says c.read_leb128.ensures c.value-1.given.1, set-two _ _ c.args.answer.now c.if-answer-lt2.false)
+    rw (learn leb128_says c.read_leb128.ensures c.in-Value.is, set-two _ _ c.args.answer.now c.if-answer-lt2.false)
 
 pub returns-in-Refused : goal.returns-in-Refused
 unfolding read_leb128
-returns-in-Refused c = rw (learn leb128_says c.read_leb128.ensures c.number-1.given.1)
+returns-in-Refused c = rw (learn leb128_says c.read_leb128.ensures c.in-Refused.is)
