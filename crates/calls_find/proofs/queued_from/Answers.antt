@@ -19,7 +19,7 @@ loop-i-preserved c =
     let l = c.loop-i in (
       one_more a.id.0 l.i l.queued c.queued_at-queued.result (entry_at a.entries.now l.i) l.invariant.0 c.queued_at-queued.ensures,
       goes_on (queued_next a.id.0) (take a.count a.entries.now) 0 l.i l.queued c.queued_at-queued.result (front-inside l.i a.count a.entries.now c.loop-i-test.true c.requires) l.invariant.1
-      (c.queued_at-queued.ensures ∙ ap (queued_next a.id.0 l.queued) (front-entry a.count l.i a.entries.now c.loop-i-test.true)),
+          (c.queued_at-queued.ensures ∙ ap (queued_next a.id.0 l.queued) (front-entry a.count l.i a.entries.now c.loop-i-test.true)),
     )
 
 pub returns : goal.returns
