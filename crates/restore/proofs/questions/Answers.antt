@@ -6,10 +6,11 @@ use Rattle.restore.proofs.questions.Goals as goal
 
 pub few_if-some-requires : goal.few_if-some-requires
 few_if-some-requires c =
-    let a = c.args in
-    (c.few_times-few.ensures,
-    begins-at a.run.now a.entries.now a.omitted c.entry_count-n.result c.begin-begun.result c.turns-ordered.result c.turns-bounded.result c.turns-read.result c.begin-state.result
-    c.entry_count-n.ensures c.begin-begun.ensures c.turns-ordered.ensures c.turns-bounded.ensures c.turns-read.ensures c.begin-state.ensures)
+    let a = c.args in (
+      c.few_times-few.ensures,
+      begins-at a.run.now a.entries.now a.omitted c.entry_count-n.result c.begin-begun.result c.turns-ordered.result c.turns-bounded.result c.turns-read.result c.begin-state.result
+          c.entry_count-n.ensures c.begin-begun.ensures c.turns-ordered.ensures c.turns-bounded.ensures c.turns-read.ensures c.begin-state.ensures,
+    )
 
 pub many_if-more-requires : goal.many_if-more-requires
 many_if-more-requires c =
