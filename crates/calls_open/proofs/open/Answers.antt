@@ -8,7 +8,7 @@ use Rattle.calls_open.specs.Calls.{opened_by}
 use Rattle.calls_open.proofs.open.Goals as goal
 
 pub returns-then-not-sought : goal.returns-then-not-sought
-returns-then-not-sought c = rw (not-true c.args.sought.found c.if-not-sought.true) (c.answered.ensures, refl)
+returns-then-not-sought c = rw (not-true c.args.sought.found c.if-not-sought.true) (record { value = c.answered.ensures; expired_value = refl })
 
 pub returns : goal.returns
 returns c =
@@ -16,4 +16,4 @@ returns c =
     let lent = lists a.chains.now a.skipped.now a.above.now a.unacked.now a.expired.now in
     let read = c.decode-read.ensures ∙ ap (λ row. contacts.reads a.sought.entry.version row lent) c.part_of-row.ensures in
     rw (not-false a.sought.found c.if-not-sought.false)
-    (c.opened_by.ensures ∙ ap (λ (x : contacts.Left). opened_by x.answer.verdict a.id a.mark a.contact x.answer.contact) read, ap (λ (x : contacts.Left). x.lists) read)
+    (record { value = c.opened_by.ensures ∙ ap (λ (x : contacts.Left). opened_by x.answer.verdict a.id a.mark a.contact x.answer.contact) read; expired_value = ap (λ (x : contacts.Left). x.lists) read })
