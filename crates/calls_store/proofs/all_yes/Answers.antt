@@ -4,18 +4,18 @@ use borrow.Author.Tests.{not-true, not-false}
 use Rattle.calls_store.proofs.all_yes.Goals as goal
 
 pub returns-then-not-writable : goal.returns-then-not-writable
-returns-then-not-writable c = let a = c.args in rw (not-true a.writable c.if-not-writable.true)
+returns-then-not-writable c = let a = c.args in rw (c.if-not-writable.true)
 
 pub returns-then-not-sought : goal.returns-then-not-sought
 returns-then-not-sought c =
-    let a = c.args in rw (not-false a.writable c.if-not-writable.false, not-true a.sought.found c.if-not-sought.true)
+    let a = c.args in rw (c.if-not-writable.false, not-true a.sought.found c.if-not-sought.true)
 
 pub returns-then-not-is_granted : goal.returns-then-not-is_granted
 returns-then-not-is_granted c =
     let a = c.args in
-    rw (not-false a.writable c.if-not-writable.false, not-false a.sought.found c.if-not-sought.false, sym c.is_granted.ensures ∙ not-true c.is_granted.result c.if-not-is_granted.true)
+    rw (c.if-not-writable.false, not-false a.sought.found c.if-not-sought.false, sym c.is_granted.ensures ∙ c.if-not-is_granted.true)
 
 pub returns : goal.returns
 returns c =
     let a = c.args in
-    rw (not-false a.writable c.if-not-writable.false, not-false a.sought.found c.if-not-sought.false, sym c.is_granted.ensures ∙ not-false c.is_granted.result c.if-not-is_granted.false)
+    rw (c.if-not-writable.false, not-false a.sought.found c.if-not-sought.false, sym c.is_granted.ensures ∙ c.if-not-is_granted.false)

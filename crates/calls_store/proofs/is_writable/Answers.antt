@@ -17,7 +17,7 @@ returns-in_default c =
       unacked = λ i. (c.type_inv.unacked i).fits;
       expired = λ i. (c.type_inv.expired i).fits;
     } in
-    (record { asked = sym (ap is_length (learn written_says c.contact_size.ensures c.in_default.is)); contact = c.type-inv.ensures.1; lists = bytes })
+    (record { asked = sym (ap is_length (learn written_says c.contact_size.ensures c.in_default.is)); contact = c.typed.ensures.1; lists = bytes })
 
 pub returns : goal.returns
 returns c =
@@ -29,4 +29,4 @@ returns c =
       unacked = λ i. (c.type_inv.unacked i).fits;
       expired = λ i. (c.type_inv.expired i).fits;
     } in
-    (record { asked = sym (ap is_length (learn written_says c.contact_size.ensures c.in-Length.is)); contact = c.type-inv.ensures.1; lists = bytes })
+    (record { asked = sym (ap is_length (learn written_says c.contact_size.ensures c.in-Length.is)); contact = c.typed.ensures.1; lists = bytes })
