@@ -14,7 +14,7 @@ row_line-requires c =
 pub returns-then-e-eq-CONTACT : goal.returns-then-e-eq-CONTACT
 returns-then-e-eq-CONTACT c =
     let a = c.args in
-    contact-entry a.run.now a.e a.queued c.if-e-eq-CONTACT.true c.part_of-row.ensures c.row_Line.ensures
+    contact-entry a.run.now a.e a.queued c.if-e-eq-CONTACT.true c.part_of-row.ensures c.row_line.ensures
 
 pub returns : goal.returns
 returns c =

@@ -20,7 +20,7 @@ loop-i-init c =
 pub be32-a-requires : goal.be32-a-requires
 be32-a-requires c =
     let turned : Turn (λ l. 8) range_at c.args.row.now c.args.count c.loop-i.i c.loop-i.p = turn (λ l. 8) range_at c.args.row.now c.args.count c.loop-i.i c.loop-i.p c.loop-i-test.true c.loop-i.invariant.4 in
-    omega (arith, turned.ranges)
+    omega (arith, turned.fits)
 
 pub overflow_add-p : goal.overflow_add-p
 overflow_add-p c =
