@@ -6,9 +6,13 @@ use Rattle.statement_report.proofs.report_store.Goals as goal
 pub returns-in-Granted : goal.returns-in-Granted
 returns-in-Granted c =
     let a = c.args in
-    as-text a.out.now (table-granted a.run.now a.records.now a.n c.requires.1 c.restore-answer.ensures c.in-Granted.is) c.write_granted.ensures
+    let e = c.write_granted.ensures in
+    let t = as-text a.out.now (table-granted a.run.now a.records.now a.n c.requires.1 c.restore-answer.ensures c.in-Granted.is) (e.out_after, e.next_slot_len_bound) in
+    record { out_after = t.0; records_len_bound = t.1 }
 
 pub returns-in-Refused : goal.returns-in-Refused
 returns-in-Refused c =
     let a = c.args in
-    as-text a.out.now (table-refused a.run.now a.records.now a.n c.requires.1 c.restore-answer.ensures c.in-Refused.is c.wide_byte.ensures.0) c.write_refused.ensures
+    let e = c.write_refused.ensures in
+    let t = as-text a.out.now (table-refused a.run.now a.records.now a.n c.requires.1 c.restore-answer.ensures c.in-Refused.is c.wide_byte.ensures.0) (e.out_after, e.place_len_bound) in
+    record { out_after = t.0; records_len_bound = t.1 }
