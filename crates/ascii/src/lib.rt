@@ -5,12 +5,13 @@ ghost use Rattle.std.specs.Prelude.{◌≡◌, ◌∷◌, true, cond, suc, ◌+�
 ghost use Rattle.layout.specs.Write.{stored};
 ghost use Rattle.rows.specs.Answers.{leaves};
 ghost use Rattle.rows.specs.Checks.{all};
-ghost use Rattle.numbers.specs.Decimal.{COMMA, is_digit, decimal, fields_text};
+ghost use Rattle.numbers.specs.Decimal.{is_digit, decimal, fields_text};
 ghost use Rattle.put.specs.Put.{Wrote};
 ghost use Rattle.ascii.specs.Decimal.{decimal_in, with_digit, says_from};
 ghost use Rattle.ascii.specs.Hex.{is_hex, hex_value, unpaired, hex_pairs, hex_digit, pairs_of, hex_of, dash_of, bytes_of, keeps};
 ghost use Rattle.ascii.specs.Words.{SPACE, before, behind, parted, word_at, number_at};
 ghost use Rattle.ascii.specs.Says.{decimal_says};
+ghost use Rattle.numbers.specs.Decimal as decimals;
 
 use layout::question;
 use rows::Written;
@@ -387,7 +388,7 @@ pub fn put_decimal(out: &mut [u8], at: usize, n: u64) -> usize
 // A comma and a number.
 fn put_field(out: &mut [u8], at: usize, n: u64) -> usize
     requires { at + (1 + length (decimal n)) ≤ length out.old }
-    ensures { (result ≡ at + (1 + length (decimal n))) × Wrote out.old at (COMMA ∷ decimal n) out.new result }
+    ensures { (result ≡ at + (1 + length (decimal n))) × Wrote out.old at (decimals.COMMA ∷ decimal n) out.new result }
 {
     let number_at = put::put_byte(out, at, COMMA);
     put_decimal(out, number_at, n)

@@ -8,7 +8,8 @@ ghost use Rattle.calls_step.specs.Step.{step};
 ghost use Rattle.calls_step.specs.Proved.{HIGHEST};
 ghost use Rattle.calls_dispatch.specs.Dispatch.{call_of, input_of, left_of};
 ghost use Rattle.calls.specs.Calls.{RestoreSteps};
-ghost use Rattle.sheet_entries.specs.Table.{ENTRIES, entries_from};
+ghost use Rattle.sheet_entries.specs.Table.{entries_from};
+ghost use Rattle.sheet_entries.specs.Table as tables;
 
 use calls::RestoreLeft;
 use calls_dispatch::Call;
@@ -18,7 +19,7 @@ use contact::Contact;
 use sheet_entries::ENTRIES;
 
 pub fn restore(run: &[u8], records: &[u64], n: usize, mark: Mark) -> RestoreLeft
-    ensures { RestoreSteps mark run.now (entries_from (min n ENTRIES) records.now) result }
+    ensures { RestoreSteps mark run.now (entries_from (min n tables.ENTRIES) records.now) result }
 {
     let blank = sheet_entries::no_entry();
     let mut table = [blank; ENTRIES];
@@ -41,7 +42,7 @@ pub fn step(
     expired: &mut [u32],
     out: &mut [u8],
 ) -> Left
-    ensures { let h = input_of mark run.now (entries_from (min n ENTRIES) records.now) contact (lists_before chains skipped above unacked expired) out.old in
+    ensures { let h = input_of mark run.now (entries_from (min n tables.ENTRIES) records.now) contact (lists_before chains skipped above unacked expired) out.old in
         left_of result h (lists_after chains skipped above unacked expired) out.new ≡ step HIGHEST (call_of call) h }
 {
     let blank = sheet_entries::no_entry();

@@ -5,7 +5,8 @@
 ghost use Rattle.std.specs.Prelude.{◌≡◌, ◌&&◌, ◌≤◌};
 ghost use Rattle.ascii.specs.Words.{SPACE, before, parted};
 ghost use Rattle.replay_script.specs.Script.{same, code_of, narrow_of, wide_of, others_of, highest_at, is_decimal_at, decimals_from, command_of, is_entry, are_lengths, lengths_for};
-ghost use Rattle.replay_script.specs.Table.{DOT, TABLE};
+ghost use Rattle.replay_script.specs.Table.{DOT};
+ghost use Rattle.replay_script.specs.Table as commands;
 
 use ascii::Said;
 
@@ -77,7 +78,7 @@ const TABLE: [u8; CODES * ROW] = *b"\
 ";
 
 fn narrow_of(table: &[u8], code: u8) -> usize
-    requires { table.now ≡ TABLE }
+    requires { table.now ≡ commands.TABLE }
     ensures { (result ≡ narrow_of code) × (result ≤ 255) }
 {
     let i = width::index(code);
@@ -88,7 +89,7 @@ fn narrow_of(table: &[u8], code: u8) -> usize
 }
 
 fn wide_of(table: &[u8], code: u8) -> usize
-    requires { table.now ≡ TABLE }
+    requires { table.now ≡ commands.TABLE }
     ensures { (result ≡ wide_of code) × (result ≤ 255) }
 {
     let i = width::index(code);
@@ -99,7 +100,7 @@ fn wide_of(table: &[u8], code: u8) -> usize
 }
 
 fn others_of(table: &[u8], code: u8) -> usize
-    requires { table.now ≡ TABLE }
+    requires { table.now ≡ commands.TABLE }
     ensures { (result ≡ others_of code) × (result ≤ 255) }
 {
     let i = width::index(code);
@@ -134,7 +135,7 @@ fn is(word: &[u8], dotted: &[u8]) -> bool
 
 // The command with this name.
 fn code_of(table: &[u8], word: &[u8]) -> u8
-    requires { table.now ≡ TABLE }
+    requires { table.now ≡ commands.TABLE }
     ensures { result ≡ code_of word.now }
 {
     let mut code = 1;

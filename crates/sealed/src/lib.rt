@@ -2,7 +2,8 @@
 #![tactic(auto)]
 
 ghost use Rattle.std.specs.Prelude.{◌≡◌, drop, eqb};
-ghost use Rattle.rows.specs.Checks.{any, INNER_BUCKETS, sealed_queued, sealed_carried};
+ghost use Rattle.rows.specs.Checks.{any, sealed_queued, sealed_carried};
+ghost use Rattle.rows.specs.Checks as checks;
 
 // The lengths that a text may have before it is sealed.
 pub const INNER_BUCKETS: [usize; 8] = [32, 64, 128, 256, 512, 1024, 2048, 4048];
@@ -15,7 +16,7 @@ pub const COURIER_INNER_MAX: usize = 2048;
 
 // Whether a text of this length fills a bucket: the table is searched.
 fn is_bucket(inner: usize) -> bool
-    ensures { result ≡ any (λ bucket. eqb inner bucket) INNER_BUCKETS }
+    ensures { result ≡ any (λ bucket. eqb inner bucket) checks.INNER_BUCKETS }
 {
     let mut i: usize = 0;
     while i < 8 {

@@ -9,9 +9,11 @@ ghost use Rattle.std.specs.Prelude.{◌≡◌, List, [], ◌∷◌, true, cond, 
 ghost use Rattle.rows.specs.Checks.{all};
 ghost use Rattle.ascii.specs.Hex.{is_hex, hex_pairs};
 ghost use Rattle.put.specs.Put.{put};
-ghost use Rattle.sheet.specs.Sheet.{shape_of, BLOB_BYTES};
+ghost use Rattle.sheet.specs.Sheet.{shape_of};
 ghost use Rattle.sheet.specs.Machine.{at_line, waiting, stopped, begun, begun_as, highest_at, digit_step, number_step, taken, comma_step, high_step, room_for};
-ghost use Rattle.sheet.specs.Machine.{HIGH, bytes_in, lines_in, low_step, low_run, id_in, msgno_in, six, closed, closed_records, end_step, end_records, other_step, held, stepped, fed, answer_of};
+ghost use Rattle.sheet.specs.Machine.{bytes_in, lines_in, low_step, low_run, id_in, msgno_in, six, closed, closed_records, end_step, end_records, other_step, held, stepped, fed, answer_of};
+ghost use Rattle.sheet.specs.Machine as machine;
+ghost use Rattle.sheet.specs.Sheet as sheets;
 
 use ascii::Said;
 use layout::question;
@@ -326,7 +328,7 @@ fn put_six(records: &mut [u64], at: usize, s: State)
 }
 
 fn close(s: State, lent: usize, records: &mut [u64]) -> State
-    ensures { (result ≡ closed (room_for BLOB_BYTES lent) (lines_in records.old) s) × (records.new ≡ closed_records (room_for BLOB_BYTES lent) (lines_in records.old) s records.old) }
+    ensures { (result ≡ closed (room_for sheets.BLOB_BYTES lent) (lines_in records.old) s) × (records.new ≡ closed_records (room_for sheets.BLOB_BYTES lent) (lines_in records.old) s records.old) }
 {
     let bytes = room_for(BLOB_BYTES, lent);
     let most = room_for(LINES, records.len() / RECORD);
@@ -343,7 +345,7 @@ fn close(s: State, lent: usize, records: &mut [u64]) -> State
 }
 
 fn end_line(s: State, lent: usize, records: &mut [u64]) -> State
-    ensures { (result ≡ end_step (room_for BLOB_BYTES lent) (lines_in records.old) s) × (records.new ≡ end_records (room_for BLOB_BYTES lent) (lines_in records.old) s records.old) }
+    ensures { (result ≡ end_step (room_for sheets.BLOB_BYTES lent) (lines_in records.old) s) × (records.new ≡ end_records (room_for sheets.BLOB_BYTES lent) (lines_in records.old) s records.old) }
 {
     let phase = s.phase;
     if phase == HIGH {
@@ -407,7 +409,7 @@ pub fn step(s: State, b: u8, run: &mut [u8], records: &mut [u64]) -> State
 
 // Pairs of digits where the reader stands between pairs of a blob; none elsewhere.
 fn pairs_in(s: State, rest: &[u8]) -> usize
-    ensures { result ≡ cond (eqb s.phase HIGH) (hex_pairs rest.now) 0 }
+    ensures { result ≡ cond (eqb s.phase machine.HIGH) (hex_pairs rest.now) 0 }
 {
     if s.phase == HIGH {
         return ascii::hex_pairs(rest);
@@ -417,7 +419,7 @@ fn pairs_in(s: State, rest: &[u8]) -> usize
 
 // Many pairs of digits at once: their bytes go to the run as far as there is room.
 fn take_pairs(s: State, digits: &[u8], run: &mut [u8]) -> State
-    requires { (s.phase ≡ HIGH) × (0 < length digits.now) × (length digits.now % 2 ≡ 0) × (all is_hex digits.now ≡ true) }
+    requires { (s.phase ≡ machine.HIGH) × (0 < length digits.now) × (length digits.now % 2 ≡ 0) × (all is_hex digits.now ≡ true) }
     ensures { (records : List ℕ) → held result run.new records ≡ fed digits.now (held s run.old records) }
 {
     let n = digits.len() / 2;

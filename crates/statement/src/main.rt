@@ -5,9 +5,9 @@
 mod failure;
 
 ghost use Rattle.std.specs.Prelude.{◌≡◌, true, false, ◌*◌, ◌≤◌, length};
-ghost use Rattle.sheet.specs.Sheet.{BLOB_BYTES, LINES};
 ghost use Rattle.sheet.specs.Machine.{at_line, held};
 ghost use Rattle.statement.specs.Pieces.{Moved, clamp_len, Taken, ReadOne, ReadAll, Reports};
+ghost use Rattle.sheet.specs.Sheet as sheets;
 
 use failure::fail;
 use rows::Written;
@@ -176,7 +176,7 @@ fn report_input<R: Read>(
     records: &mut [u64],
     text: &mut [u8],
 ) -> Reported
-    requires { (BLOB_BYTES ≤ length run.old) × (6 * LINES ≤ length records.old) }
+    requires { (sheets.BLOB_BYTES ≤ length run.old) × (6 * sheets.LINES ≤ length records.old) }
     ensures { Reports run.old records.old text.old result run.new records.new text.new }
 {
     let reading = read_all(rt, input, chunk, run, records);
@@ -202,7 +202,7 @@ fn statement<R: Read>(
     records: &mut [u64],
     text: &mut [u8],
 )
-    requires { (BLOB_BYTES ≤ length run.old) × (6 * LINES ≤ length records.old) }
+    requires { (sheets.BLOB_BYTES ≤ length run.old) × (6 * sheets.LINES ≤ length records.old) }
 {
     let reported = report_input(rt, input, chunk, run, records, text);
     if reported.failed {

@@ -15,7 +15,8 @@ ghost use Rattle.store.specs.Kinds.{QUEUED};
 ghost use Rattle.store.specs.Line.{queued_of};
 ghost use Rattle.sheet_entries.specs.Table.{entry_from, entries_from};
 ghost use Rattle.statement_text.specs.Text.{how_many, last_line};
-ghost use Rattle.statement_text.specs.Lines.{row_text, row_count, entry_text, entry_count, lines_from, count_from, fields_of, text_in, Lined, Measures, TEXT_BYTES};
+ghost use Rattle.statement_text.specs.Lines.{row_text, row_count, entry_text, entry_count, lines_from, count_from, fields_of, text_in, Lined, Measures};
+ghost use Rattle.statement_text.specs.Lines as texts;
 
 use contact::ContactCheck;
 use layout::question;
@@ -247,7 +248,7 @@ pub fn write_granted(
     ensures out_after { leaves result out.new ≡ stored (lines_from run.now (entries_from n records.now) (entries_from n records.now)
         ++ last_line (count_from run.now (entries_from n records.now)) (entries_from n records.now) next_slot) out.old }
     ensures next_slot_len_bound { length (lines_from run.now (entries_from n records.now) (entries_from n records.now)
-        ++ last_line (count_from run.now (entries_from n records.now)) (entries_from n records.now) next_slot) ≤ TEXT_BYTES }
+        ++ last_line (count_from run.now (entries_from n records.now)) (entries_from n records.now) next_slot) ≤ texts.TEXT_BYTES }
 {
     let measured = measure(run, records, n);
     let queued = how_many(records, n, store::QUEUED);
@@ -265,7 +266,7 @@ pub fn write_granted(
 // A letter and two numbers: of a refusal.
 pub fn write_refused(letter: u8, number: u64, place: u64, out: &mut [u8]) -> Written
     ensures out_after { leaves result out.new ≡ stored (letter ∷ fields_of (number ∷ place ∷ []) 2) out.old }
-    ensures place_len_bound { length (letter ∷ fields_of (number ∷ place ∷ []) 2) ≤ TEXT_BYTES }
+    ensures place_len_bound { length (letter ∷ fields_of (number ∷ place ∷ []) 2) ≤ texts.TEXT_BYTES }
 {
     let fields = [number, place, 0, 0, 0, 0, 0];
     let len = 1 + ascii::fields_len(fields, 2);

@@ -3,7 +3,7 @@
 #![tactic(auto)]
 
 ghost use Rattle.std.specs.Prelude.{◌≡◌, ◌+◌, ◌*◌, ◌<◌, ◌≤◌, min, length};
-ghost use Rattle.sheet_entries.specs.Table.{ENTRIES};
+ghost use Rattle.sheet_entries.specs.Table as tables;
 
 use ascii::Said;
 use card::Card;
@@ -267,7 +267,7 @@ fn number_64(bytes: &[u8], at: usize) -> u64 {
 
 // The k-th place of the entries, six to each: kind, contact or slot, start, length, msgno, version. In bytes msgno and version stand before start and length.
 fn place(bytes: &[u8], k: usize) -> u64
-    requires { k < 6 * ENTRIES }
+    requires { k < 6 * tables.ENTRIES }
 {
     let at = ENTRY * (k / RECORD);
     match k % RECORD {
@@ -282,7 +282,7 @@ fn place(bytes: &[u8], k: usize) -> u64
 
 // The records of so many entries.
 fn records_of(bytes: &[u8], count: usize) -> [u64; RECORDS]
-    requires { count ≤ ENTRIES }
+    requires { count ≤ tables.ENTRIES }
 {
     let mut records = [0u64; RECORDS];
     let n = RECORD * count;
