@@ -5,7 +5,7 @@ use Rattle.c_restore.specs.Faces.{answer_of}
 use Rattle.c_restore.proofs.answer_of.Goals as goal
 
 pub returns-in-Granted : goal.returns-in-Granted
-returns-in-Granted c = sym (ap answer_of c.restored-1.given.1)
+returns-in-Granted c = sym (ap answer_of c.in-Granted.is)
 
 pub returns-in-Refused : goal.returns-in-Refused
-returns-in-Refused c = sym (ap answer_of c.restored-in-Refused-1.given.1)
+returns-in-Refused c = sym (ap answer_of c.in-Refused.is)
