@@ -6,9 +6,9 @@ use Rattle.c_contact.proofs.sicklestar_check_contact.Goals as goal
 pub returns-in-Accepted : goal.returns-in-Accepted
 returns-in-Accepted c =
     let a = c.args in
-    asked a.version a.row.now c.ask_contact.ensures c.enum_told-1.given.1
+    asked a.version a.row.now c.ask_contact.ensures c.in-Accepted.is
 
 pub returns-in-Refused : goal.returns-in-Refused
 returns-in-Refused c =
     let a = c.args in
-    asked a.version a.row.now c.ask_contact.ensures c.number-1.given.1
+    asked a.version a.row.now c.ask_contact.ensures c.in-Refused.is
