@@ -8,9 +8,10 @@ ghost use Rattle.put.specs.Put.{Wrote};
 ghost use Rattle.numbers.specs.Ranges.{range};
 ghost use Rattle.received.specs.Lent.{pairs};
 ghost use Rattle.numbers.specs.Decimal.{decimal};
-ghost use Rattle.ascii.specs.Words.{SPACE};
 ghost use Rattle.ascii.specs.Hex.{hex_of};
-ghost use Rattle.replay_answer.specs.Transcript.{EQUALS, line_of, truth_text, added_text, place_text, answer_text, range_text, listed, ranges_text, state_text};
+ghost use Rattle.replay_answer.specs.Transcript.{line_of, truth_text, added_text, place_text, answer_text, range_text, listed, ranges_text, state_text};
+ghost use Rattle.ascii.specs.Words as texts;
+ghost use Rattle.replay_answer.specs.Transcript as transcript;
 
 use calls_code::{ADVANCED, NO, NUMBER, SAID, TRUTH, WROTE, YES};
 use layout::question;
@@ -31,7 +32,7 @@ const AROUND: usize = 3;
 
 fn begin(out: &mut [u8]) -> usize
     requires { 3 ≤ length out.old }
-    ensures { (result ≡ 2) × Wrote out.old 0 (EQUALS ∷ SPACE ∷ []) out.new result }
+    ensures { (result ≡ 2) × Wrote out.old 0 (transcript.EQUALS ∷ texts.SPACE ∷ []) out.new result }
 {
     let at = put::put_byte(out, 0, EQUALS);
     put::put_byte(out, at, SPACE)
@@ -164,7 +165,7 @@ pub fn answer_line(tag: u64, a: u64, b: u64, bytes: &[u8], out: &mut [u8]) -> Wr
 
 // The length of a range and the mark before it.
 fn range_len(from: u64, to: u64) -> usize
-    ensures { (result ≡ length (SPACE ∷ range_text (range from to))) × (result ≤ 42) }
+    ensures { (result ≡ length (texts.SPACE ∷ range_text (range from to))) × (result ≤ 42) }
 {
     ascii::decimal_len(from) + ascii::decimal_len(to) + 2
 }
@@ -172,7 +173,7 @@ fn range_len(from: u64, to: u64) -> usize
 // Whether there is room for the text of some ranges.
 fn listed_fit(above: &[u32], count: usize, room: usize) -> bool
     requires { 2 * count ≤ length above.now }
-    ensures { result ≡ leb (length (listed SPACE (pairs count above.now))) room }
+    ensures { result ≡ leb (length (listed texts.SPACE (pairs count above.now))) room }
 {
     let mut left = room;
     let mut i = 0;
@@ -210,8 +211,8 @@ fn put_range(out: &mut [u8], at: usize, mark: u8, from: u64, to: u64) -> usize
 }
 
 fn put_listed(out: &mut [u8], at: usize, above: &[u32], count: usize) -> usize
-    requires { (2 * count ≤ length above.now) × (at + length (listed SPACE (pairs count above.now)) ≤ length out.old) }
-    ensures { (result ≡ at + length (listed SPACE (pairs count above.now))) × Wrote out.old at (listed SPACE (pairs count above.now)) out.new result }
+    requires { (2 * count ≤ length above.now) × (at + length (listed texts.SPACE (pairs count above.now)) ≤ length out.old) }
+    ensures { (result ≡ at + length (listed texts.SPACE (pairs count above.now))) × Wrote out.old at (listed texts.SPACE (pairs count above.now)) out.new result }
 {
     let mut mark = SPACE;
     let mut here = at;

@@ -6,7 +6,8 @@ ghost use Rattle.std.specs.Prelude.{◌≡◌, ◌*◌, ◌≤◌, ◌<◌, min,
 ghost use Rattle.store.specs.Store.{store_of, restore, no_entry};
 ghost use Rattle.restore_entries.specs.Next.{next_in};
 ghost use Rattle.restore.specs.Restored.{answered};
-ghost use Rattle.sheet_entries.specs.Table.{ENTRIES, in_field, entry_from, entries_from, overlaid};
+ghost use Rattle.sheet_entries.specs.Table.{in_field, entry_from, entries_from, overlaid};
+ghost use Rattle.sheet_entries.specs.Table as tables;
 
 use restore::Restored;
 use sheet::RECORD;
@@ -20,7 +21,7 @@ const HIGHEST_32: u64 = 0xFFFFFFFF;
 
 // How many of n entries a table has.
 fn held(n: usize) -> usize
-    ensures { result ≡ min n ENTRIES }
+    ensures { result ≡ min n tables.ENTRIES }
 {
     if n <= ENTRIES { n } else { ENTRIES }
 }
@@ -57,7 +58,7 @@ pub fn field_at(records: &[u64], i: usize) -> u32
 // The entry of the i-th line, from the six numbers that a sheet's reader left of it. A number that is wider than its field counts as the field's highest: a
 // sheet that was read leaves none.
 pub fn entry_from(records: &[u64], i: usize) -> Entry
-    requires { i < ENTRIES }
+    requires { i < tables.ENTRIES }
     ensures { result ≡ entry_from (drop (6 * i) records.now) }
 {
     let at = RECORD * i;
@@ -94,7 +95,7 @@ pub fn no_entry() -> Entry
 // ---- a table is filled
 
 fn fill_at(records: &[u64], table: &mut [Entry], i: usize, place: usize) -> usize
-    requires { i < ENTRIES }
+    requires { i < tables.ENTRIES }
     ensures { (result ≡ next_in table.old place) × (table.new ≡ set table.old place (entry_from (drop (6 * i) records.now))) }
 {
     let e = entry_from(records, i);
@@ -102,7 +103,7 @@ fn fill_at(records: &[u64], table: &mut [Entry], i: usize, place: usize) -> usiz
 }
 
 fn fill_from(records: &[u64], table: &mut [Entry], n: usize) -> usize
-    requires { n ≤ ENTRIES }
+    requires { n ≤ tables.ENTRIES }
     ensures { (result ≡ min n (length table.old)) × (table.new ≡ overlaid table.old (entries_from n records.now)) }
 {
     let mut i = 0;
@@ -116,8 +117,8 @@ fn fill_from(records: &[u64], table: &mut [Entry], n: usize) -> usize
 
 // Stores the entries of so many lines to the front of the table, as many as there is room for, and answers how many.
 pub fn fill(records: &[u64], lines: usize, table: &mut [Entry]) -> usize
-    ensures { (result ≡ min (min lines ENTRIES) (length table.old))
-        × (table.new ≡ overlaid table.old (entries_from (min lines ENTRIES) records.now)) }
+    ensures { (result ≡ min (min lines tables.ENTRIES) (length table.old))
+        × (table.new ≡ overlaid table.old (entries_from (min lines tables.ENTRIES) records.now)) }
 {
     let n = held(lines);
     fill_from(records, table, n)
@@ -127,7 +128,7 @@ pub fn fill(records: &[u64], lines: usize, table: &mut [Entry]) -> usize
 
 // What restore answers of the entries of so many lines.
 pub fn restore(run: &[u8], records: &[u64], lines: usize) -> Restored
-    ensures { result ≡ answered (restore (store_of run.now (entries_from (min lines ENTRIES) records.now))) }
+    ensures { result ≡ answered (restore (store_of run.now (entries_from (min lines tables.ENTRIES) records.now))) }
 {
     let blank = no_entry();
     let mut table = [blank; ENTRIES];
