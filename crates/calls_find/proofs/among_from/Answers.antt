@@ -1,6 +1,6 @@
 -- `calls_find::among_from` meets its contract: one turn is one entry more.
 -- Assumes nothing.
-use Rattle.std.proofs.Common.{◌≡◌, false, take, ◌∙◌, ap}
+use Rattle.std.proofs.Common.{false, take, ◌∙◌, ap}
 use Rattle.calls_find.specs.Sought.{next_among}
 use Rattle.calls_find.proofs.Folds.{begins, goes_on, ends, front-entry, front-inside, front-behind}
 use Rattle.calls_find.proofs.among_from.Goals as goal

@@ -1,6 +1,6 @@
 -- `calls_find::queued_from` meets its contract: one turn is one entry more.
 -- Assumes nothing.
-use Rattle.std.proofs.Common.{◌≡◌, take, ◌∙◌, ap}
+use Rattle.std.proofs.Common.{take, ◌∙◌, ap}
 use Rattle.store.specs.Store.{entry_at}
 use Rattle.calls_find.specs.Sought.{queued_next}
 use Rattle.calls_find.proofs.Folds.{begins, goes_on, ends, front-entry, front-inside, front-behind}

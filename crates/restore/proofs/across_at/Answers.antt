@@ -1,7 +1,4 @@
 -- `restore::across_at` meets its contract: one turn of the questions across the rows.
-use Rattle.std.proofs.Common.{ℕ, List}
-use Rattle.store.specs.Store.{part_of}
-use Rattle.restore_across.specs.Owner.{owner_found, OwnerStands}
 use Rattle.restore.proofs.Across.{may-reuse, is_known, entry_turn-at}
 use Rattle.restore.proofs.across_at.Goals as goal
 

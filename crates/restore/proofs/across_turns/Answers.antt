@@ -1,5 +1,5 @@
 -- `restore::across_turns` meets its contract: one turn is one entry more.
-use Rattle.std.proofs.Common.{◌+◌, ◌≡◌, ◌<◌, ◌≤◌, ℕ, length, subst, arith}
+use Rattle.std.proofs.Common.{◌+◌, ◌<◌, ◌≤◌, ℕ, length, subst, arith}
 use Rattle.restore_across.specs.At.{At}
 use Rattle.restore.proofs.Across.{none_yet, at_last}
 use Rattle.restore.proofs.across_turns.Goals as goal

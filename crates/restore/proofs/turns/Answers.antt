@@ -1,5 +1,5 @@
 -- `restore::turns` meets its contract: one turn is one more of the round.
-use Rattle.std.proofs.Common.{◌≡◌, ℕ, length, ◌∙◌, ap}
+use Rattle.std.proofs.Common.{ℕ, ◌∙◌, ap}
 use Rattle.store.specs.Rounds.{turns}
 use Rattle.restore_rounds.specs.Rounds.{round_of}
 use Rattle.restore.proofs.Rounds.{starts, goes_on, stops}

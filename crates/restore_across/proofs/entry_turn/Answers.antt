@@ -1,7 +1,7 @@
 -- `restore_across::entry_turn` meets its contract.
-use mathlib.Core.Path.{refl, ap}
-use Rattle.store.specs.Kinds.{device, contact, queued, courier, unknown, kind_of}
-use Rattle.restore_across.proofs.Turns.{entry_turn-as, no_kind}
+use mathlib.Core.Path.{ap}
+use Rattle.store.specs.Kinds.{device, contact, queued, courier, kind_of}
+use Rattle.restore_across.proofs.Turns.{entry_turn-as}
 use Rattle.restore_across.proofs.entry_turn.Goals as goal
 
 pub returns-in_default : goal.returns-in_default

@@ -1,5 +1,5 @@
 -- `restore_rounds::row_verdict` meets its contract: the kind's code tells which layout the row is read by.
-use Rattle.std.proofs.Common.{◌≡◌, ℕ, List, refl, ne_eqb, rules}
+use Rattle.std.proofs.Common.{◌≡◌, ℕ, List, ne_eqb, rules}
 use Rattle.std.proofs.Math.Option.{Option, some}
 use Rattle.layout.specs.Layout as layout
 use Rattle.layout.specs.Layout.{read_row}

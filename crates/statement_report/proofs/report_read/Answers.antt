@@ -1,6 +1,6 @@
 -- `statement_report::report_read` meets its contract: no more lines and blob bytes count than there is room for.
 -- Assumes nothing.
-use mathlib.Core.Path.{◌≡◌, sym}
+use mathlib.Core.Path.{◌≡◌}
 use native.Mathlib.Omega.{arith}
 use lib.ListN.{length, take}
 use lib.Seq.{length-take-le}

@@ -7,7 +7,7 @@ use Rattle.layout.specs.Layout.{group}
 use Rattle.rows.specs.Rows.{range}
 use Rattle.numbers.specs.Sets.{size_from}
 use Rattle.contact_checks.proofs.Cells.{standing, all_shown, Turn, turn, none_left}
-use Rattle.contact_checks.proofs.Fields.{range_at, ranges, range-shows, Begin, range-read}
+use Rattle.contact_checks.proofs.Fields.{range_at, range-shows, Begin, range-read}
 use Rattle.statement_line.proofs.Numbers.{counted, all-counted}
 use Rattle.statement_text.proofs.numbers_in_row.Goals as goal
 
