@@ -1,4 +1,4 @@
-// A loop that lends two `&mut` slices again in each turn, as tools/walks writes its proof, until the product has one. `sheet_entries::fill_from` lends one.
+// A loop that lends two `&mut` slices again in each turn, until the product has one. `sheet_entries::fill_from` lends one.
 #![tactic(auto)]
 
 ghost use Rattle.std.specs.Prelude.{◌≡◌, map, ◌≤◌, min, length, set, take};

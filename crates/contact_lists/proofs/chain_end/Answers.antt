@@ -1,5 +1,5 @@
 -- `contact_lists::chain_end` meets its contract: one step of the layout for each field.
--- Written by tools/fields/fieldgen.py, and not edited: tools/fields/README.md says how. Assumes nothing.
+-- Assumes nothing.
 use mathlib.Core.Bool.{Bool, true, false}
 use mathlib.Core.Path.{sym, ap, subst, ◌∙◌}
 use Rattle.layout.specs.Veil.{veiled}

@@ -1,5 +1,5 @@
 -- `contact_parts::pending_at` meets its contract: the flag, and then the field or nothing.
--- Written by tools/fields/fieldgen.py, and not edited: tools/fields/README.md says how. Assumes nothing.
+-- Assumes nothing.
 use Prim.Native.Nat.{ℕ, ◌+◌}
 use mathlib.Core.Bool.{Bool, true, false}
 use mathlib.Core.Option.{some}

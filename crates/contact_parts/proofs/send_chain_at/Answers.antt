@@ -1,5 +1,5 @@
 -- `contact_parts::send_chain_at` meets its contract: one step of the layout for each field.
--- Written by tools/fields/fieldgen.py, and not edited: tools/fields/README.md says how. Assumes nothing.
+-- Assumes nothing.
 use Prim.Native.Nat.{ℕ, ◌+◌}
 use mathlib.Core.Path.{◌≡◌, refl, ap, ◌∙◌}
 use native.Mathlib.Omega.{arith}

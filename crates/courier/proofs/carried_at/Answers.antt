@@ -1,5 +1,5 @@
 -- `courier::carried_at` meets its contract: one step of the layout for each field and question.
--- Written by tools/fields/fieldgen.py, and not edited: tools/fields/README.md says how. Assumes nothing.
+-- Assumes nothing.
 use Prim.Native.Nat.{ℕ, ◌+◌}
 use mathlib.Core.Bool.{not}
 use mathlib.Core.Path.{◌≡◌, refl, sym, ap, ◌∙◌}

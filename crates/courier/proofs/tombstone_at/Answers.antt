@@ -1,5 +1,5 @@
 -- `courier::tombstone_at` meets its contract: one step of the layout for each field.
--- Written by tools/fields/fieldgen.py, and not edited: tools/fields/README.md says how. Assumes nothing.
+-- Assumes nothing.
 use Prim.Native.Nat.{ℕ, ◌+◌}
 use mathlib.Core.Path.{◌≡◌}
 use native.Mathlib.Omega.{arith}

@@ -1,5 +1,5 @@
 -- `queued::check_queued` meets its contract: one step of the layout for each field and question.
--- Written by tools/fields/fieldgen.py from tools/fields/queued.check_queued.cfg.py, and not edited: tools/fields/README.md says how. Assumes nothing.
+-- Assumes nothing.
 use Prim.Native.Nat.{ℕ, ◌+◌}
 use mathlib.Core.Path.{◌≡◌, sym, ap, ◌∙◌}
 use native.Mathlib.Omega.{arith}
