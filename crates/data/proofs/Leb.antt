@@ -1,15 +1,15 @@
 -- Laws of LEB128 a byte at a time, for the loop of the reader (`Reading`) and the loops of the writers (`Printing`): where each begins, a turn of it, and where it ends.
 -- Assumes nothing.
-use Prim.Native.Nat.{ℕ, zero, suc, ◌+◌, ◌*◌, ◌/◌, ◌%◌, ◌-◌, ◌^◌, ◌≤◌, ◌<◌}
+use Prim.Native.Nat.{ℕ, zero, suc, min, ◌+◌, ◌*◌, ◌/◌, ◌%◌, ◌-◌, ◌^◌, ◌≤◌, ◌<◌}
 use mathlib.Core.List.{List, [], ◌∷◌}
 use mathlib.Core.Bool.{Bool, true, false}
-use mathlib.Core.Path.{◌≡◌, refl, ap}
+use mathlib.Core.Path.{◌≡◌, refl, sym, ap, ◌∙◌}
 use native.Mathlib.Omega.{arith}
 use native.Mathlib.Decide.{dec_lt}
-use native.Mathlib.Nat.{pow-suc, one-le-pow, le-mul_of_pos_right, mul-le-mul_right}
+use native.Mathlib.Nat.{pow-suc, mul-le-mul_right}
 use native.Mathlib.Numerals.{add-one}
-use lib.ListN.{length, get_or, drop, drop_of_length-le}
-use lib.Seq.{drop-cons}
+use lib.ListN.{length, get_or, take, drop, length-drop, drop_of_length-le}
+use lib.Seq.{drop-cons, drop-drop, take_all}
 use lib.Dec.{ltb}
 use borrow.Author.Tests.{ltb-true, le-leb, lt-leb, lt-ltb, le-ltb, ne_eqb}
 use Rattle.layout.specs.Questions.{FIELD, LEB128}
@@ -41,17 +41,16 @@ last_byte zero false b rest k z h = rw (le-ltb 15 b (k refl))
 last_byte (suc l) true b rest k z h = rw (lt-leb 128 b h, ne_eqb b 0 (z refl))
 last_byte (suc l) false b rest k z h = rw (lt-leb 128 b h)
 
-more_bytes : (left : ℕ) (later : Bool) (b : ℕ) (rest : List ℕ) → 0 < left → 128 ≤ b → leb_read left later (b ∷ rest) ≡ onto (λ n. b % 128 + 128 * n) (leb_read (left - 1) true rest)
+more_bytes : (l : ℕ) (later : Bool) (b : ℕ) (rest : List ℕ) → 128 ≤ b → leb_read (suc l) later (b ∷ rest) ≡ onto (λ n. b % 128 + 128 * n) (leb_read l true rest)
 unfolding form.leb_read
-more_bytes zero later b rest k h = absurd (omega arith)
-more_bytes (suc l) later b rest k h = let e : suc l - 1 ≡ l = omega arith in rw (le-leb 128 b h, e)
+more_bytes l later b rest h = rw (le-leb 128 b h) refl
 
--- ---- the reader's loop: what is left of the row, scaled and added to the sum, answers as the whole does
-pub record Reading (row : List ℕ) (at sum scale left here : ℕ) : Type 0 where
-  pub few : left ≤ 4
+-- ---- the reader's loop: what is left of the bytes, scaled and added to the sum, answers as the whole does
+pub record Reading (bytes : List ℕ) (sum scale left i : ℕ) : Type 0 where
+  pub few : left + i ≡ 4
   pub scaled : scale * 128 ^ left ≡ 128 ^ 4
   pub below : sum < scale
-  pub answers : leb_read 4 false (drop at row) ≡ onto (λ n. sum + n * scale) (leb_read left (ltb left 4) (drop here row))
+  pub answers : leb_read 4 false bytes ≡ onto (λ n. sum + n * scale) (leb_read left (ltb 0 i) (drop i bytes))
 
 onto_same : (f : ℕ → ℕ) → ((n : ℕ) → n ≡ f n) → (x : Read ℕ) → x ≡ onto f x
 onto_same f e (value n rest) = ap (λ (m : ℕ). value m rest) (e n)
@@ -61,60 +60,66 @@ onto-onto : (f g h : ℕ → ℕ) → ((n : ℕ) → f (g n) ≡ h n) → (x : R
 onto-onto f g h e (value n rest) = ap (λ (m : ℕ). value m rest) (e n)
 onto-onto f g h e (refused q) = refl
 
-pub reading : (row : List ℕ) (at : ℕ) → Reading row at 0 1 4 at
-reading row at = record {
-  few = omega arith;
+pub reading : (bytes : List ℕ) → Reading bytes 0 1 4 0
+reading bytes = record {
+  few = refl;
   scaled = refl;
   below = omega arith;
-  answers = onto_same _ (λ n. omega arith) (leb_read 4 false (drop at row));
+  answers = onto_same _ (λ n. omega arith) (leb_read 4 false bytes);
 }
 
-module _ {row : List ℕ} {at sum scale left here : ℕ} (r : Reading row at sum scale left here) where
-  -- ---- nothing overflows
-  pub small : scale ≤ 128 ^ 4
-  small = omega (arith, le-mul_of_pos_right scale (one-le-pow left 128 (omega arith)), r.scaled)
+module _ {bytes : List ℕ} {sum scale left i : ℕ} (r : Reading bytes sum scale left i) where
+  -- ---- the bytes end, or the next one refuses, ends the number or goes on
+  pub bytes-end : length bytes ≤ i → leb_read 4 false bytes ≡ refused FIELD
+  bytes-end h = rw (r.answers, drop_of_length-le bytes {i = i} h, no_byte left (ltb 0 i)) refl
 
-  pub added : {x : ℕ} → x < 128 → sum + x * scale < scale * 128
-  added {x} h = omega (arith, mul-le-mul_right {m = x} {n = 127} scale (omega arith), r.below)
+  module _ (h : i < length bytes) where
+    pub too-high : i ≡ 4 → 15 < get_or bytes i 0 → leb_read 4 false bytes ≡ refused LEB128
+    too-high e k = let last : left ≡ 0 = omega (arith, r.few) in rw (r.answers, drop-cons bytes i 0 h, last, high_byte (ltb 0 i) (get_or bytes i 0) _ k) refl
 
-  pub narrow : {x : ℕ} → x < 128 → (left ≡ 0 → x ≤ 15) → sum + x * scale < 2 ^ 32
-  narrow {x} h = go left r.scaled
-    where
-      go : (left : ℕ) → scale * 128 ^ left ≡ 128 ^ 4 → (left ≡ 0 → x ≤ 15) → sum + x * scale < 2 ^ 32
-      go zero e k = omega (arith, mul-le-mul_right scale (k refl), r.below)
-      go (suc l) e k = omega (arith, le-mul_of_pos_right (scale * 128) (one-le-pow l 128 (omega arith)), rw (pow-suc 128 l) at e, added h)
+    pub zero-last : 0 < i → get_or bytes i 0 ≡ 0 → leb_read 4 false bytes ≡ refused LEB128
+    zero-last l e = rw (r.answers, drop-cons bytes i 0 h, e, lt-ltb 0 i l, zero-byte left _) refl
 
-  -- ---- the row ends, or its next byte refuses, ends the number or goes on
-  refuses-here : {q : ℕ} → leb_read left (ltb left 4) (drop here row) ≡ refused q → read_at leb128 row at ≡ refuses q
-  refuses-here e = refuses-at row at leb128 (rw (r.answers, e))
-
-  pub row_ends : length row ≤ here → read_at leb128 row at ≡ refuses FIELD
-  row_ends h = refuses-here (rw (drop_of_length-le row {i = here} h) (no_byte left (ltb left 4)))
-
-  module _ (h : here < length row) where
-    pub too-high : left ≡ 0 → 15 < get_or row here 0 → read_at leb128 row at ≡ refuses LEB128
-    too-high e k = refuses-here (rw (drop-cons row here 0 h, e) (high_byte true (get_or row here 0) _ k))
-
-    pub zero-last : left < 4 → get_or row here 0 ≡ 0 → read_at leb128 row at ≡ refuses LEB128
-    zero-last l e = refuses-here (rw (drop-cons row here 0 h, lt-ltb left 4 l, e) (zero-byte left _))
-
-    module _ {x : ℕ} (e : x ≡ get_or row here 0 % 128) where
-      pub number-ends : (left ≡ 0 → get_or row here 0 ≤ 15) → (left < 4 → get_or row here 0 ≡ 0 → ⊥) → get_or row here 0 < 128 → read_at leb128 row at ≡ takes (sum + x * scale) (here + 1)
+    module _ {x : ℕ} (e : x ≡ get_or bytes i 0 % 128) where
+      pub number-ends : (i ≡ 4 → get_or bytes i 0 ≤ 15) → (0 < i → get_or bytes i 0 ≡ 0 → ⊥) → get_or bytes i 0 < 128 → leb_read 4 false bytes ≡ value (sum + x * scale) (drop (i + 1) bytes)
       number-ends fifth last k =
-          let low : get_or row here 0 ≡ x = omega arith in
-          let reads = last_byte left (ltb left 4) (get_or row here 0) (drop (suc here) row) fifth (λ l. last (ltb-true left 4 l)) k in
-          takes_at row at leb128 (rw (r.answers, drop-cons row here 0 h, reads, add-one, low)) (omega arith)
+          let low : get_or bytes i 0 ≡ x = omega arith in
+          let reads = last_byte left (ltb 0 i) (get_or bytes i 0) (drop (suc i) bytes) (λ z. fifth (omega (arith, r.few))) (λ l. last (ltb-true 0 i l)) k in
+          rw (r.answers, drop-cons bytes i 0 h, reads, add-one, low) refl
 
-      pub goes_on : 0 < left → 128 ≤ get_or row here 0 → Reading row at (sum + x * scale) (scale * 128) (left - 1) (here + 1)
-      goes_on s k =
-          let one_more : left ≡ suc (left - 1) = omega arith in
-          let reads = more_bytes left (ltb left 4) (get_or row here 0) (drop (suc here) row) s k in
-          record {
-            few = omega arith;
-            scaled = omega (arith, rw (one_more, pow-suc 128 (left - 1)) at r.scaled);
-            below = added (omega arith);
-            answers = rw (r.answers, drop-cons row here 0 h, reads, add-one, lt-ltb (left - 1) 4 (omega arith), e) (onto-onto _ _ _ (λ n. omega arith) (leb_read (left - 1) true (drop (suc here) row)));
-          }
+      pub goes_on : {l : ℕ} → left ≡ suc l → 128 ≤ get_or bytes i 0 → Reading bytes (sum + x * scale) (scale * 128) l (i + 1)
+      goes_on {l} s k = record {
+        few = omega (arith, r.few);
+        scaled = omega (arith, rw (s, pow-suc 128 l) at r.scaled);
+        below = omega (arith, mul-le-mul_right {m = x} {n = 127} scale (omega arith), r.below);
+        answers = rw (r.answers, drop-cons bytes i 0 h, s, more_bytes l (ltb 0 i) (get_or bytes i 0) (drop (suc i) bytes) k, add-one, lt-ltb 0 (suc i) (omega arith), e) (onto-onto _ _ _ (λ n. omega arith) (leb_read l true (drop (suc i) bytes)));
+      }
+
+-- ---- the bytes from a position on, and nothing past the row's end
+module _ (row : List ℕ) (at : ℕ) {start : ℕ} (from : start ≡ min at (length row)) where
+  abbrev bytes : List ℕ
+  bytes = take (length row - start) (drop start row)
+
+  whole : bytes ≡ drop start row
+  whole = take_all (length row - start) (drop start row) (rw (length-drop start row) (omega arith))
+
+  long : length bytes ≡ length row - start
+  long = rw whole (length-drop start row)
+
+  bytes-are : bytes ≡ drop at row
+  bytes-are = whole ∙ elim (dec_lt (length row) at) [
+    | yes h ↦ drop_of_length-le row {i = start} (omega (arith, from)) ∙ sym (drop_of_length-le row {i = at} (omega arith))
+    | no h ↦ ap (λ (n : ℕ). drop n row) (omega (arith, from))
+  ]
+
+  pub refused-there : {q : ℕ} → leb_read 4 false bytes ≡ refused q → refuses q ≡ read_at leb128 row at
+  refused-there e = sym (refuses-at row at leb128 (ap (leb_read 4 false) (sym bytes-are) ∙ e))
+
+  pub taken-there : {n i : ℕ} → i < length bytes → leb_read 4 false bytes ≡ value n (drop (i + 1) bytes) → takes n (start + i + 1) ≡ read_at leb128 row at
+  taken-there {n} {i} h e =
+      let next : start + (i + 1) ≡ start + i + 1 = omega arith in
+      let left : drop (i + 1) bytes ≡ drop (start + i + 1) row = ap (drop (i + 1)) whole ∙ drop-drop (i + 1) start row ∙ ap (λ (k : ℕ). drop k row) next in
+      sym (takes_at row at leb128 (ap (leb_read 4 false) (sym bytes-are) ∙ e ∙ ap (value n) left) (omega (arith, h, long)))
 
 -- ---- the writers' loops: P holds of what is left to print
 pub record Printing (P : List ℕ → Type 0) (n : ℕ) : Type 0 where

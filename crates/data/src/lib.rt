@@ -6,53 +6,35 @@ ghost use Rattle.std.specs.Prelude.{◌≡◌, ◌+◌, ◌≤◌, length};
 ghost use Rattle.layout.specs.Form.{leb128, leb_print};
 ghost use Rattle.layout.specs.Field.{read_at};
 ghost use Rattle.layout.specs.Write.{stored};
-ghost use Rattle.rows.specs.Answers.{leaves};
+ghost use Rattle.layout.specs.Says.{says, leaves};
 ghost use Rattle.put.specs.Put.{Wrote};
-ghost use Rattle.data.specs.Says.{leb128_says};
 
-use layout::question;
-use rows::Written;
+use layout::Question;
 
-#[derive(Clone, Copy)]
-pub enum Leb128Field {
-    Value(u32, usize),
-    Refused(u8),
-}
-
-// The number at a position. `left` more bytes may follow the one at `here`: the fifth is at most 0x0f, and no zero comes last behind others.
-pub fn leb128_at(row: &[u8], at: usize) -> Leb128Field
-    ensures { leb128_says result ≡ read_at leb128 row.now at }
+// The number at a position: five bytes at most, of which the fifth is at most 0x0f, and no zero comes last behind others.
+pub fn leb128_at(row: &[u8], at: usize) -> Result<(u32, usize), Question>
+    ensures { says result ≡ read_at leb128 row.now at }
 {
-    let mut value: u64 = 0;
-    let mut scale: u64 = 1;
-    let mut left: usize = 4;
-    let mut here = at;
-    while here < row.len() {
-        let byte = row[here];
-        if left == 0 {
-            if 0x0f < byte {
-                return Leb128Field::Refused(question::LEB128);
-            }
+    let start = at.min(row.len());
+    let bytes = &row[start..];
+    let mut value: u32 = 0;
+    let mut scale: u32 = 1;
+    for (i, byte) in bytes.iter().enumerate() {
+        if (i == 4 && 0x0f < *byte) || (0 < i && *byte == 0) {
+            return Err(Question::Leb128);
         }
-        if byte == 0 {
-            if left < 4 {
-                return Leb128Field::Refused(question::LEB128);
-            }
-        }
-        here += 1;
-        value += width::wide_byte(byte % 128) * scale;
-        if byte < 0x80 {
-            return Leb128Field::Value(value as u32, here);
+        value += u32::from(*byte % 128) * scale;
+        if *byte < 0x80 {
+            return Ok((value, start + i + 1));
         }
         scale *= 128;
-        left -= 1;
     }
-    Leb128Field::Refused(question::FIELD)
+    Err(Question::Field)
 }
 
 // The number that an input begins with; the next position is its length.
-pub fn read_leb128(input: &[u8]) -> Leb128Field
-    ensures { leb128_says result ≡ read_at leb128 input.now 0 }
+pub fn read_leb128(input: &[u8]) -> Result<(u32, usize), Question>
+    ensures { says result ≡ read_at leb128 input.now 0 }
 {
     leb128_at(input, 0)
 }
@@ -85,13 +67,13 @@ pub fn put_leb128(value: u32, out: &mut [u8], at: usize) -> usize
 }
 
 // Writes a number to the front of the output, if there is room.
-pub fn leb128(value: u32, out: &mut [u8]) -> Written
+pub fn leb128(value: u32, out: &mut [u8]) -> Result<usize, Question>
     ensures { leaves result out.new ≡ stored (leb_print 4 value) out.old }
 {
     let n = leb128_len(value);
     if out.len() < n {
-        return Written::Refused(question::OUTPUT);
+        return Err(Question::Output);
     }
     put_leb128(value, out, 0);
-    Written::Length(n)
+    Ok(n)
 }

@@ -10,5 +10,8 @@ pub mod Derived
 pub mod Theorems
 pub mod Dwarf
 pub mod At
+pub mod Along
+pub mod Walk
 pub mod Steps
+pub mod Optional
 pub mod Write

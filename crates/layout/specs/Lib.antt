@@ -6,5 +6,6 @@ pub mod Layout
 pub mod Field
 pub mod RowLaws
 pub mod Write
+pub mod Says
 pub mod Width
 pub mod Dwarf

@@ -1,7 +1,9 @@
 -- The numbers of the questions of documents 01 (1 to 44) and 02 (45 to 58), by name: what is answered where the answer to the question is no.
 -- 54 is asked between 16 and 17, so it belongs to every range of numbers that spans this place: 3 to 24, 17 to 24, 1 to 33.
--- `src/question.rt` has the same names for code. Assumes nothing.
+-- `src/question.rt` has the same names for code, and `number_of` says which is which. Assumes nothing.
 use Rattle.std.specs.Prelude.{ℕ}
+use Rattle.layout.specs.declared.question.Question.{Question}
+use Rattle.layout.specs.declared.question.Question.TheVariants as question
 
 -- entry 0 a device, and every later kind 1 to 3 and not below the one before
 abbrev pub ORDER : ℕ
@@ -234,3 +236,64 @@ RIGHTS = 57
 -- a decimal from 0 to 12, and then LF
 abbrev pub RECORDS : ℕ
 RECORDS = 58
+
+-- ---- the question that code names, by its number
+abbrev pub number_of : Question → ℕ
+number_of question.Order = ORDER
+number_of question.Bounds = BOUNDS
+number_of question.Version = VERSION
+number_of question.Field = FIELD
+number_of question.Flag = FLAG
+number_of question.Code = CODE
+number_of question.Caps = CAPS
+number_of question.NameLength = NAME_LENGTH
+number_of question.NameUtf8 = NAME_UTF8
+number_of question.CardEnd = CARD_END
+number_of question.CourierConfig = COURIER_CONFIG
+number_of question.Leb128 = LEB128
+number_of question.SealedLength = SEALED_LENGTH
+number_of question.CarriedCopies = CARRIED_COPIES
+number_of question.CarriedExpiry = CARRIED_EXPIRY
+number_of question.RowEnd = ROW_END
+number_of question.ChainsCurrent = CHAINS_CURRENT
+number_of question.ChainsGens = CHAINS_GENS
+number_of question.SkippedKeys = SKIPPED_KEYS
+number_of question.SkippedCount = SKIPPED_COUNT
+number_of question.PeerAcked = PEER_ACKED
+number_of question.Unacked = UNACKED
+number_of question.Above = ABOVE
+number_of question.Expired = EXPIRED
+number_of question.ContactBelowNext = CONTACT_BELOW_NEXT
+number_of question.ContactNew = CONTACT_NEW
+number_of question.QueuedContact = QUEUED_CONTACT
+number_of question.QueuedMsgno = QUEUED_MSGNO
+number_of question.QueuedUnacked = QUEUED_UNACKED
+number_of question.QueuedNew = QUEUED_NEW
+number_of question.Depositor = DEPOSITOR
+number_of question.SlotNew = SLOT_NEW
+number_of question.SlotBelowLast = SLOT_BELOW_LAST
+number_of question.Store = STORE
+number_of question.ContactStored = CONTACT_STORED
+number_of question.Lists = LISTS
+number_of question.Range = RANGE
+number_of question.RangesFit = RANGES_FIT
+number_of question.MsgnoLeft = MSGNO_LEFT
+number_of question.Output = OUTPUT
+number_of question.Line = LINE
+number_of question.Decimal = DECIMAL
+number_of question.Blob = BLOB
+number_of question.SheetSize = SHEET_SIZE
+number_of question.Object = OBJECT
+number_of question.ObjectBounds = OBJECT_BOUNDS
+number_of question.ChunkFit = CHUNK_FIT
+number_of question.SLine = S_LINE
+number_of question.Sum = SUM
+number_of question.PeerRead = PEER_READ
+number_of question.SlotBelowNext = SLOT_BELOW_NEXT
+number_of question.SlotLost = SLOT_LOST
+number_of question.Window = WINDOW
+number_of question.ChainsCount = CHAINS_COUNT
+number_of question.Ticket = TICKET
+number_of question.Changes = CHANGES
+number_of question.Rights = RIGHTS
+number_of question.Records = RECORDS

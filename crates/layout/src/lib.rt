@@ -1,4 +1,6 @@
-// The layout language is a specification (specs/); its code is the numbers of the questions.
+// The layout language is a specification (specs/); its code is the questions, by name.
 #![tactic(auto)]
 
-pub mod question;
+pub use question::Question;
+
+mod question;

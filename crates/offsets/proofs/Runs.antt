@@ -2,32 +2,27 @@
 -- Assumes nothing.
 use Prim.Native.Nat.{ℕ, ◌+◌, ◌<◌}
 use mathlib.Core.List.{List}
-use mathlib.Core.Path.{◌≡◌, subst}
+use mathlib.Core.Path.{◌≡◌, sym}
 use native.Mathlib.Omega.{arith}
 use lib.ListN.{length, take, drop}
 use borrow.Author.Tests.{lt-leb}
 use Rattle.layout.specs.Questions.{FIELD}
 use Rattle.layout.specs.Veil.{plain}
 use Rattle.layout.specs.Form.{bytes}
-use Rattle.layout.specs.Field.{read_at}
+use Rattle.layout.specs.Field.{takes, read_at}
 use Rattle.layout.specs.RowLaws.{Bytes}
 use Rattle.layout.proofs.Front.{bytes-lawful}
-use Rattle.layout.proofs.At.{took-next, fits-at, learn}
-use Rattle.fields.specs.Says.{run_says, Ends}
-use Rattle.fields.specs.declared.RunField.{RunField}
-use Rattle.fields.specs.declared.RunField.TheVariants.{Value}
+use Rattle.layout.proofs.At.{took-next, fits-at}
 use Rattle.offsets.proofs.Offset.{not-past}
 
 pub record Run (here : ℕ) (bs : List ℕ) (start next : ℕ) : Type 0 where
   pub starts : start ≡ here
   pub ends : next ≡ here + length bs
 
-pub run-starts : (row : List ℕ) (here n : ℕ) {r : RunField} → Bytes row → 0 < n → (run_says n row r ≡ read_at (bytes plain n) row here) × Ends n r
-    → {start next : ℕ} → r ≡ Value start next → Run here (take n (drop start row)) start next
-run-starts row here n by some answer {start} {next} known =
-    let read = learn (run_says n row) answer.0 known in
-    let inside = not-past row here (bytes plain n) {q = FIELD} (rw (lt-leb n 0 some)) read in
-    let ends = took-next row here (bytes plain n) (bytes-lawful plain n) by read inside in
-    let long = fits-at row here (bytes plain n) (bytes-lawful plain n) by read in
-    let after : next ≡ start + n = subst (Ends n) known answer.1 in
+pub run-starts : (row : List ℕ) (here n : ℕ) → Bytes row → 0 < n → {start next : ℕ} → takes (take n (drop start row)) next ≡ read_at (bytes plain n) row here → next ≡ start + n
+    → Run here (take n (drop start row)) start next
+run-starts row here n by some known after =
+    let inside = not-past row here (bytes plain n) {q = FIELD} (rw (lt-leb n 0 some)) (sym known) in
+    let ends = took-next row here (bytes plain n) (bytes-lawful plain n) by (sym known) inside in
+    let long = fits-at row here (bytes plain n) (bytes-lawful plain n) by (sym known) in
     record { starts = omega (arith, ends, long, after); ends = ends }

@@ -1,13 +1,15 @@
 -- The laws of `put`, and how writers that stand one behind the other, or in a loop, are composed.
 -- Assumes nothing.
 use Prim.Native.Nat.{ℕ, zero, suc, ◌+◌, ◌-◌, ◌/◌, ◌%◌, ◌≤◌, ◌<◌}
-use mathlib.Core.List.{List, [], ◌∷◌, ◌++◌, append-nil}
+use mathlib.Core.List.{List, [], ◌∷◌, ◌++◌}
 use mathlib.Core.Path.{◌≡◌, refl, sym, ◌∙◌}
-use native.Mathlib.Nat.{add-zero, zero-add, add-suc, suc-add, sub-zero, zero-sub, sub_self, suc-sub-suc}
+use native.Mathlib.Nat.{add-zero, zero-add, add-suc, suc-add, sub-zero, zero-sub, suc-sub-suc}
 use native.Mathlib.Numerals.{add-one}
 use native.Mathlib.Omega.{arith}
 use lib.ListN.{length, get_or, set, take, drop, length-append, length-set, length-drop, drop_of_length-le, length-replicate}
-use lib.Seq.{length-take-le, take_all, drop-cons, get_or-take, get_or-drop, sets, sets-eq, set_comm}
+use lib.Seq.{length-take-le, take_all, drop-cons, sets, sets-eq, set_comm}
+use borrow.Rule.Slice.PartMut.{put_mid}
+use Rattle.std.proofs.lemmas.Slice.{put_mid-paste}
 use Rattle.layout.specs.Form as form
 use Rattle.layout.specs.Form.{bytes_of}
 use Rattle.layout.proofs.Front.{length-bytes_of}
@@ -115,13 +117,17 @@ module _ (l : List ℕ) (at : ℕ) (bs : List ℕ) where
   pub bytes-end : {m : List ℕ} (i : ℕ) → length bs ≡ i → Writing l at bs m (at + i) (drop i bs) → Wrote l at bs m (at + i)
   bytes-end i e w = writing-done (rw (drop_of_length-le bs {i = i} (omega arith)) at w)
 
+-- ---- a copy into the part of the buffer from at on, which n bytes fill
+pub wrote_part : (l ys bs : List ℕ) (at n : ℕ) → at + n ≤ length l → length bs ≡ n → ys ≡ bs → Wrote l at bs (put_mid at (at + n - at) l ys) (at + n)
+wrote_part l ys bs at n room long e = record {
+  now-is = put_mid-paste at (at + n - at) l ys bs n e (omega arith) (sym long) ∙ rw (take_all n bs (omega arith), ← long) (sym (put-eq l at bs (omega arith)));
+  next-is = rw long;
+}
+
 -- ---- a run of n bytes of s
 module _ (s : List ℕ) (from n : ℕ) where
   pub length_run : from + n ≤ length s → length (take n (drop from s)) ≡ n
   length_run h = length-take-le n (drop from s) (simp length-drop (omega arith))
-
-  pub run_at : (i : ℕ) → i < n → get_or (take n (drop from s)) i 0 ≡ get_or s (from + i) 0
-  run_at i h = rw (get_or-take, get_or-drop)
 
 -- a run of all the bytes
 pub whole_run : {l s m : List ℕ} {at p : ℕ} (n : ℕ) → length s ≡ n → Wrote l at (take n (drop 0 s)) m p → Wrote l at s m p
@@ -133,6 +139,3 @@ pub filled : (size n from : ℕ) (src : List ℕ) {m : List ℕ} {p : ℕ} → n
 filled size n from src few inside w =
     let long = length_run src from n inside in
     w.now-is ∙ put-zeros size (take n (drop from src)) (omega arith) ∙ rw long
-
-pub filled-whole : (n from : ℕ) (src : List ℕ) {m : List ℕ} {p : ℕ} → from + n ≤ length src → Wrote (zeros n) 0 (take n (drop from src)) m p → m ≡ take n (drop from src)
-filled-whole n from src inside w = filled n n from src (omega arith) inside w ∙ rw (sub_self, append-nil)

@@ -21,12 +21,10 @@ pub fn put_be(out: &mut [u8], at: usize, k: usize, v: u64) -> usize
     requires { at + k ≤ length out.old }
     ensures { (result ≡ at + k) × Wrote out.old at (bytes_of k v) out.new result }
 {
-    let mut i = k;
     let mut x = v;
-    while 0 < i {
-        i -= 1;
+    for i in (0..k).rev() {
         out[at + i] = (x % 256) as u8;
-        x = x / 256;
+        x /= 256;
     }
     at + k
 }
@@ -36,11 +34,7 @@ pub fn put_run(out: &mut [u8], at: usize, src: &[u8], from: usize, n: usize) -> 
     requires { (at + n ≤ length out.old) × (from + n ≤ length src.now) }
     ensures { (result ≡ at + n) × Wrote out.old at (take n (drop from src.now)) out.new result }
 {
-    let mut i = 0;
-    while i < n {
-        out[at + i] = src[from + i];
-        i += 1;
-    }
+    out[at..at + n].copy_from_slice(&src[from..from + n]);
     at + n
 }
 
@@ -49,56 +43,25 @@ pub fn put_zeros(out: &mut [u8], at: usize, n: usize) -> usize
     requires { at + n ≤ length out.old }
     ensures { (result ≡ at + n) × Wrote out.old at (zeros n) out.new result }
 {
-    let mut i = 0;
-    while i < n {
-        out[at + i] = 0;
-        i += 1;
-    }
+    out[at..at + n].fill(0);
     at + n
 }
 
-// An array of 16 bytes, whole.
-pub fn put_16(out: &mut [u8], at: usize, src: &[u8; 16]) -> usize
-    requires { at + 16 ≤ length out.old }
-    ensures { (result ≡ at + 16) × Wrote out.old at src.now out.new result }
+// An array of bytes, whole.
+pub fn put_array<const N: usize>(out: &mut [u8], at: usize, src: &[u8; N]) -> usize
+    requires { at + N ≤ length out.old }
+    ensures { (result ≡ at + N) × Wrote out.old at src.now out.new result }
 {
-    put_run(out, at, src, 0, 16)
+    out[at..at + N].copy_from_slice(src);
+    at + N
 }
 
-// An array of 32 bytes, whole.
-pub fn put_32(out: &mut [u8], at: usize, src: &[u8; 32]) -> usize
-    requires { at + 32 ≤ length out.old }
-    ensures { (result ≡ at + 32) × Wrote out.old at src.now out.new result }
+// The `N` bytes of `src` from a place, as an array.
+pub fn copy_array<const N: usize>(src: &[u8], from: usize) -> [u8; N]
+    requires { from + N ≤ length src.now }
+    ensures { result ≡ take N (drop from src.now) }
 {
-    put_run(out, at, src, 0, 32)
-}
-
-// The 16 bytes of `src` from a place, as an array.
-pub fn copy_16(src: &[u8], from: usize) -> [u8; 16]
-    requires { from + 16 ≤ length src.now }
-    ensures { result ≡ take 16 (drop from src.now) }
-{
-    let mut bytes = [0u8; 16];
-    put_run(&mut bytes, 0, src, from, 16);
-    bytes
-}
-
-// The 32 bytes of `src` from a place, as an array.
-pub fn copy_32(src: &[u8], from: usize) -> [u8; 32]
-    requires { from + 32 ≤ length src.now }
-    ensures { result ≡ take 32 (drop from src.now) }
-{
-    let mut bytes = [0u8; 32];
-    put_run(&mut bytes, 0, src, from, 32);
-    bytes
-}
-
-// The 48 bytes of `src` from a place, as an array.
-pub fn copy_48(src: &[u8], from: usize) -> [u8; 48]
-    requires { from + 48 ≤ length src.now }
-    ensures { result ≡ take 48 (drop from src.now) }
-{
-    let mut bytes = [0u8; 48];
-    put_run(&mut bytes, 0, src, from, 48);
+    let mut bytes = [0; N];
+    bytes.copy_from_slice(&src[from..from + N]);
     bytes
 }

@@ -1,6 +1,4 @@
+pub mod Fields
+mod Inside
 pub mod Owned
-pub mod Else
 pub mod Thin
-pub mod Took
-pub mod Range
-pub mod Skipped

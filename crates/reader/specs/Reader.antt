@@ -1,22 +1,35 @@
--- What is said of a range that a cursor has read, and of where an item ends.
+-- What a cursor's answers say, and those about a range and about where an item ends.
 -- Assumes nothing.
-use Rattle.layout.specs.Questions.{FIELD}
+use Rattle.std.specs.Prelude.{ℕ, ◌≡◌, Result, Ok, Err}
+use Rattle.layout.specs.declared.question.Question.{Question}
+use Rattle.layout.specs.Questions.{number_of}
 use Rattle.layout.specs.Field.{Field, takes, refuses}
+use Rattle.layout.specs.Says.{field_says}
 use Rattle.rows.specs.Values.{Range}
-use Rattle.reader.specs.declared.RangeField.{RangeField}
-use Rattle.reader.specs.declared.RangeField.TheVariants as range
-use Rattle.reader.specs.declared.EndField.{EndField}
-use Rattle.reader.specs.declared.EndField.TheVariants as end
+use Rattle.reader.specs.declared.Reader.{Reader}
 
-abbrev pub range_says : RangeField → Field Range
-range_says (range.Value from to next) = takes (record { from = from; to = to }) next
-range_says range.Short = refuses FIELD
+-- a cursor took what stands for `f` of its answer, and is left at `next`
+module _ {A B : Type 0} (f : A → B) where
+  abbrev pub taken_as : Result A Question → ℕ → Field B
+  taken_as (Ok a) next = takes (f a) next
+  taken_as (Err q) next = refuses (number_of q)
+
+module _ {A : Type 0} where
+  abbrev pub taken : Result A Question → ℕ → Field A
+  taken = taken_as (λ a. a)
+
+  -- the row stays, and so does the position where the answer is no
+  abbrev pub Stays : Reader → Reader → Result A Question → Type 0
+  Stays old new (Ok a) = new.row ≡ old.row
+  Stays old new (Err q) = new ≡ old
+
+abbrev pub range_of : ℕ × ℕ → Range
+range_of bounds = record { from = bounds.0; to = bounds.1 }
+
+abbrev pub range_says : Result ((ℕ × ℕ) × ℕ) Question → Field Range
+range_says = field_says range_of
 
 -- a field's end, whatever its value
 abbrev pub ended : {A : Type 0} → Field A → Field (Unit {0})
 ended (takes a next) = takes tt next
 ended (refuses q) = refuses q
-
-abbrev pub end_says : EndField → Field (Unit {0})
-end_says (end.Value next) = takes tt next
-end_says (end.Refused q) = refuses q

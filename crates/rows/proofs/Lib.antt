@@ -1,5 +1,6 @@
 pub mod Scalars
 pub mod Lawful
+pub mod Fields
 pub mod Tests
 pub mod Meets
 pub mod Proved

@@ -10,6 +10,7 @@ use lib.ListN.{length, take, drop, length-append}
 use lib.Dec.{leb, eqb}
 use lib.Seq.{take_at, drop_at}
 use borrow.Author.Tests.{eqb-true}
+use Rattle.std.specs.Prelude.{Result, Ok, Err}
 use Rattle.layout.specs.Questions.{VERSION, OUTPUT}
 use Rattle.layout.specs.Layout.{Layout, ask, print, fits_of, refusal_of, Answer, accepted, refused_by, read_row}
 use Rattle.layout.specs.Layout as layout
@@ -19,7 +20,6 @@ use Rattle.layout.specs.Write as write
 use Rattle.layout.proofs.Theorems.{accepted≢}
 use Rattle.layout.proofs.Write.{wrote≢refuses}
 use Rattle.rows.specs.Checks.{version_known}
-use Rattle.rows.specs.declared.Verdict.TheVariants.{Accepted, Refused}
 
 -- a writer's answer is a length: the row is one that reading accepts, and stands at the front of the output
 pub record Stands {A : Type 0} (l : Layout A) (row left : List ℕ) (n : ℕ) : Type 0 where
@@ -75,6 +75,6 @@ rewritten {A} l laws row by v e out =
 pub last-at : (front text : List ℕ) → drop (length (front ++ text) - length text) (front ++ text) ≡ text
 last-at front text = drop_at front text (length (front ++ text) - length text) (simp length-append (omega arith))
 
--- a verdict is not both
-pub accepted-not : {q : ℕ} → Accepted ≡ Refused q → ⊥
-accepted-not e = let z : ◌≡◌ {A = ℕ} 0 1 = cc in omega arith
+-- an answer is not both
+pub ok≢err : {A B : Type 0} {a : A} {b : B} → ◌≡◌ {A = Result A B} (Ok a) (Err b) → ⊥
+ok≢err e = let z : ◌≡◌ {A = ℕ} 0 1 = cc in omega arith

@@ -1,21 +1,18 @@
--- What the answers of row readers and writers say.
+-- What answers about rows say.
 -- Assumes nothing.
-use Rattle.std.specs.Prelude.{ℕ, List}
-use Rattle.layout.specs.Layout.{Answer, accepted, refused_by}
-use Rattle.layout.specs.Write as write
-use Rattle.rows.specs.declared.Verdict.{Verdict}
-use Rattle.rows.specs.declared.Verdict.TheVariants as verdict
-use Rattle.rows.specs.declared.Written.{Written}
-use Rattle.rows.specs.declared.Written.TheVariants as written
+use Rattle.std.specs.Prelude.{Result, Ok, Err}
+use Rattle.std.proofs.Math.Option.{Option, none, some}
+use Rattle.layout.specs.declared.question.Question.{Question}
+use Rattle.layout.specs.declared.question.Question.TheVariants as question
+use Rattle.layout.specs.Layout.{Answer}
+use Rattle.layout.specs.Says.{made}
 
-abbrev pub verdict_of : {A : Type 0} → Answer A → Verdict
-verdict_of (accepted v) = verdict.Accepted
-verdict_of (refused_by q) = verdict.Refused q
+module _ {A : Type 0} where
+  -- whether a row is accepted, or by which question it is refused: what was read is left out
+  abbrev pub verdict_of : Answer A → Answer (Unit {0})
+  verdict_of = made (λ v. tt)
 
-abbrev pub written_says : Written → write.Written
-written_says (written.Length n) = write.wrote n
-written_says (written.Refused q) = write.refuses q
-
--- a writer's answer, and the output as it leaves it
-abbrev pub leaves : Written → List ℕ → write.Left
-leaves r out = record { answer = written_says r; out = out }
+  -- what a code byte names, or question 6
+  abbrev pub named : Option A → Result A Question
+  named (some a) = Ok a
+  named none = Err question.Code

@@ -1,14 +1,11 @@
--- The laws of searching the table of buckets, and how long an allowed sealed text is at most.
+-- The laws of the table of buckets, and how long an allowed sealed text is at most.
 -- Assumes nothing.
 use Prim.Native.Nat.{ℕ, ◌+◌, ◌-◌, ◌≤◌, ◌<◌}
 use mathlib.Core.List.{List, [], ◌∷◌}
 use mathlib.Core.Bool.{Bool, true, false, ◌&&◌, ◌||◌, true≢false}
 use mathlib.Core.Path.{◌≡◌, refl, sym, ap, ap₂, ◌∙◌}
-use native.Mathlib.Numerals.{add-one}
 use native.Mathlib.Omega.{arith}
 use lib.Dec.{leb, eqb}
-use lib.ListN.{length, get_or, drop, drop_of_length-le}
-use lib.Seq.{drop-cons}
 use borrow.Author.Tests.{eq-eqb, ne_eqb, eqb-true, eqb-false, leb-true, le-leb}
 use Rattle.rows.specs.Checks.{any, all, INNER_BUCKETS, sealed_queued, sealed_carried}
 
@@ -21,20 +18,6 @@ module _ {A : Type 0} (p : A → Bool) where
   pub any_none : (xs : List A) → ((x : A) → p x ≡ false) → any p xs ≡ false
   any_none [] e = refl
   any_none (x ∷ xs) e = ap₂ ◌||◌ (e x) (any_none xs e)
-
-module _ (p : ℕ → Bool) (xs : List ℕ) (i : ℕ) (inside : i < length xs) where
-  next : any p (drop i xs) ≡ p (get_or xs i 0) || any p (drop (i + 1) xs)
-  next = ap (λ (l : List ℕ). any p l) (drop-cons xs i 0 inside) ∙ ap (λ (n : ℕ). p (get_or xs i 0) || any p (drop n xs)) (sym (add-one i))
-
-  -- a turn of the search: found, or to be found further on
-  pub any_here : p (get_or xs i 0) ≡ true → any p (drop i xs) ≡ true
-  any_here e = next ∙ ap (λ (t : Bool). t || any p (drop (i + 1) xs)) e
-
-  pub any-later : p (get_or xs i 0) ≡ false → any p (drop i xs) ≡ any p (drop (i + 1) xs)
-  any-later e = next ∙ ap (λ (t : Bool). t || any p (drop (i + 1) xs)) e
-
-pub any-end : (p : ℕ → Bool) (xs : List ℕ) (i : ℕ) → length xs ≤ i → any p (drop i xs) ≡ false
-any-end p xs i h = ap (λ (l : List ℕ). any p l) (drop_of_length-le xs {i = i} h)
 
 -- ---- a bucket that the tag makes longer
 module _ (n : ℕ) where

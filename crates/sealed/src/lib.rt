@@ -18,14 +18,7 @@ pub const COURIER_INNER_MAX: usize = 2048;
 fn is_bucket(inner: usize) -> bool
     ensures { result ≡ any (λ bucket. eqb inner bucket) checks.INNER_BUCKETS }
 {
-    let mut i: usize = 0;
-    while i < 8 {
-        if INNER_BUCKETS[i] == inner {
-            return true;
-        }
-        i += 1;
-    }
-    false
+    INNER_BUCKETS.contains(&inner)
 }
 
 // Whether a queued row's sealed text may be this long.

@@ -18,4 +18,4 @@ four l at a b c d ea eb ec ed = simp (get_or-drop, add-zero) (omega arith)
 
 pub returns : goal.returns
 returns c =
-    (four c.args.bytes.now c.args.at _ _ _ _ c.wide_byte.ensures.0 c.wide_byte-2.ensures.0 c.wide_byte-3.ensures.0 c.wide_byte-4.ensures.0, search rules)
+    (four c.args.bytes.now c.args.at _ _ _ _ c.from.ensures c.from-2.ensures c.from-3.ensures c.from-4.ensures, search rules)

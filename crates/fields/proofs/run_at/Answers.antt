@@ -1,18 +1,22 @@
 -- `fields::run_at` meets its contract: the run lies in the row, or does not; past the row's end it is empty, or is not there.
+use Rattle.std.proofs.Common.{◌≡◌, length, arith, inl, inr}
 use mathlib.Core.Path.{refl, sym}
-use native.Mathlib.Omega.{arith}
+use native.Mathlib.Nat.{add-zero}
+use Rattle.std.proofs.lemmas.Bool.{cases_lt}
 use Rattle.layout.specs.Veil.{plain}
 use Rattle.layout.proofs.At.{bytes-in, bytes-none, bytes-out}
 use Rattle.fields.proofs.run_at.Goals as goal
 
-pub returns-then-n-len : goal.returns-then-n-len
-returns-then-n-len c = (sym (bytes-in _ _ _ plain (omega arith)), refl)
-
-pub returns-then-at-len : goal.returns-then-at-len
-returns-then-at-len c = (sym (bytes-out _ _ _ plain (omega arith) (omega arith)), tt)
-
-pub returns-then-n-eq0 : goal.returns-then-n-eq0
-returns-then-n-eq0 c = (rw c.if-n-eq0.true (sym (bytes-none _ _ plain (omega arith))), omega arith)
+pub returns-then-row-start : goal.returns-then-row-start
+returns-then-row-start c = (sym (bytes-out _ _ _ plain (omega arith) (omega arith)), tt)
 
 pub returns : goal.returns
-returns c = (sym (bytes-out _ _ _ plain (omega arith) (omega arith)), tt)
+returns c = elim (cases_lt (length c.args.row.now) c.args.at) [
+  | inl past ↦
+      let start : c.min-start.result ≡ length c.args.row.now = omega (arith, c.min-start.ensures) in
+      let none : c.args.n ≡ 0 = omega arith in
+      (rw (start, none, add-zero) (sym (bytes-none _ _ plain (omega arith))), refl)
+  | inr inside ↦
+      let start : c.min-start.result ≡ c.args.at = omega (arith, c.min-start.ensures) in
+      (rw start (sym (bytes-in _ _ _ plain (omega arith))), refl)
+]

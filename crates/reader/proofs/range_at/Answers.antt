@@ -1,24 +1,23 @@
--- `reader::range_at` meets its contract: two numbers, one behind the other, or no range where either is refused.
-use Rattle.std.proofs.Common.{◌≡◌}
-use Rattle.layout.specs.Questions.{FIELD}
-use Rattle.layout.specs.Field.{takes, refuses, read_at}
-use Rattle.layout.specs.Form.{u32}
-use Rattle.reader.proofs.Range.{range-value, no-to, no-from}
+-- `reader::range_at` meets its contract: along the layout, two numbers, one behind the other.
+use Rattle.std.proofs.Common.{rules, ◌≡◌, Err}
+use mathlib.Core.Path.{refl, sym}
+use Rattle.layout.specs.Field.{read_at}
+use Rattle.layout.specs.Layout.{group}
+use Rattle.layout.proofs.At.{typed}
+use Rattle.layout.proofs.Along.{along, part-along}
+use Rattle.rows.specs.Rows.{range}
+use Rattle.reader.proofs.Fields.{range-fields}
 use Rattle.reader.proofs.range_at.Goals as goal
+use Rattle.reader.proofs.range_at.Goals.{After-new-reader}
 
-pub returns-in_default : goal.returns-in_default
-returns-in_default c =
-    let e : refuses FIELD ≡ read_at u32 c.args.row.now c.args.at = cc (c.in_default.ensures, c.new.ensures.0, c.moved-reader.ensures.0, c.moved-reader.ensures.1) in
-    no-from c.args.row.now c.args.at e
+reads : (c : After-new-reader) → along range c.new-reader.result.row.now c.new-reader.result.at ≡ read_at (group range) c.args.row.now c.args.at
+reads c = rw (c.new-reader.ensures.0, c.new-reader.ensures.1) (sym (part-along c.args.row.now (typed _ c.type_inv.row) range range-fields c.args.at tt))
 
-pub returns-in_default-u32 : goal.returns-in_default-u32
-returns-in_default-u32 c =
-    let e : takes c.in-Value.from c.in-Value.behind ≡ read_at u32 c.args.row.now c.args.at = cc (c.in-Value.ensures, c.new.ensures.0, c.moved-reader.ensures.0, c.moved-reader.ensures.1) in
-    let f : refuses FIELD ≡ read_at u32 c.args.row.now c.in-Value.behind = cc (c.in_default-u32.ensures, c.new.ensures.0, c.moved-reader.ensures.0, c.moved.ensures.0, c.moved.ensures.1) in
-    no-to c.args.row.now c.args.at e f
+pub returns-in_err-from : goal.returns-in_err-from
+returns-in_err-from c = let no : c.from_residual.result ≡ Err c.in_err-from.field-0.0 = search rules in rw (no, ← reads (goal.at.returns-in_err-from c).After-new-reader, ← c.in_err-from.ensures.0) refl
+
+pub returns-in_err-to : goal.returns-in_err-to
+returns-in_err-to c = let no : c.from_residual-in_err-to.result ≡ Err c.in_err-to.field-0.0 = search rules in rw (no, ← reads (goal.at.returns-in_err-to c).After-new-reader, ← c.in_ok-from.ensures.0, ← c.in_ok-from.ensures.1, ← c.in_err-to.ensures.0) refl
 
 pub returns : goal.returns
-returns c =
-    let e : takes c.in-Value.from c.in-Value.behind ≡ read_at u32 c.args.row.now c.args.at = cc (c.in-Value.ensures, c.new.ensures.0, c.moved-reader.ensures.0, c.moved-reader.ensures.1) in
-    let f : takes c.in-Value-u32.to c.in-Value-u32.next ≡ read_at u32 c.args.row.now c.in-Value.behind = cc (c.in-Value-u32.ensures, c.new.ensures.0, c.moved-reader.ensures.0, c.moved.ensures.0, c.moved.ensures.1) in
-    range-value c.args.row.now c.args.at e f
+returns c = rw (← reads (goal.at.returns c).After-new-reader, ← c.in_ok-from.ensures.0, ← c.in_ok-from.ensures.1, ← c.in_ok-to.ensures.0) refl

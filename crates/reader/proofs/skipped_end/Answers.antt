@@ -1,55 +1,32 @@
--- `reader::skipped_end` meets its contract: five fields, one behind the other; where one is refused, so is the key.
-use Rattle.std.proofs.Common.{◌≡◌, ◌∙◌, ap, take, drop}
-use Rattle.layout.specs.Questions.{FIELD}
-use Rattle.layout.specs.Veil.{plain}
-use Rattle.layout.specs.Field.{takes, refuses, read_at}
-use Rattle.layout.specs.Form.{bytes, u8, u32, u64}
-use Rattle.rows.specs.Rows.{dir}
-use Rattle.fields.specs.Says.{dir_refusal}
-use Rattle.reader.proofs.Skipped.{no-gen, no-dir, no-idx, no_key, no-created, skipped-value}
+-- `reader::skipped_end` meets its contract: along the layout, five fields, one behind the other.
+use Rattle.std.proofs.Common.{rules, ◌≡◌, Err}
+use mathlib.Core.Path.{refl, sym}
+use Rattle.layout.specs.Field.{read_at}
+use Rattle.layout.specs.Layout.{group}
+use Rattle.layout.proofs.At.{typed}
+use Rattle.layout.proofs.Along.{along, part-along, any-run}
+use Rattle.rows.specs.Rows.{skipped}
+use Rattle.reader.proofs.Fields.{skipped-fields}
 use Rattle.reader.proofs.skipped_end.Goals as goal
+use Rattle.reader.proofs.skipped_end.Goals.{After-new-reader}
 
-pub returns-in_default : goal.returns-in_default
-returns-in_default c =
-    let f : refuses FIELD ≡ read_at u8 c.args.row.now c.args.at = cc (c.in_default.ensures, c.new.ensures.0, c.moved-reader.ensures.0, c.moved-reader.ensures.1) in
-    no-gen c.args.row.now c.args.at f
+reads : (c : After-new-reader) → along skipped c.new-reader.result.row.now c.new-reader.result.at ≡ read_at (group skipped) c.args.row.now c.args.at
+reads c = rw (c.new-reader.ensures.0, c.new-reader.ensures.1) (sym (part-along c.args.row.now (typed _ c.type_inv.row) skipped skipped-fields c.args.at tt))
 
-pub returns-in_default-dir : goal.returns-in_default-dir
-returns-in_default-dir c =
-    let e0 : takes c.in-Value.field-0 c.in-Value.behind_gen ≡ read_at u8 c.args.row.now c.args.at = cc (c.in-Value.ensures, c.new.ensures.0, c.moved-reader.ensures.0, c.moved-reader.ensures.1) in
-    let q : c.refusal.result ≡ c.in_default-dir.field-0 = c.refusal.ensures ∙ ap dir_refusal c.in_default-dir.is in
-    let f : refuses c.in_default-dir.field-0 ≡ read_at dir c.args.row.now c.in-Value.behind_gen = cc (c.in_default-dir.ensures, c.new.ensures.0, c.moved-reader.ensures.0, c.moved.ensures.0, c.moved.ensures.1) in
-    rw q (no-dir c.args.row.now c.args.at e0 f)
+pub returns-in_err-byte : goal.returns-in_err-byte
+returns-in_err-byte c = let no : c.from_residual.result ≡ Err c.in_err-byte.field-0.0 = search rules in rw (no, ← reads (goal.at.returns-in_err-byte c).After-new-reader, ← c.in_err-byte.ensures.0) refl
 
-pub returns-in_default-u32 : goal.returns-in_default-u32
-returns-in_default-u32 c =
-    let e0 : takes c.in-Value.field-0 c.in-Value.behind_gen ≡ read_at u8 c.args.row.now c.args.at = cc (c.in-Value.ensures, c.new.ensures.0, c.moved-reader.ensures.0, c.moved-reader.ensures.1) in
-    let e1 : takes c.in-Value-dir.field-0 c.in-Value-dir.behind_dir ≡ read_at dir c.args.row.now c.in-Value.behind_gen = cc (c.in-Value-dir.ensures, c.new.ensures.0, c.moved-reader.ensures.0, c.moved.ensures.0, c.moved.ensures.1) in
-    let f : refuses FIELD ≡ read_at u32 c.args.row.now c.in-Value-dir.behind_dir = cc (c.in_default-u32.ensures, c.new.ensures.0, c.moved-reader.ensures.0, c.moved-2.ensures.0, c.moved-2.ensures.1) in
-    no-idx c.args.row.now c.args.at e0 e1 f
+pub returns-in_err-dir : goal.returns-in_err-dir
+returns-in_err-dir c = let no : c.from_residual-in_err-dir.result ≡ Err c.in_err-dir.field-0.0 = search rules in rw (no, ← reads (goal.at.returns-in_err-dir c).After-new-reader, ← c.in_ok-byte.ensures.0, ← c.in_ok-byte.ensures.1, ← c.in_err-dir.ensures.0) refl
 
-pub returns-in_default-take : goal.returns-in_default-take
-returns-in_default-take c =
-    let e0 : takes c.in-Value.field-0 c.in-Value.behind_gen ≡ read_at u8 c.args.row.now c.args.at = cc (c.in-Value.ensures, c.new.ensures.0, c.moved-reader.ensures.0, c.moved-reader.ensures.1) in
-    let e1 : takes c.in-Value-dir.field-0 c.in-Value-dir.behind_dir ≡ read_at dir c.args.row.now c.in-Value.behind_gen = cc (c.in-Value-dir.ensures, c.new.ensures.0, c.moved-reader.ensures.0, c.moved.ensures.0, c.moved.ensures.1) in
-    let e2 : takes c.in-Value-u32.field-0 c.in-Value-u32.behind_idx ≡ read_at u32 c.args.row.now c.in-Value-dir.behind_dir = cc (c.in-Value-u32.ensures, c.new.ensures.0, c.moved-reader.ensures.0, c.moved-2.ensures.0, c.moved-2.ensures.1) in
-    let f : refuses FIELD ≡ read_at (bytes plain 32) c.args.row.now c.in-Value-u32.behind_idx = cc (c.in_default-take.ensures.0, c.new.ensures.0, c.moved-reader.ensures.0, c.moved-3.ensures.0, c.moved-3.ensures.1) in
-    no_key c.args.row.now c.args.at e0 e1 e2 f
+pub returns-in_err-u32 : goal.returns-in_err-u32
+returns-in_err-u32 c = let no : c.from_residual-in_err-u32.result ≡ Err c.in_err-u32.field-0.0 = search rules in rw (no, ← reads (goal.at.returns-in_err-u32 c).After-new-reader, ← c.in_ok-byte.ensures.0, ← c.in_ok-byte.ensures.1, ← c.in_ok-dir.ensures.0, ← c.in_ok-dir.ensures.1, ← c.in_err-u32.ensures.0) refl
 
-pub returns-in_default-u64 : goal.returns-in_default-u64
-returns-in_default-u64 c =
-    let e0 : takes c.in-Value.field-0 c.in-Value.behind_gen ≡ read_at u8 c.args.row.now c.args.at = cc (c.in-Value.ensures, c.new.ensures.0, c.moved-reader.ensures.0, c.moved-reader.ensures.1) in
-    let e1 : takes c.in-Value-dir.field-0 c.in-Value-dir.behind_dir ≡ read_at dir c.args.row.now c.in-Value.behind_gen = cc (c.in-Value-dir.ensures, c.new.ensures.0, c.moved-reader.ensures.0, c.moved.ensures.0, c.moved.ensures.1) in
-    let e2 : takes c.in-Value-u32.field-0 c.in-Value-u32.behind_idx ≡ read_at u32 c.args.row.now c.in-Value-dir.behind_dir = cc (c.in-Value-u32.ensures, c.new.ensures.0, c.moved-reader.ensures.0, c.moved-2.ensures.0, c.moved-2.ensures.1) in
-    let e3 : takes (take 32 (drop c.in-Value-take.field-0 c.args.row.now)) c.in-Value-take.behind_key ≡ read_at (bytes plain 32) c.args.row.now c.in-Value-u32.behind_idx = cc (c.in-Value-take.ensures.0, c.new.ensures.0, c.moved-reader.ensures.0, c.moved-3.ensures.0, c.moved-3.ensures.1) in
-    let f : refuses FIELD ≡ read_at u64 c.args.row.now c.in-Value-take.behind_key = cc (c.in_default-u64.ensures, c.new.ensures.0, c.moved-reader.ensures.0, c.moved-4.ensures.0, c.moved-4.ensures.1) in
-    no-created c.args.row.now c.args.at e0 e1 e2 e3 f
+pub returns-in_err-take : goal.returns-in_err-take
+returns-in_err-take c = let no : c.from_residual-in_err-take.result ≡ Err c.in_err-take.field-0.0 = search rules in rw (no, ← reads (goal.at.returns-in_err-take c).After-new-reader, ← c.in_ok-byte.ensures.0, ← c.in_ok-byte.ensures.1, ← c.in_ok-dir.ensures.0, ← c.in_ok-dir.ensures.1, ← c.in_ok-u32.ensures.0, ← c.in_ok-u32.ensures.1, any-run, ← c.in_err-take.ensures.0) refl
+
+pub returns-in_err-u64 : goal.returns-in_err-u64
+returns-in_err-u64 c = let no : c.from_residual-in_err-u64.result ≡ Err c.in_err-u64.field-0.0 = search rules in rw (no, ← reads (goal.at.returns-in_err-u64 c).After-new-reader, ← c.in_ok-byte.ensures.0, ← c.in_ok-byte.ensures.1, ← c.in_ok-dir.ensures.0, ← c.in_ok-dir.ensures.1, ← c.in_ok-u32.ensures.0, ← c.in_ok-u32.ensures.1, any-run, ← c.in_ok-take.ensures.0, ← c.in_ok-take.ensures.1, ← c.in_err-u64.ensures.0) refl
 
 pub returns : goal.returns
-returns c =
-    let e0 : takes c.in-Value.field-0 c.in-Value.behind_gen ≡ read_at u8 c.args.row.now c.args.at = cc (c.in-Value.ensures, c.new.ensures.0, c.moved-reader.ensures.0, c.moved-reader.ensures.1) in
-    let e1 : takes c.in-Value-dir.field-0 c.in-Value-dir.behind_dir ≡ read_at dir c.args.row.now c.in-Value.behind_gen = cc (c.in-Value-dir.ensures, c.new.ensures.0, c.moved-reader.ensures.0, c.moved.ensures.0, c.moved.ensures.1) in
-    let e2 : takes c.in-Value-u32.field-0 c.in-Value-u32.behind_idx ≡ read_at u32 c.args.row.now c.in-Value-dir.behind_dir = cc (c.in-Value-u32.ensures, c.new.ensures.0, c.moved-reader.ensures.0, c.moved-2.ensures.0, c.moved-2.ensures.1) in
-    let e3 : takes (take 32 (drop c.in-Value-take.field-0 c.args.row.now)) c.in-Value-take.behind_key ≡ read_at (bytes plain 32) c.args.row.now c.in-Value-u32.behind_idx = cc (c.in-Value-take.ensures.0, c.new.ensures.0, c.moved-reader.ensures.0, c.moved-3.ensures.0, c.moved-3.ensures.1) in
-    let e4 : takes c.in-Value-u64.field-0 c.in-Value-u64.next ≡ read_at u64 c.args.row.now c.in-Value-take.behind_key = cc (c.in-Value-u64.ensures, c.new.ensures.0, c.moved-reader.ensures.0, c.moved-4.ensures.0, c.moved-4.ensures.1) in
-    skipped-value c.args.row.now c.args.at e0 e1 e2 e3 e4
+returns c = rw (← reads (goal.at.returns c).After-new-reader, ← c.in_ok-byte.ensures.0, ← c.in_ok-byte.ensures.1, ← c.in_ok-dir.ensures.0, ← c.in_ok-dir.ensures.1, ← c.in_ok-u32.ensures.0, ← c.in_ok-u32.ensures.1, any-run, ← c.in_ok-take.ensures.0, ← c.in_ok-take.ensures.1, ← c.in_ok-u64.ensures.0) refl
