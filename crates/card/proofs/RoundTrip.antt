@@ -7,23 +7,22 @@ use mathlib.Core.Option.{Option, none, some}
 use mathlib.Core.Path.{◌≡◌, refl, sym, ap, subst, ◌∙◌}
 use lib.ListN.{length, take, take-append-drop}
 use lib.Seq.{take_at, drop_at}
+use Rattle.std.specs.Prelude.{Ok}
 use Rattle.layout.specs.Veil.{zeros, plain}
 use Rattle.layout.specs.Form.{bytes, fits_if}
 use Rattle.layout.specs.Layout.{Answer, accepted, refused_by, print, fits_of, read_row}
+use Rattle.layout.specs.Says.{made, leaves}
 use Rattle.layout.specs.RowLaws.{Bytes}
 use Rattle.layout.specs.Write.{stored, writes}
 use Rattle.layout.specs.Write as write
 use Rattle.rows.specs.Values as value
 use Rattle.rows.specs.Checks.{kci}
 use Rattle.rows.specs.Rows.{card, card_row}
-use Rattle.rows.specs.Answers.{leaves}
-use Rattle.rows.specs.declared.Verdict.TheVariants.{Accepted}
-use Rattle.rows.specs.declared.Written.TheVariants.{Length}
+use Rattle.layout.proofs.Theorems.{accepted≢}
 use Rattle.rows.proofs.Proved.{proved}
-use Rattle.rows.proofs.RoundTrip.{Stands, stands, printed-back, rewritten, accepted-not}
-use Rattle.card.specs.Card.{CardTyped, LeftOutZero, CardLaws, card_of, decoded, accepts, or_zeros, value_of, image}
+use Rattle.rows.proofs.RoundTrip.{Stands, stands, printed-back, rewritten}
+use Rattle.card.specs.Card.{CardTyped, LeftOutZero, CardLaws, card_of, or_zeros, value_of, image}
 use Rattle.card.specs.declared.Card.{Card}
-use Rattle.card.specs.declared.Decoded.{Decoded}
 use Rattle.card.proofs.Image.{name-whole, name-is, fits, asked-few}
 
 -- the struct of a value stands for it
@@ -86,7 +85,7 @@ module _ (c : Card) (ty : CardTyped c) where
   unfolding image
   image-read v e = let same = sym e ∙ printed-back card_row proved.card.laws (value_of c) (fits c ty) e in cc
 
-  module _ (out left : List ℕ) (n : ℕ) (contract : leaves (Length n) left ≡ writes card_row (image c) out) where
+  module _ (out left : List ℕ) (n : ℕ) (contract : leaves (Ok n) left ≡ writes card_row (image c) out) where
     held : Stands card_row (image c) left n
     held = stands card_row (image c) out left contract
 
@@ -96,15 +95,15 @@ module _ (c : Card) (ty : CardTyped c) where
         ap (λ (row : List ℕ). read_row card_row row) held.front
         ∙ printed-back card_row proved.card.laws (value_of c) (fits c ty) held.read
 
-    write_read : decoded (read_row card_row (take n left)) ≡ accepts (card_of (value_of c))
-    write_read = ap (λ (a : Answer value.Card). decoded a) is_read
+    write_read : made card_of (read_row card_row (take n left)) ≡ accepted (card_of (value_of c))
+    write_read = ap (made card_of) is_read
 
     short-name : c.name_len ≤ 48
     unfolding write.asked
     short-name = asked-few c ty {n = length (image c)} (rw held.read)
 
-    write_same : LeftOutZero c → decoded (read_row card_row (take n left)) ≡ accepts c
-    write_same zero = write_read ∙ ap (λ (x : Card). accepts x) (same-struct c ty short-name zero)
+    write_same : LeftOutZero c → made card_of (read_row card_row (take n left)) ≡ accepted c
+    write_same zero = write_read ∙ ap accepted (same-struct c ty short-name zero)
 
 -- ---- decode, then encode
 module _ (input : List ℕ) (by : Bytes input) where
@@ -116,24 +115,25 @@ module _ (input : List ℕ) (by : Bytes input) where
     unfolding image
     read-image = ap (λ (x : value.Card). print card_row x) value_read ∙ proved.card.laws.read-print input by v e
 
-  module _ (read : Decoded) (contract : read ≡ decoded (read_row card_row input)) where
-    read-zero : LeftOutZero read.card
-    read-zero = subst (λ (r : Decoded). LeftOutZero r.card) (sym contract) (go (read_row card_row input) refl)
+  module _ (read : Card) (contract : accepted read ≡ made card_of (read_row card_row input)) where
+    read-zero : LeftOutZero read
+    read-zero = go (read_row card_row input) refl contract
       where
-        go : (a : Answer value.Card) → read_row card_row input ≡ a → LeftOutZero (decoded a).card
-        go (accepted v) e = zero_left v _ (proved.card.laws.read-valid input by v e).fits.0
-        go (refused_by q) e = record { name = refl; static_ek = λ clear. refl }
+        go : (a : Answer value.Card) → read_row card_row input ≡ a → accepted read ≡ made card_of a → LeftOutZero read
+        go (accepted v) e h = let same : read ≡ card_of v = cc in subst LeftOutZero (sym same) (zero_left v _ (proved.card.laws.read-valid input by v e).fits.0)
+        go (refused_by q) e h = absurd (accepted≢ h)
 
-    read-write : read.verdict ≡ Accepted → (out : List ℕ) → writes card_row (image read.card) out ≡ stored input out
+    read-write : (out : List ℕ) → writes card_row (image read) out ≡ stored input out
     unfolding image
-    read-write accept out = go (read_row card_row input) refl contract
+    read-write out = go (read_row card_row input) refl contract
       where
-        go : (a : Answer value.Card) → read_row card_row input ≡ a → read ≡ decoded a → writes card_row (image read.card) out ≡ stored input out
+        go : (a : Answer value.Card) → read_row card_row input ≡ a → accepted read ≡ made card_of a → writes card_row (image read) out ≡ stored input out
         go (accepted v) e h =
-            ap (λ (x : Decoded). writes card_row (image x.card) out) h
+            let same : read ≡ card_of v = cc in
+            ap (λ (x : Card). writes card_row (image x) out) same
             ∙ ap (λ (x : value.Card). writes card_row (print card_row x) out) (value_read v e)
             ∙ rewritten card_row proved.card.laws input by v e out
-        go (refused_by q) e h = absurd (accepted-not {q = q} (sym accept ∙ ap (λ (x : Decoded). x.verdict) h))
+        go (refused_by q) e h = absurd (accepted≢ h)
 
 pub card-laws : CardLaws
 card-laws = record {

@@ -1,38 +1,30 @@
 -- What the answers about a card say, what a reader leaves in the struct, and which row a struct stands for.
 -- Assumes nothing.
-use Rattle.std.specs.Prelude.{ℕ, ◌+◌, ◌-◌, ◌≤◌, ◌<◌, List, [], ◌∷◌, ◌++◌, Bool, true, false, cond, ◌&&◌, ◌≡◌, length, take, drop, leb}
+use Rattle.std.specs.Prelude.{ℕ, ◌+◌, ◌-◌, ◌≤◌, ◌<◌, List, [], ◌∷◌, ◌++◌, Bool, true, false, cond, ◌&&◌, ◌≡◌, Result, Ok, Err, length, take, drop, leb}
 use Rattle.std.proofs.Math.Option.{Option, none, some}
-use Rattle.layout.specs.Questions.{FIELD}
+use Rattle.layout.specs.declared.question.Question.{Question}
+use Rattle.layout.specs.Questions.{number_of}
 use Rattle.layout.specs.Veil.{zeros}
 use Rattle.layout.specs.Field.{Field, takes, refuses}
-use Rattle.layout.specs.Layout.{Answer, accepted, refused_by, print, read_row}
+use Rattle.layout.specs.Layout.{accepted, print, read_row}
+use Rattle.layout.specs.Says.{made, leaves}
 use Rattle.layout.specs.RowLaws.{Bytes}
 use Rattle.layout.specs.Write.{stored, writes}
 use Rattle.rows.specs.Values as value
 use Rattle.rows.specs.Checks.{kci, name_short}
 use Rattle.rows.specs.Rows.{card_row}
-use Rattle.rows.specs.Answers.{verdict_of, leaves}
-use Rattle.rows.specs.declared.Verdict.TheVariants.{Accepted}
-use Rattle.rows.specs.declared.Written.TheVariants.{Length}
-use Rattle.fields.specs.declared.RunField.{RunField}
-use Rattle.fields.specs.declared.RunField.TheVariants as run
 use Rattle.card.specs.declared.Card.{Card}
 use Rattle.card.specs.declared.CardAt.{CardAt}
-use Rattle.card.specs.declared.CardField.{CardField}
-use Rattle.card.specs.declared.CardField.TheVariants as card_field
-use Rattle.card.specs.declared.CardCheck.{CardCheck}
-use Rattle.card.specs.declared.CardCheck.TheVariants as check
-use Rattle.card.specs.declared.Decoded.{Decoded}
 
 -- ---- checking
--- the key that KCI calls for, at a place
-abbrev pub key_says : ℕ → List ℕ → ℕ → RunField → Field (Option (List ℕ))
-key_says caps input at (run.Value start next) = takes (cond (kci caps) (some (take 1184 (drop at input))) none) next
-key_says caps input at run.Short = refuses FIELD
+-- the key that KCI calls for, at a place, of which the next position is answered
+abbrev pub key_says : ℕ → List ℕ → ℕ → Result ℕ Question → Field (Option (List ℕ))
+key_says caps input at (Ok next) = takes (cond (kci caps) (some (take 1184 (drop at input))) none) next
+key_says caps input at (Err q) = refuses (number_of q)
 
-abbrev pub KeyEnds : ℕ → ℕ → RunField → Type 0
-KeyEnds caps at (run.Value start next) = kci caps ≡ true → next ≡ at + 1184
-KeyEnds caps at run.Short = Unit {0}
+abbrev pub KeyEnds : ℕ → ℕ → Result ℕ Question → Type 0
+KeyEnds caps at (Ok next) = kci caps ≡ true → next ≡ at + 1184
+KeyEnds caps at (Err q) = Unit {0}
 
 -- the card of these numbers: its runs stand at 5, at 38 and behind the name
 abbrev pub card_from : List ℕ → CardAt → value.Card
@@ -50,31 +42,11 @@ pub record Offsets (input : List ℕ) (n : CardAt) : Type 0 where
   pub name : 38 + n.name_len ≤ length input
   pub static_ek : kci n.caps ≡ true → 38 + n.name_len + 1184 ≤ length input
 
-abbrev pub field_says : List ℕ → CardField → Field value.Card
-field_says input (card_field.Value n next) = takes (card_from input n) next
-field_says input (card_field.Refused q) = refuses q
+abbrev pub Placed : List ℕ → Result CardAt Question → Type 0
+Placed input (Ok n) = Offsets input n
+Placed input (Err q) = Unit {0}
 
-abbrev pub field_refusal : CardField → ℕ
-field_refusal (card_field.Value n next) = 0
-field_refusal (card_field.Refused q) = q
-
-abbrev pub FieldOffsets : List ℕ → CardField → Type 0
-FieldOffsets input (card_field.Value n next) = Offsets input n
-FieldOffsets input (card_field.Refused q) = Unit {0}
-
-abbrev pub check_says : List ℕ → CardCheck → Answer value.Card
-check_says input (check.Fields n) = accepted (card_from input n)
-check_says input (check.Refused q) = refused_by q
-
-abbrev pub check_refusal : CardCheck → ℕ
-check_refusal (check.Fields n) = 0
-check_refusal (check.Refused q) = q
-
-abbrev pub Placed : List ℕ → CardCheck → Type 0
-Placed input (check.Fields n) = Offsets input n
-Placed input (check.Refused q) = Unit {0}
-
--- ---- decoding: 0 stands where the name length or KCI leaves something out, and everywhere after a refusal
+-- ---- decoding: 0 stands where the name length or KCI leaves something out
 abbrev pub or_zeros : ℕ → Option (List ℕ) → List ℕ
 or_zeros n none = zeros n
 or_zeros n (some bs) = bs
@@ -102,13 +74,6 @@ card_fits caps n room = name_short n && leb (length_of caps n) room
 -- the card of these numbers; zeros where its runs do not lie in the input
 abbrev pub card_at : List ℕ → CardAt → Card
 card_at input n = cond (card_fits n.caps n.name_len (length input)) (card_of (card_from input n)) zero_card
-
-abbrev pub card_or_zeros : Answer value.Card → Card
-card_or_zeros (accepted c) = card_of c
-card_or_zeros (refused_by q) = zero_card
-
-abbrev pub decoded : Answer value.Card → Decoded
-decoded a = record { verdict = verdict_of a; card = card_or_zeros a }
 
 -- ---- encoding: the value that a struct stands for, and the row that would be written
 -- (a name length above 48 takes bytes that are not there; question 8 is then the answer, whatever they are)
@@ -147,23 +112,19 @@ pub record LeftOutZero (c : Card) : Type 0 where
   pub static_ek : kci c.caps ≡ false → c.static_ek ≡ zeros 1184
 
 -- ---- what is proved of both (proofs/RoundTrip.antt)
--- what `decode` answers where it accepts
-abbrev pub accepts : Card → Decoded
-accepts c = record { verdict = Accepted; card = c }
-
--- `leaves (Length n) left ≡ writes ..` is what `encode` ensures where it answers n and leaves the output as `left`; `decoded` is what `decode` answers
+-- `leaves (Ok n) left ≡ writes ..` is what `encode` ensures where it answers n and leaves the output as `left`; `made card_of (read_row ..)` is what `decode` answers
 pub record CardLaws : Type 0 where
   -- encode, then decode: the same struct, with 0 for what the name's length and KCI leave out
-  pub write_read : (c : Card) → CardTyped c → (out left : List ℕ) (n : ℕ) → leaves (Length n) left ≡ writes card_row (image c) out
-      → decoded (read_row card_row (take n left)) ≡ accepts (card_of (value_of c))
+  pub write_read : (c : Card) → CardTyped c → (out left : List ℕ) (n : ℕ) → leaves (Ok n) left ≡ writes card_row (image c) out
+      → made card_of (read_row card_row (take n left)) ≡ accepted (card_of (value_of c))
   -- ... so wholly the same, where 0 stands there
-  pub write_same : (c : Card) → CardTyped c → LeftOutZero c → (out left : List ℕ) (n : ℕ) → leaves (Length n) left ≡ writes card_row (image c) out
-      → decoded (read_row card_row (take n left)) ≡ accepts c
+  pub write_same : (c : Card) → CardTyped c → LeftOutZero c → (out left : List ℕ) (n : ℕ) → leaves (Ok n) left ≡ writes card_row (image c) out
+      → made card_of (read_row card_row (take n left)) ≡ accepted c
   -- ... as it does after every decode
-  pub read-zero : (input : List ℕ) → Bytes input → (read : Decoded) → read ≡ decoded (read_row card_row input) → LeftOutZero read.card
+  pub read-zero : (input : List ℕ) → Bytes input → (read : Card) → accepted read ≡ made card_of (read_row card_row input) → LeftOutZero read
   -- decode, then encode: the same bytes
-  pub read-write : (input : List ℕ) → Bytes input → (read : Decoded) → read ≡ decoded (read_row card_row input) → read.verdict ≡ Accepted
-      → (out : List ℕ) → writes card_row (image read.card) out ≡ stored input out
+  pub read-write : (input : List ℕ) → Bytes input → (read : Card) → accepted read ≡ made card_of (read_row card_row input)
+      → (out : List ℕ) → writes card_row (image read) out ≡ stored input out
   -- the same of the row that would be written, whether or not there is room for it
   pub read-image : (row : List ℕ) → Bytes row → (v : value.Card) → read_row card_row row ≡ accepted v → image (card_of v) ≡ row
   pub image-read : (c : Card) → CardTyped c → (v : value.Card) → read_row card_row (image c) ≡ accepted v → v ≡ value_of c

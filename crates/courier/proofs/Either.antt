@@ -1,21 +1,24 @@
 -- A courier row begins with its kind: reading what it holds is reading the kind, and then what the kind says.
 -- Assumes nothing.
-use Prim.Native.Nat.{ℕ}
+use Prim.Native.Nat.{ℕ, ◌-◌}
 use mathlib.Core.List.{List, [], ◌∷◌}
 use mathlib.Core.Bool.{Bool, true, false, cond}
 use mathlib.Core.Option.{none, some}
 use mathlib.Core.Logic.{◌⊎◌, inl, inr}
-use mathlib.Core.Path.{◌≡◌, refl, sym, ◌∙◌}
+use mathlib.Core.Path.{◌≡◌, refl, sym, ap, ◌∙◌}
 use native.Mathlib.Omega.{arith}
 use lib.Dec.{eqb}
 use lib.ListN.{length, drop}
 use borrow.Author.Tests.{le-leb, eqb-true}
 use Rattle.layout.specs.Questions.{CODE}
-use Rattle.layout.specs.Read.{Read, refused, and_then, onto}
+use Rattle.layout.specs.Read.{Read, value, refused, and_then, onto}
 use Rattle.layout.specs.Form.{Form, or_refused, either}
+use Rattle.layout.specs.Field.{Field, takes, placed, read_at}
+use Rattle.layout.specs.RowLaws.{Bytes}
 use Rattle.layout.proofs.Lawful.{Lawful}
 use Rattle.layout.proofs.Front.{letter-lawful, none≢some}
-use Rattle.layout.proofs.At.{Took}
+use Rattle.layout.proofs.At.{Took, took}
+use Rattle.layout.proofs.Along.{on}
 use Rattle.courier.specs.Courier.{kind_of, kind_byte, kind_form}
 use Rattle.courier.specs.declared.Kind.{Kind}
 use Rattle.courier.specs.declared.Kind.TheVariants.{Carried, Tombstone}
@@ -37,6 +40,11 @@ module _ {B C : Type 0} (f : Form B) (g : Form C) where
   holds Carried row = onto inl (f.read row)
   holds Tombstone row = onto inr (g.read row)
 
+  -- the same, from a position of the row on
+  abbrev pub held : List ℕ → Kind → ℕ → Field (B ⊎ C)
+  held row Carried mid = on (read_at f row mid) (λ b next. takes (inl b) next)
+  held row Tombstone mid = on (read_at g row mid) (λ c next. takes (inr c) next)
+
   either_is : (row : List ℕ) → (either CODE f g).read row ≡ and_then (kind_form.read row) holds
   either_is [] = refl
   either_is (x ∷ row) = rw (le-leb 1 (length (x ∷ row)) (omega arith)) (go (eqb x 0) (eqb x 1))
@@ -47,26 +55,23 @@ module _ {B C : Type 0} (f : Form B) (g : Form C) where
       go false true = refl
       go false false = refl
 
-  module _ (row : List ℕ) (here : ℕ) where
-    pub either-carried : {b : B} {mid next : ℕ} → Took kind_form row here Carried mid → Took f row mid b next → Took (either CODE f g) row here (inl b) next
-    either-carried t u = record {
-      reads = either_is (drop here row) ∙ rw (t.reads, u.reads);
-      inside = u.inside;
-      onward = λ l. omega (arith, t.onward l, u.onward t.inside);
-    }
+  pub either-along : (row : List ℕ) → Bytes row → (at : ℕ) → read_at (either CODE f g) row at ≡ on (read_at kind_form row at) (held row)
+  unfolding read_at
+  either-along row by at = ap (placed row) (either_is (drop at row)) ∙ behind (kind_form.read (drop at row)) refl
+    where
+      put-in : {B' D : Type 0} (side : B' → D) (x : Read B') → placed row (onto side x) ≡ on (placed row x) (λ b next. takes (side b) next)
+      put-in side (value b rest) = refl
+      put-in side (refused q) = refl
 
-    pub either-tombstone : {c : C} {mid next : ℕ} → Took kind_form row here Tombstone mid → Took g row mid c next → Took (either CODE f g) row here (inr c) next
-    either-tombstone t u = record {
-      reads = either_is (drop here row) ∙ rw (t.reads, u.reads);
-      inside = u.inside;
-      onward = λ l. omega (arith, t.onward l, u.onward t.inside);
-    }
+      at-kind : (k : Kind) (next : ℕ) → placed row (holds k (drop next row)) ≡ held row k next
+      at-kind Carried next = put-in inl (f.read (drop next row))
+      at-kind Tombstone next = put-in inr (g.read (drop next row))
 
-    pub either-no-kind : {q : ℕ} → kind_form.read (drop here row) ≡ refused q → (either CODE f g).read (drop here row) ≡ refused q
-    either-no-kind e = either_is (drop here row) ∙ rw e
-
-    pub either-no-carried : {q mid : ℕ} → Took kind_form row here Carried mid → f.read (drop mid row) ≡ refused q → (either CODE f g).read (drop here row) ≡ refused q
-    either-no-carried t e = either_is (drop here row) ∙ rw (t.reads, e)
-
-    pub either-no-tombstone : {q mid : ℕ} → Took kind_form row here Tombstone mid → g.read (drop mid row) ≡ refused q → (either CODE f g).read (drop here row) ≡ refused q
-    either-no-tombstone t e = either_is (drop here row) ∙ rw (t.reads, e)
+      behind : (x : Read Kind) → kind_form.read (drop at row) ≡ x → placed row (and_then x holds) ≡ on (placed row x) (held row)
+      behind (value k rest) e =
+          let next : ℕ = length row - length rest in
+          let t : Took kind_form row at k next = took row at kind_form kind-lawful by (ap (placed row) e) in
+          let read : value k rest ≡ value k (drop next row) = sym e ∙ t.reads in
+          let same : rest ≡ drop next row = cc in
+          ap (λ (r : List ℕ). placed row (holds k r)) same ∙ at-kind k next
+      behind (refused q) e = refl

@@ -1,12 +1,12 @@
 -- What the answers about a courier row say: its kind, and where its parts stand.
 -- Assumes nothing.
-use Rattle.std.specs.Prelude.{ℕ, ◌+◌, ◌≤◌, List, cond, length, take, drop, eqb}
+use Rattle.std.specs.Prelude.{ℕ, ◌+◌, ◌≤◌, List, cond, Result, Ok, Err, length, take, drop, eqb}
 use Rattle.std.proofs.Math.Option.{Option, none, some}
 use Rattle.std.proofs.Common.{inl, inr}
-use Rattle.layout.specs.Questions.{FIELD, CODE}
+use Rattle.layout.specs.declared.question.Question.{Question}
+use Rattle.layout.specs.Questions.{CODE, number_of}
 use Rattle.layout.specs.Form.{Form, letter}
 use Rattle.layout.specs.Field.{Field, takes, refuses}
-use Rattle.layout.specs.Layout.{Answer, accepted, refused_by}
 use Rattle.offsets.specs.Offset.{offset}
 use Rattle.rows.specs.Values as value
 use Rattle.rows.specs.Rows.{carried, tombstone}
@@ -16,14 +16,6 @@ use Rattle.courier.specs.declared.CarriedAt.{CarriedAt}
 use Rattle.courier.specs.declared.TombstoneAt.{TombstoneAt}
 use Rattle.courier.specs.declared.HeldAt.{HeldAt}
 use Rattle.courier.specs.declared.HeldAt.TheVariants as held
-use Rattle.courier.specs.declared.KindField.{KindField}
-use Rattle.courier.specs.declared.KindField.TheVariants as kind_field
-use Rattle.courier.specs.declared.CarriedField.{CarriedField}
-use Rattle.courier.specs.declared.CarriedField.TheVariants as carried_field
-use Rattle.courier.specs.declared.TombstoneField.{TombstoneField}
-use Rattle.courier.specs.declared.TombstoneField.TheVariants as tombstone_field
-use Rattle.courier.specs.declared.CourierCheck.{CourierCheck}
-use Rattle.courier.specs.declared.CourierCheck.TheVariants as check
 
 -- the kind, as a field of its own: the byte with which a courier row begins
 abbrev pub kind_of : ℕ → Option Kind
@@ -35,14 +27,6 @@ kind_byte Tombstone = 1
 
 abbrev pub kind_form : Form Kind
 kind_form = letter CODE kind_of kind_byte
-
-abbrev pub kind_says : KindField → Field Kind
-kind_says (kind_field.Value k next) = takes k next
-kind_says (kind_field.Refused q) = refuses q
-
-abbrev pub kind_refusal : KindField → ℕ
-kind_refusal (kind_field.Value k next) = 0
-kind_refusal (kind_field.Refused q) = q
 
 -- ---- what is carried at a place: its numbers, and where its runs start
 abbrev pub carried_at : ℕ → value.Carried → CarriedAt
@@ -56,34 +40,18 @@ carried_at from c = record {
 }
 
 -- it ends where the row ends
-abbrev pub carried_says : List ℕ → CarriedField → Field CarriedAt
-carried_says row (carried_field.Value at) = takes at (length row)
-carried_says row (carried_field.Refused q) = refuses q
-
-abbrev pub carried_refusal : CarriedField → ℕ
-carried_refusal (carried_field.Value at) = 0
-carried_refusal (carried_field.Refused q) = q
+abbrev pub carried_says : List ℕ → Result CarriedAt Question → Field CarriedAt
+carried_says row (Ok at) = takes at (length row)
+carried_says row (Err q) = refuses (number_of q)
 
 -- ---- a tombstone at a place
 abbrev pub tombstone_at : ℕ → value.Tombstone → TombstoneAt
 tombstone_at from t = record { tag = from + offset tombstone 0 t; s = from + offset tombstone 1 t; expiry_min = t.expiry_min }
 
-abbrev pub tombstone_says : TombstoneField → Field TombstoneAt
-tombstone_says (tombstone_field.Value at next) = takes at next
-tombstone_says tombstone_field.Short = refuses FIELD
-
 -- ---- a courier row: what it holds stands behind the byte of its kind
 abbrev pub held_at : value.Courier → HeldAt
 held_at (inl c) = held.Carried (carried_at 1 c)
 held_at (inr t) = held.Tombstone (tombstone_at 1 t)
-
-abbrev pub checked : Answer value.Courier → CourierCheck
-checked (accepted h) = check.Fields (held_at h)
-checked (refused_by q) = check.Refused q
-
-abbrev pub check_refusal : CourierCheck → ℕ
-check_refusal (check.Fields at) = 0
-check_refusal (check.Refused q) = q
 
 -- where the sealed text starts: a tombstone has none
 abbrev pub sealed_at : List ℕ → HeldAt → ℕ

@@ -4,25 +4,45 @@
 ghost use Rattle.std.specs.Prelude.{◌≡◌, drop};
 ghost use Rattle.layout.specs.Field.{read_at};
 ghost use Rattle.layout.specs.Layout.{group, read_row};
+ghost use Rattle.layout.specs.Says.{says, answers, made};
+ghost use Rattle.rows.specs.Answers.{named};
 ghost use Rattle.rows.specs.Rows.{carried, tombstone, courier};
 ghost use Rattle.offsets.specs.Offset.{located};
-ghost use Rattle.courier.specs.Courier.{kind_form, kind_says, kind_refusal, carried_at, carried_says, carried_refusal, tombstone_at, tombstone_says, checked, check_refusal, sealed_at};
+ghost use Rattle.courier.specs.Courier.{kind_of, kind_byte, kind_form, carried_at, carried_says, tombstone_at, held_at, sealed_at};
 
-use fields::{RunField, U8Field, U32Field, U64Field};
-use layout::question;
+use layout::Question;
 use rows::ContactId;
 
 // What a courier row holds.
-#[derive(Clone, Copy)]
+#[derive(Clone, Copy, Debug, PartialEq, Eq)]
 pub enum Kind {
-    Carried,
-    Tombstone,
+    Carried = 0,
+    Tombstone = 1,
 }
 
-// The kinds' codes in a row.
-pub const CARRIED: u8 = 0;
+// ---- the kinds' codes in a row: each byte that names none is refused
 
-pub const TOMBSTONE: u8 = 1;
+impl TryFrom<u8> for Kind {
+    type Error = Question;
+
+    ghost try_from_gives = { λ code result. result ≡ named (kind_of code) };
+
+    fn try_from(code: u8) -> Result<Kind, Question> {
+        match code {
+            0 => Ok(Kind::Carried),
+            1 => Ok(Kind::Tombstone),
+            _ => Err(Question::Code),
+        }
+    }
+}
+
+impl From<Kind> for u8 {
+    ghost from_gives = { λ kind code. code ≡ kind_byte kind };
+
+    fn from(kind: Kind) -> u8 {
+        kind as u8
+    }
+}
 
 // The numbers of a carried envelope, and where its runs start.
 #[derive(Clone, Copy)]
@@ -49,161 +69,72 @@ pub enum HeldAt {
     Tombstone(TombstoneAt),
 }
 
-#[derive(Clone, Copy)]
-enum KindField {
-    Value(Kind, usize),
-    Refused(u8),
-}
-
-// What is carried ends where the row ends.
-#[derive(Clone, Copy)]
-enum CarriedField {
-    Value(CarriedAt),
-    Refused(u8),
-}
-
-#[derive(Clone, Copy)]
-enum TombstoneField {
-    Value(TombstoneAt, usize),
-    Short,
-}
-
-#[derive(Clone, Copy)]
-pub enum CourierCheck {
-    Fields(HeldAt),
-    Refused(u8),
-}
-
-impl KindField {
-    // The question that refused; 0 where none did.
-    fn refusal(self) -> u8
-        ensures { result ≡ kind_refusal self }
-    {
-        match self {
-            KindField::Refused(q) => q,
-            KindField::Value(_, _) => 0,
-        }
-    }
-}
-
-impl CarriedField {
-    // The question that refused; 0 where none did.
-    fn refusal(self) -> u8
-        ensures { result ≡ carried_refusal self }
-    {
-        match self {
-            CarriedField::Refused(q) => q,
-            CarriedField::Value(_) => 0,
-        }
-    }
-}
-
-impl CourierCheck {
-    // The question that refused; 0 where none did.
-    pub fn refusal(self) -> u8
-        ensures { result ≡ check_refusal self }
-    {
-        match self {
-            CourierCheck::Refused(q) => q,
-            CourierCheck::Fields(_) => 0,
-        }
-    }
-}
-
-fn kind_at(row: &[u8], at: usize) -> KindField
-    ensures { kind_says result ≡ read_at kind_form row.now at }
+fn kind_at(row: &[u8], at: usize) -> Result<(Kind, usize), Question>
+    ensures { says result ≡ read_at kind_form row.now at }
 {
-    if at < row.len() {
-        let b = row[at];
-        match b {
-            CARRIED => KindField::Value(Kind::Carried, at + 1),
-            TOMBSTONE => KindField::Value(Kind::Tombstone, at + 1),
-            _ => KindField::Refused(question::CODE),
-        }
-    } else {
-        KindField::Refused(question::FIELD)
-    }
+    let (byte, next) = fields::byte_at(row, at)?;
+    Ok((Kind::try_from(byte)?, next))
 }
 
-// What is carried, field by field: expiry and copies are asked before the next field is taken.
-fn carried_at(row: &[u8], at: usize) -> CarriedField
+// What is carried, field by field: expiry and copies are asked before the next field is taken. It ends where the row ends.
+fn carried_at(row: &[u8], at: usize) -> Result<CarriedAt, Question>
     ensures { carried_says row.now result ≡ located (carried_at at) (read_at (group carried) row.now at) }
 {
-    let U64Field::Value(depositor, at1) = fields::u64_at(row, at) else {
-        return CarriedField::Refused(question::FIELD);
-    };
-    let RunField::Value(tag, at2) = fields::run_at(row, at1, 16) else {
-        return CarriedField::Refused(question::FIELD);
-    };
-    let RunField::Value(c, at3) = fields::run_at(row, at2, 16) else {
-        return CarriedField::Refused(question::FIELD);
-    };
-    let U32Field::Value(expiry_min, at4) = fields::u32_at(row, at3) else {
-        return CarriedField::Refused(question::FIELD);
-    };
+    let (depositor, at1) = fields::u64_at(row, at)?;
+    let (tag, at2) = fields::run_at(row, at1, 16)?;
+    let (c, at3) = fields::run_at(row, at2, 16)?;
+    let (expiry_min, at4) = fields::u32_at(row, at3)?;
     if expiry_min == 0 {
-        return CarriedField::Refused(question::CARRIED_EXPIRY);
+        return Err(Question::CarriedExpiry);
     }
-    let U8Field::Value(copies, at5) = fields::byte_at(row, at4) else {
-        return CarriedField::Refused(question::FIELD);
-    };
+    let (copies, at5) = fields::byte_at(row, at4)?;
     if copies == 0 {
-        return CarriedField::Refused(question::CARRIED_COPIES);
+        return Err(Question::CarriedCopies);
     }
-    if sealed::sealed_carried(row.len() - at5) {
-        return CarriedField::Value(CarriedAt {
-            depositor: ContactId(depositor),
-            tag,
-            c,
-            sealed: at5,
-            expiry_min,
-            copies,
-        });
+    if !sealed::sealed_carried(row.len() - at5) {
+        return Err(Question::SealedLength);
     }
-    CarriedField::Refused(question::SEALED_LENGTH)
+    Ok(CarriedAt {
+        depositor: ContactId(depositor),
+        tag,
+        c,
+        sealed: at5,
+        expiry_min,
+        copies,
+    })
 }
 
 // A tombstone is not asked for its expiry.
-fn tombstone_at(row: &[u8], at: usize) -> TombstoneField
-    ensures { tombstone_says result ≡ located (tombstone_at at) (read_at (group tombstone) row.now at) }
+fn tombstone_at(row: &[u8], at: usize) -> Result<(TombstoneAt, usize), Question>
+    ensures { says result ≡ located (tombstone_at at) (read_at (group tombstone) row.now at) }
 {
-    let RunField::Value(tag, at1) = fields::run_at(row, at, 16) else {
-        return TombstoneField::Short;
-    };
-    let RunField::Value(s, at2) = fields::run_at(row, at1, 16) else {
-        return TombstoneField::Short;
-    };
-    let U32Field::Value(expiry_min, at3) = fields::u32_at(row, at2) else {
-        return TombstoneField::Short;
-    };
-    TombstoneField::Value(TombstoneAt { tag, s, expiry_min }, at3)
+    let (tag, at1) = fields::run_at(row, at, 16)?;
+    let (s, at2) = fields::run_at(row, at1, 16)?;
+    let (expiry_min, at3) = fields::u32_at(row, at2)?;
+    Ok((TombstoneAt { tag, s, expiry_min }, at3))
 }
 
 // The questions of a courier row; nothing is copied.
-pub fn check_courier(version: u32, row: &[u8]) -> CourierCheck
-    ensures { result ≡ checked (read_row (courier version) row.now) }
+pub fn check_courier(version: u32, row: &[u8]) -> Result<HeldAt, Question>
+    ensures { answers result ≡ made held_at (read_row (courier version) row.now) }
 {
     if version != rows::BLOB_VERSION {
-        return CourierCheck::Refused(question::VERSION);
+        return Err(Question::Version);
     }
-    let code = kind_at(row, 0);
-    let KindField::Value(kind, at) = code else {
-        return CourierCheck::Refused(code.refusal());
-    };
-    let Kind::Tombstone = kind else {
-        let carried = carried_at(row, at);
-        let CarriedField::Value(held) = carried else {
-            return CourierCheck::Refused(carried.refusal());
-        };
-        return CourierCheck::Fields(HeldAt::Carried(held));
-    };
-    let TombstoneField::Value(held, next) = tombstone_at(row, at) else {
-        return CourierCheck::Refused(question::FIELD);
-    };
-    if next < row.len() {
-        return CourierCheck::Refused(question::ROW_END);
+    let (kind, at) = kind_at(row, 0)?;
+    match kind {
+        Kind::Carried => {
+            let held = carried_at(row, at)?;
+            Ok(HeldAt::Carried(held))
+        }
+        Kind::Tombstone => {
+            let (held, next) = tombstone_at(row, at)?;
+            if next < row.len() {
+                return Err(Question::RowEnd);
+            }
+            Ok(HeldAt::Tombstone(held))
+        }
     }
-    CourierCheck::Fields(HeldAt::Tombstone(held))
 }
 
 // Where the sealed text starts: of a tombstone, at the row's end.

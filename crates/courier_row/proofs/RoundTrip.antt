@@ -6,22 +6,22 @@ use mathlib.Core.Logic.{inl, inr}
 use mathlib.Core.Path.{◌≡◌, refl, sym, ap, subst, ◌∙◌}
 use native.Mathlib.Omega.{arith}
 use lib.ListN.{length, take, drop, drop_of_length-le}
+use Rattle.std.specs.Prelude.{Ok}
 use Rattle.layout.specs.Form.{bytes_of}
 use Rattle.layout.specs.Layout.{Answer, accepted, refused_by, read_row, print, fits_of}
 use Rattle.layout.specs.Layout as layout
 use Rattle.layout.specs.RowLaws.{Bytes}
 use Rattle.layout.specs.Write.{stored, writes}
+use Rattle.layout.specs.Says.{made, leaves}
+use Rattle.layout.proofs.Theorems.{accepted≢}
 use Rattle.rows.specs.Values as value
 use Rattle.rows.specs.Rows.{carried, courier}
-use Rattle.rows.specs.Answers.{leaves}
-use Rattle.rows.specs.declared.Verdict.TheVariants.{Accepted}
-use Rattle.rows.specs.declared.Written.TheVariants.{Length}
 use Rattle.rows.proofs.Proved.{proved}
-use Rattle.rows.proofs.RoundTrip.{Stands, stands, printed-back, three, rewritten, last-at, accepted-not}
+use Rattle.rows.proofs.RoundTrip.{Stands, stands, printed-back, three, rewritten, last-at}
 use Rattle.courier.specs.declared.Kind.{Kind}
 use Rattle.courier.specs.declared.Kind.TheVariants.{Carried, Tombstone}
 use Rattle.courier_row.specs.Row as spec
-use Rattle.courier_row.specs.Row.{held_of, text_of, decoded, value_as, value_of, image, HeldTyped, CourierLaws}
+use Rattle.courier_row.specs.Row.{held_of, text_of, read_of, value_as, value_of, image, HeldTyped, CourierLaws}
 use Rattle.courier_row.specs.declared.Held.{Held}
 use Rattle.courier_row.specs.declared.HeldRead.{HeldRead}
 use Rattle.courier_row.proofs.Image.{carried-fits, tombstone-fits}
@@ -47,7 +47,7 @@ value-fits : (h : Held) → HeldTyped h → (sealed : List ℕ) (k : Kind) → f
 value-fits h ty sealed Carried = carried-fits h ty sealed
 value-fits h ty sealed Tombstone = tombstone-fits h ty sealed
 
-module _ (h : Held) (sealed out left : List ℕ) (n : ℕ) (contract : leaves (Length n) left ≡ writes (courier 3) (image h sealed) out) where
+module _ (h : Held) (sealed out left : List ℕ) (n : ℕ) (contract : leaves (Ok n) left ≡ writes (courier 3) (image h sealed) out) where
   held : Stands (courier 3) (image h sealed) left n
   held = stands (courier 3) (image h sealed) out left contract
 
@@ -66,24 +66,25 @@ value-back : (v : value.Courier) → value_of (held_of v) (text_of v) ≡ v
 value-back (inl v) = refl
 value-back (inr t) = refl
 
-read-write : (version : ℕ) (row : List ℕ) → Bytes row → (read : HeldRead) → read ≡ decoded row (read_row (courier version) row) → read.verdict ≡ Accepted
+read-write : (version : ℕ) (row : List ℕ) → Bytes row → (read : HeldRead) → made (read_of row) (read_row (courier version) row) ≡ accepted read
     → (out : List ℕ) → writes (courier 3) (image read.held (drop read.sealed_at row)) out ≡ stored row out
 unfolding spec.image
-read-write version row by read r accept out = go (read_row (courier version) row) refl r
+read-write version row by read r out = go (read_row (courier version) row) refl r
   where
-    go : (a : Answer value.Courier) → read_row (courier version) row ≡ a → read ≡ decoded row a
+    go : (a : Answer value.Courier) → read_row (courier version) row ≡ a → made (read_of row) a ≡ accepted read
         → writes (courier 3) (image read.held (drop read.sealed_at row)) out ≡ stored row out
     go (accepted v) e h =
         let text = sealed-last version v row ((proved.courier version).laws.read-print row by v e) in
         let known : read_row (courier 3) row ≡ accepted v = subst (λ (n : ℕ). read_row (courier n) row ≡ accepted v) (three _ version row e) e in
-        ap (λ (x : HeldRead). writes (courier 3) (image x.held (drop x.sealed_at row)) out) h
+        let same : read ≡ read_of row v = cc in
+        ap (λ (x : HeldRead). writes (courier 3) (image x.held (drop x.sealed_at row)) out) same
         ∙ ap (λ (l : List ℕ). writes (courier 3) (image (held_of v) l) out) text
         ∙ ap (λ (x : value.Courier). writes (courier 3) (print (courier 3) x) out) (value-back v) ∙ rewritten (courier 3) (proved.courier 3).laws row by v known out
-    go (refused_by p) e h = absurd (accepted-not {q = p} (sym accept ∙ ap (λ (x : HeldRead). x.verdict) h))
+    go (refused_by p) e h = absurd (accepted≢ (sym h))
 
 pub courier-laws : CourierLaws
 courier-laws = record {
-  write_read = λ h ty sealed out left n contract. ap (λ (a : Answer value.Courier). decoded (take n left) a) (is_read h sealed out left n contract ty);
+  write_read = λ h ty sealed out left n contract. ap (made (read_of (take n left))) (is_read h sealed out left n contract ty);
   write-sealed = write-sealed;
   read-write = read-write;
 }

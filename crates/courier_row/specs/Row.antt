@@ -1,22 +1,20 @@
 -- What a reader leaves in the struct of a courier row, and which row a struct stands for.
 -- Assumes nothing.
-use Rattle.std.specs.Prelude.{ℕ, ◌-◌, ◌^◌, ◌<◌, List, [], ◌≡◌, length, take, drop}
+use Rattle.std.specs.Prelude.{ℕ, ◌-◌, ◌^◌, ◌<◌, List, [], Ok, ◌≡◌, length, take, drop}
 use Rattle.std.proofs.Common.{inl, inr}
 use Rattle.layout.specs.Veil.{zeros}
-use Rattle.layout.specs.Layout.{Answer, accepted, refused_by, read_row, print}
+use Rattle.layout.specs.Layout.{accepted, read_row, print}
 use Rattle.layout.specs.RowLaws.{Bytes}
 use Rattle.layout.specs.Write.{stored, writes}
+use Rattle.layout.specs.Says.{made, leaves}
 use Rattle.rows.specs.Values as value
 use Rattle.rows.specs.Rows.{courier}
-use Rattle.rows.specs.Answers.{verdict_of, leaves}
-use Rattle.rows.specs.declared.Verdict.TheVariants.{Accepted}
-use Rattle.rows.specs.declared.Written.TheVariants.{Length}
 use Rattle.courier.specs.declared.Kind.{Kind}
 use Rattle.courier.specs.declared.Kind.TheVariants.{Carried, Tombstone}
 use Rattle.courier_row.specs.declared.Held.{Held}
 use Rattle.courier_row.specs.declared.HeldRead.{HeldRead}
 
--- ---- reading: 0 stands where the kind leaves something out, and everywhere after a refusal
+-- ---- reading: 0 stands where the kind leaves something out
 abbrev pub held_of : value.Courier → Held
 held_of (inl x) = record {
   depositor = record { 0 = x.depositor };
@@ -37,24 +35,14 @@ held_of (inr t) = record {
   s = t.s;
 }
 
-abbrev pub zero_held : Held
-zero_held = record { depositor = record { 0 = 0 }; expiry_min = 0; copies = 0; kind = Carried; tag = zeros 16; c = zeros 16; s = zeros 16 }
-
-abbrev pub held_or_zeros : Answer value.Courier → Held
-held_or_zeros (accepted v) = held_of v
-held_or_zeros (refused_by q) = zero_held
-
--- the sealed text: of a tombstone, and after a refusal, there is none
+-- the sealed text: of a tombstone there is none
 abbrev pub text_of : value.Courier → List ℕ
 text_of (inl x) = x.sealed
 text_of (inr t) = []
 
-abbrev pub sealed_of : Answer value.Courier → List ℕ
-sealed_of (accepted v) = text_of v
-sealed_of (refused_by q) = []
-
-abbrev pub decoded : List ℕ → Answer value.Courier → HeldRead
-decoded row a = record { sealed_at = length row - length (sealed_of a); verdict = verdict_of a; held = held_or_zeros a }
+-- and where it starts
+abbrev pub read_of : List ℕ → value.Courier → HeldRead
+read_of row v = record { sealed_at = length row - length (text_of v); held = held_of v }
 
 -- ---- writing: the row that would be written is the print of the value that the struct and the sealed text stand for
 abbrev pub carried_of : Held → List ℕ → value.Carried
@@ -89,14 +77,14 @@ pub record HeldTyped (h : Held) : Type 0 where
   pub s : length h.s ≡ 16
 
 -- ---- what is proved of both (proofs/RoundTrip.antt)
--- `leaves (Length n) left ≡ writes ..` is what `Held::row` ensures where it answers n and leaves the output as `left`; `decoded` is what `read_courier` answers
+-- `leaves (Ok n) left ≡ writes ..` is what `Held::row` ensures where it answers n and leaves the output as `left`; `made (read_of row) (read_row ..)` is what `read_courier` answers
 pub record CourierLaws : Type 0 where
   -- write, then read: the same struct, with 0 for what its kind leaves out, and the sealed text in its place
-  pub write_read : (h : Held) → HeldTyped h → (sealed out left : List ℕ) (n : ℕ) → leaves (Length n) left ≡ writes (courier 3) (image h sealed) out
-      → decoded (take n left) (read_row (courier 3) (take n left))
-      ≡ record { sealed_at = length (take n left) - length (text_of (value_of h sealed)); verdict = Accepted; held = held_of (value_of h sealed) }
-  pub write-sealed : (h : Held) (sealed out left : List ℕ) (n : ℕ) → leaves (Length n) left ≡ writes (courier 3) (image h sealed) out
+  pub write_read : (h : Held) → HeldTyped h → (sealed out left : List ℕ) (n : ℕ) → leaves (Ok n) left ≡ writes (courier 3) (image h sealed) out
+      → made (read_of (take n left)) (read_row (courier 3) (take n left))
+      ≡ accepted (record { sealed_at = length (take n left) - length (text_of (value_of h sealed)); held = held_of (value_of h sealed) })
+  pub write-sealed : (h : Held) (sealed out left : List ℕ) (n : ℕ) → leaves (Ok n) left ≡ writes (courier 3) (image h sealed) out
       → drop (length (take n left) - length (text_of (value_of h sealed))) (take n left) ≡ text_of (value_of h sealed)
   -- read, then write: the same bytes
-  pub read-write : (version : ℕ) (row : List ℕ) → Bytes row → (read : HeldRead) → read ≡ decoded row (read_row (courier version) row) → read.verdict ≡ Accepted
+  pub read-write : (version : ℕ) (row : List ℕ) → Bytes row → (read : HeldRead) → made (read_of row) (read_row (courier version) row) ≡ accepted read
       → (out : List ℕ) → writes (courier 3) (image read.held (drop read.sealed_at row)) out ≡ stored row out

@@ -7,14 +7,14 @@ ghost use Rattle.layout.specs.Layout.{read_row};
 ghost use Rattle.layout.specs.Write.{asked, writes};
 ghost use Rattle.put.specs.Put.{Wrote};
 ghost use Rattle.rows.specs.Rows.{courier};
-ghost use Rattle.rows.specs.Answers.{written_says, leaves};
+ghost use Rattle.layout.specs.Says.{answers, made, written_says, leaves};
 ghost use Rattle.courier.specs.Courier.{carried_from, CarriedOffsets, tombstone_from, TombstoneOffsets, held_from, Offsets};
-ghost use Rattle.courier_row.specs.Row.{held_of, zero_held, decoded, HeldTyped, image, carried_image, tombstone_image};
+ghost use Rattle.courier_row.specs.Row.{held_of, read_of, HeldTyped, image, carried_image, tombstone_image};
 
-use courier::{CarriedAt, CourierCheck, HeldAt, Kind, TombstoneAt};
+use courier::{CarriedAt, HeldAt, Kind, TombstoneAt};
 use envelope::Envelope;
-use layout::question;
-use rows::{ContactId, Verdict, Written};
+use layout::Question;
+use rows::ContactId;
 
 // A courier row but for its sealed text. Carried: depositor, tag, c, expiry_min, copies. A tombstone: tag, s, expiry_min. 0 stands where the kind leaves a field out.
 #[derive(Clone, Copy)]
@@ -28,11 +28,10 @@ pub struct Held {
     pub s: [u8; 16],
 }
 
-// What reading leaves: the sealed text stands from sealed_at on. After a refusal all is 0; there, and of a tombstone, sealed_at is the row's end.
+// A courier row that was read, and where its sealed text starts: of a tombstone, at the row's end.
 #[derive(Clone, Copy)]
 pub struct HeldRead {
     pub sealed_at: usize,
-    pub verdict: Verdict,
     pub held: Held,
 }
 
@@ -41,11 +40,10 @@ fn carried_from(row: &[u8], at: CarriedAt) -> Held
     requires { CarriedOffsets row.now at }
     ensures { result ≡ held_of (inl (carried_from row.now at)) }
 {
-    let tag = put::copy_16(row, at.tag);
-    let c = put::copy_16(row, at.c);
-    let depositor = at.depositor;
+    let tag = put::copy_array(row, at.tag);
+    let c = put::copy_array(row, at.c);
     Held {
-        depositor,
+        depositor: at.depositor,
         expiry_min: at.expiry_min,
         copies: at.copies,
         kind: Kind::Carried,
@@ -59,8 +57,8 @@ fn tombstone_from(row: &[u8], at: TombstoneAt) -> Held
     requires { TombstoneOffsets row.now at }
     ensures { result ≡ held_of (inr (tombstone_from row.now at)) }
 {
-    let tag = put::copy_16(row, at.tag);
-    let s = put::copy_16(row, at.s);
+    let tag = put::copy_array(row, at.tag);
+    let s = put::copy_array(row, at.s);
     Held {
         depositor: ContactId(0),
         expiry_min: at.expiry_min,
@@ -82,53 +80,27 @@ fn held_from(row: &[u8], at: HeldAt) -> Held
     }
 }
 
-pub fn read_courier(version: u32, row: &[u8]) -> HeldRead
-    ensures { result ≡ decoded row.now (read_row (courier version) row.now) }
+pub fn read_courier(version: u32, row: &[u8]) -> Result<HeldRead, Question>
+    ensures { answers result ≡ made (read_of row.now) (read_row (courier version) row.now) }
 {
-    let check = courier::check_courier(version, row);
-    let CourierCheck::Fields(at) = check else {
-        return HeldRead {
-            sealed_at: row.len(),
-            verdict: Verdict::Refused(check.refusal()),
-            held: Held::zero(),
-        };
-    };
-    HeldRead {
+    let at = courier::check_courier(version, row)?;
+    Ok(HeldRead {
         sealed_at: courier::sealed_at(row, at),
-        verdict: Verdict::Accepted,
         held: held_from(row, at),
-    }
+    })
 }
 
 impl Held {
-    // All zeros: what stands where no row was read.
-    fn zero() -> Held
-        ensures { result ≡ zero_held }
-    {
-        Held {
-            depositor: ContactId(0),
-            expiry_min: 0,
-            copies: 0,
-            kind: Kind::Carried,
-            tag: [0; 16],
-            c: [0; 16],
-            s: [0; 16],
-        }
-    }
-
     // Writes the row with this sealed text, which a tombstone has no use for. Asks what reading the row would ask, then for room; a refusal writes nothing.
-    pub fn row(self, sealed: &[u8], out: &mut [u8]) -> Written
+    pub fn row(self, sealed: &[u8], out: &mut [u8]) -> Result<usize, Question>
         ensures { leaves result out.new ≡ writes (courier 3) (image self sealed.now) out.old }
     {
-        let size = courier_size(self, sealed);
-        let Written::Length(n) = size else {
-            return size;
-        };
+        let n = courier_size(self, sealed)?;
         if out.len() < n {
-            return Written::Refused(question::OUTPUT);
+            return Err(Question::Output);
         }
         put_courier(out, 0, self, sealed);
-        Written::Length(n)
+        Ok(n)
     }
 }
 
@@ -140,25 +112,24 @@ fn typed(held: Held) -> bool
 }
 
 // The length of the row with this sealed text, or the question that reading it would answer no.
-fn courier_size(held: Held, sealed: &[u8]) -> Written
+fn courier_size(held: Held, sealed: &[u8]) -> Result<usize, Question>
     ensures { written_says result ≡ asked (courier 3) (image held sealed.now) }
 {
     typed(held);
-    let kind = held.kind;
-    let Kind::Carried = kind else {
-        return Written::Length(37);
+    let Kind::Carried = held.kind else {
+        return Ok(37);
     };
     if held.expiry_min == 0 {
-        return Written::Refused(question::CARRIED_EXPIRY);
+        return Err(Question::CarriedExpiry);
     }
     if held.copies == 0 {
-        return Written::Refused(question::CARRIED_COPIES);
+        return Err(Question::CarriedCopies);
     }
     let n = sealed.len();
-    if sealed::sealed_carried(n) {
-        return Written::Length(46 + n);
+    if !sealed::sealed_carried(n) {
+        return Err(Question::SealedLength);
     }
-    Written::Refused(question::SEALED_LENGTH)
+    Ok(46 + n)
 }
 
 // Writes the row, where there is room; the place behind it.
@@ -166,11 +137,10 @@ fn put_courier(out: &mut [u8], at: usize, held: Held, sealed: &[u8]) -> usize
     requires { at + length (image held sealed.now) ≤ length out.old }
     ensures { (result ≡ at + length (image held sealed.now)) × Wrote out.old at (image held sealed.now) out.new result }
 {
-    let kind = held.kind;
-    let Kind::Carried = kind else {
-        return put_tombstone(out, at, held);
-    };
-    put_carried(out, at, held, sealed)
+    match held.kind {
+        Kind::Carried => put_carried(out, at, held, sealed),
+        Kind::Tombstone => put_tombstone(out, at, held),
+    }
 }
 
 fn put_tombstone(out: &mut [u8], at: usize, held: Held) -> usize
@@ -178,11 +148,11 @@ fn put_tombstone(out: &mut [u8], at: usize, held: Held) -> usize
     ensures { (result ≡ at + length (tombstone_image held)) × Wrote out.old at (tombstone_image held) out.new result }
 {
     typed(held);
-    let tag_at = put::put_byte(out, at, courier::TOMBSTONE);
+    let tag_at = put::put_byte(out, at, u8::from(Kind::Tombstone));
     let tag = held.tag;
-    let s_at = put::put_16(out, tag_at, &tag);
+    let s_at = put::put_array(out, tag_at, &tag);
     let s = held.s;
-    let expiry_at = put::put_16(out, s_at, &s);
+    let expiry_at = put::put_array(out, s_at, &s);
     put::put_be(out, expiry_at, 4, held.expiry_min as u64)
 }
 
@@ -191,9 +161,8 @@ fn put_carried(out: &mut [u8], at: usize, held: Held, sealed: &[u8]) -> usize
     ensures { (result ≡ at + length (carried_image held sealed.now)) × Wrote out.old at (carried_image held sealed.now) out.new result }
 {
     typed(held);
-    let depositor_at = put::put_byte(out, at, courier::CARRIED);
-    let depositor = held.depositor;
-    let envelope_at = put::put_be(out, depositor_at, 8, depositor.0);
+    let depositor_at = put::put_byte(out, at, u8::from(Kind::Carried));
+    let envelope_at = put::put_be(out, depositor_at, 8, held.depositor.0);
     let tag = held.tag;
     let c = held.c;
     let envelope = Envelope {

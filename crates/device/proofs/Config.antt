@@ -14,18 +14,18 @@ module _ (enabled : Bool) (copies lifetime : ℕ) where
   abbrev Picked : Bool → Answer CourierConfig
   Picked t = cond t (accepted (config_of enabled copies lifetime)) (refused_by COURIER_CONFIG)
 
-  pub config-yes : {c : CourierConfig} → new_config enabled copies lifetime ≡ accepted c → (courier_allowed copies lifetime ≡ true) × (c ≡ config_of enabled copies lifetime)
+  pub config-yes : {c : CourierConfig} → accepted c ≡ new_config enabled copies lifetime → (courier_allowed copies lifetime ≡ true) × (c ≡ config_of enabled copies lifetime)
   unfolding new_config
   config-yes {c} e = go (courier_allowed copies lifetime) refl e
     where
-      go : (t : Bool) → courier_allowed copies lifetime ≡ t → Picked t ≡ accepted c → (courier_allowed copies lifetime ≡ true) × (c ≡ config_of enabled copies lifetime)
+      go : (t : Bool) → courier_allowed copies lifetime ≡ t → accepted c ≡ Picked t → (courier_allowed copies lifetime ≡ true) × (c ≡ config_of enabled copies lifetime)
       go true h e = (h, cc)
-      go false h e = absurd (accepted≢ (sym e))
+      go false h e = absurd (accepted≢ e)
 
-  pub config-no : new_config enabled copies lifetime ≡ refused_by COURIER_CONFIG → courier_allowed copies lifetime ≡ false
+  pub config-no : {q : ℕ} → refused_by q ≡ new_config enabled copies lifetime → (courier_allowed copies lifetime ≡ false) × (q ≡ COURIER_CONFIG)
   unfolding new_config
-  config-no e = go (courier_allowed copies lifetime) refl e
+  config-no {q} e = go (courier_allowed copies lifetime) refl e
     where
-      go : (t : Bool) → courier_allowed copies lifetime ≡ t → Picked t ≡ refused_by COURIER_CONFIG → courier_allowed copies lifetime ≡ false
-      go true h e = absurd (accepted≢ e)
-      go false h e = h
+      go : (t : Bool) → courier_allowed copies lifetime ≡ t → refused_by q ≡ Picked t → (courier_allowed copies lifetime ≡ false) × (q ≡ COURIER_CONFIG)
+      go true h e = absurd (accepted≢ (sym e))
+      go false h e = (h, cc)

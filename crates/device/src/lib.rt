@@ -4,10 +4,10 @@
 ghost use Rattle.std.specs.Prelude.{◌≡◌};
 ghost use Rattle.layout.specs.Layout.{read_row};
 ghost use Rattle.rows.specs.Rows as layouts;
-ghost use Rattle.device.specs.Device.{config_says, new_config, default_config, check_says, Placed, check_refusal};
+ghost use Rattle.layout.specs.Says.{answers, answer_says};
+ghost use Rattle.device.specs.Device.{new_config, default_config, device_from, Placed};
 
-use fields::{FlagField, RunField, U8Field, U16Field, U32Field, U64Field};
-use layout::question;
+use layout::Question;
 
 // The device's courier settings: the envelope lifetime in minutes, the copy budget, and whether it carries at all.
 #[derive(Clone, Copy)]
@@ -15,13 +15,6 @@ pub struct CourierConfig {
     pub lifetime_min: u16,
     pub copies: u8,
     pub enabled: bool,
-}
-
-// What CourierConfig::new answers: the settings, or that question 11 refused them.
-#[derive(Clone, Copy)]
-pub enum ConfigAnswer {
-    Config(CourierConfig),
-    Refused,
 }
 
 impl CourierConfig {
@@ -40,22 +33,16 @@ impl CourierConfig {
     pub const DEFAULT_LIFETIME_MIN: u16 = 1440;
 
     // Question 11.
-    pub fn new(enabled: bool, copies: u8, lifetime_min: u16) -> ConfigAnswer
-        ensures { config_says result ≡ new_config enabled copies lifetime_min }
+    pub fn new(enabled: bool, copies: u8, lifetime_min: u16) -> Result<CourierConfig, Question>
+        ensures { answers result ≡ new_config enabled copies lifetime_min }
     {
-        if copies < Self::MIN_COPIES {
-            return ConfigAnswer::Refused;
+        if copies < Self::MIN_COPIES || Self::MAX_COPIES < copies {
+            return Err(Question::CourierConfig);
         }
-        if Self::MAX_COPIES < copies {
-            return ConfigAnswer::Refused;
+        if lifetime_min < Self::MIN_LIFETIME_MIN || Self::MAX_LIFETIME_MIN < lifetime_min {
+            return Err(Question::CourierConfig);
         }
-        if lifetime_min < Self::MIN_LIFETIME_MIN {
-            return ConfigAnswer::Refused;
-        }
-        if Self::MAX_LIFETIME_MIN < lifetime_min {
-            return ConfigAnswer::Refused;
-        }
-        ConfigAnswer::Config(CourierConfig {
+        Ok(CourierConfig {
             lifetime_min,
             copies,
             enabled,
@@ -82,61 +69,25 @@ pub struct DeviceAt {
     pub read_receipts: bool,
 }
 
-#[derive(Clone, Copy)]
-pub enum DeviceCheck {
-    Fields(DeviceAt),
-    Refused(u8),
-}
-
-impl DeviceCheck {
-    // The question that refused; 0 where none did.
-    pub fn refusal(self) -> u8
-        ensures { result ≡ check_refusal self }
-    {
-        match self {
-            DeviceCheck::Refused(q) => q,
-            DeviceCheck::Fields(_) => 0,
-        }
-    }
-}
-
 // The questions of a device row; nothing is copied.
-pub fn check_device(version: u32, row: &[u8]) -> DeviceCheck
-    ensures { (check_says row.now result ≡ read_row (layouts.device version) row.now) × Placed row.now result }
+pub fn check_device(version: u32, row: &[u8]) -> Result<DeviceAt, Question>
+    ensures { (answer_says (device_from row.now) result ≡ read_row (layouts.device version) row.now) × Placed row.now result }
 {
     if version != rows::BLOB_VERSION {
-        return DeviceCheck::Refused(question::VERSION);
+        return Err(Question::Version);
     }
-    let U32Field::Value(beacon_day, at1) = fields::u32_at(row, 0) else {
-        return DeviceCheck::Refused(question::FIELD);
-    };
-    let RunField::Value(_beacon_key, at2) = fields::run_at(row, at1, 32) else {
-        return DeviceCheck::Refused(question::FIELD);
-    };
-    let U64Field::Value(next_contact, at3) = fields::u64_at(row, at2) else {
-        return DeviceCheck::Refused(question::FIELD);
-    };
-    let receipts = fields::flag_at(row, at3);
-    let FlagField::Value(read_receipts, at4) = receipts else {
-        return DeviceCheck::Refused(receipts.refusal());
-    };
-    let carries = fields::flag_at(row, at4);
-    let FlagField::Value(enabled, at5) = carries else {
-        return DeviceCheck::Refused(carries.refusal());
-    };
-    let U8Field::Value(copies, at6) = fields::byte_at(row, at5) else {
-        return DeviceCheck::Refused(question::FIELD);
-    };
-    let U16Field::Value(lifetime_min, at7) = fields::u16_at(row, at6) else {
-        return DeviceCheck::Refused(question::FIELD);
-    };
-    let ConfigAnswer::Config(courier) = CourierConfig::new(enabled, copies, lifetime_min) else {
-        return DeviceCheck::Refused(question::COURIER_CONFIG);
-    };
+    let (beacon_day, at1) = fields::u32_at(row, 0)?;
+    let (_beacon_key, at2) = fields::run_at(row, at1, 32)?;
+    let (next_contact, at3) = fields::u64_at(row, at2)?;
+    let (read_receipts, at4) = fields::flag_at(row, at3)?;
+    let (enabled, at5) = fields::flag_at(row, at4)?;
+    let (copies, at6) = fields::byte_at(row, at5)?;
+    let (lifetime_min, at7) = fields::u16_at(row, at6)?;
+    let courier = CourierConfig::new(enabled, copies, lifetime_min)?;
     if at7 < row.len() {
-        return DeviceCheck::Refused(question::ROW_END);
+        return Err(Question::RowEnd);
     }
-    DeviceCheck::Fields(DeviceAt {
+    Ok(DeviceAt {
         next_contact,
         beacon_day,
         courier,

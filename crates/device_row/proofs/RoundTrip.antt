@@ -5,50 +5,50 @@ use mathlib.Core.List.{List, ◌++◌}
 use mathlib.Core.Bool.{Bool, true, false}
 use mathlib.Core.Path.{◌≡◌, refl, sym, ap, ◌∙◌}
 use lib.ListN.{length, take, drop}
+use Rattle.std.specs.Prelude.{Result, Ok, Err}
+use Rattle.layout.specs.declared.question.Question.{Question}
 use Rattle.layout.specs.Layout.{Answer, accepted, refused_by, read_row}
 use Rattle.layout.specs.RowLaws.{Bytes}
 use Rattle.layout.specs.Write.{wrote, refuses, Left, asked, writes}
 use Rattle.layout.specs.Write as write
+use Rattle.layout.specs.Says.{made, written_says, leaves}
+use Rattle.layout.proofs.Theorems.{accepted≢}
 use Rattle.layout.proofs.Write.{wrote≢refuses, writes-row}
 use Rattle.rows.specs.Checks.{courier_allowed}
 use Rattle.rows.specs.Rows.{device}
 use Rattle.rows.specs.Values as value
-use Rattle.rows.specs.Answers.{written_says, leaves}
-use Rattle.rows.specs.declared.Written.{Written}
-use Rattle.rows.specs.declared.Written.TheVariants.{Length, Refused}
 use Rattle.rows.proofs.Proved.{proved}
-use Rattle.rows.proofs.RoundTrip.{stands, three, accepted-not}
-use Rattle.device_row.specs.Row.{device_read, value_of, image, DeviceTyped, accepts, DeviceLaws}
+use Rattle.rows.proofs.RoundTrip.{stands, three}
+use Rattle.device_row.specs.Row.{device_of, value_of, image, DeviceTyped, DeviceLaws}
 use Rattle.device_row.specs.declared.Device.{Device}
-use Rattle.device_row.specs.declared.DeviceRead.{DeviceRead}
 use Rattle.device_row.proofs.Image.{image-read, asked-no}
 
-length-is : (r : Written) {n : ℕ} → written_says r ≡ wrote n → r ≡ Length n
-length-is (Length m) {n} e = let same : m ≡ n = cc in rw same
-length-is (Refused q) {n} e = absurd (wrote≢refuses (sym e))
+length-is : (r : Result ℕ Question) {n : ℕ} → written_says r ≡ wrote n → r ≡ Ok n
+length-is (Ok m) {n} e = let same : m ≡ n = cc in rw same
+length-is (Err q) {n} e = absurd (wrote≢refuses (sym e))
 
 -- ---- write, then read
 module _ (d : Device) (ty : DeviceTyped d) where
-  write_read : (n : ℕ) → asked (device 3) (image d) ≡ wrote n → device_read (read_row (device 3) (image d)) ≡ accepts d
+  write_read : (n : ℕ) → asked (device 3) (image d) ≡ wrote n → made device_of (read_row (device 3) (image d)) ≡ accepted d
   write_read n e = go (courier_allowed d.courier.copies d.courier.lifetime_min) refl
     where
-      go : (t : Bool) → courier_allowed d.courier.copies d.courier.lifetime_min ≡ t → device_read (read_row (device 3) (image d)) ≡ accepts d
+      go : (t : Bool) → courier_allowed d.courier.copies d.courier.lifetime_min ≡ t → made device_of (read_row (device 3) (image d)) ≡ accepted d
       go true h = rw (image-read d ty h)
       go false h = absurd (wrote≢refuses (sym e ∙ asked-no d ty h))
 
-  row_read : (out left : List ℕ) (r : Written) (n : ℕ) → leaves r left ≡ writes (device 3) (image d) out → r ≡ Length n
-      → device_read (read_row (device 3) (take n left)) ≡ accepts d
+  row_read : (out left : List ℕ) (r : Result ℕ Question) (n : ℕ) → leaves r left ≡ writes (device 3) (image d) out → r ≡ Ok n
+      → made device_of (read_row (device 3) (take n left)) ≡ accepted d
   unfolding write.asked
   row_read out left r n e known =
-      let g = stands (device 3) (image d) out left {n = n} (sym (ap (λ (x : Written). leaves x left) known) ∙ e) in
+      let g = stands (device 3) (image d) out left {n = n} (sym (ap (λ (x : Result ℕ Question). leaves x left) known) ∙ e) in
       rw g.front (write_read (length (image d)) (rw g.read))
 
 -- ---- read, then write
-read-value : (a : Answer value.Device) {d : Device} → device_read a ≡ accepts d → a ≡ accepted (value_of d)
-read-value (accepted v) e = ap (λ (r : DeviceRead). accepted (value_of r.device)) e
-read-value (refused_by q) e = absurd (accepted-not (sym (ap (λ (r : DeviceRead). r.verdict) e)))
+read-value : (a : Answer value.Device) {d : Device} → made device_of a ≡ accepted d → a ≡ accepted (value_of d)
+read-value (accepted v) {d} e = let same : device_of v ≡ d = cc in ap (λ (x : Device). accepted (value_of x)) same
+read-value (refused_by q) e = absurd (accepted≢ (sym e))
 
-module _ (version : ℕ) (row : List ℕ) (by : Bytes row) (d : Device) (read : device_read (read_row (device version) row) ≡ accepts d) where
+module _ (version : ℕ) (row : List ℕ) (by : Bytes row) (d : Device) (read : made device_of (read_row (device version) row) ≡ accepted d) where
   row-value : read_row (device 3) row ≡ accepted (value_of d)
   row-value =
       let e = read-value (read_row (device version) row) read in
@@ -62,8 +62,8 @@ module _ (version : ℕ) (row : List ℕ) (by : Bytes row) (d : Device) (read : 
   unfolding write.asked
   written_row out h = rw read-write (writes-row (device 3) row out (rw row-value) h)
 
-  read-row : (out left : List ℕ) (r : Written) → leaves r left ≡ writes (device 3) (image d) out → length row ≤ length out
-      → (r ≡ Length (length row)) × (left ≡ row ++ drop (length row) out)
+  read-row : (out left : List ℕ) (r : Result ℕ Question) → leaves r left ≡ writes (device 3) (image d) out → length row ≤ length out
+      → (r ≡ Ok (length row)) × (left ≡ row ++ drop (length row) out)
   read-row out left r e h =
       let w = e ∙ written_row out h in
       (length-is r (ap (λ (x : Left). x.answer) w), ap (λ (x : Left). x.out) w)

@@ -1,23 +1,19 @@
 -- What a reader leaves in the struct of a device row, and which row a struct stands for.
 -- Assumes nothing.
-use Rattle.std.specs.Prelude.{ℕ, ◌≤◌, ◌<◌, ◌^◌, List, [], ◌∷◌, ◌++◌, false, ◌≡◌, length, take, drop}
-use Rattle.layout.specs.Veil.{zeros}
+use Rattle.std.specs.Prelude.{ℕ, ◌≤◌, ◌<◌, ◌^◌, List, [], ◌∷◌, ◌++◌, Result, Ok, ◌≡◌, length, take, drop}
+use Rattle.layout.specs.declared.question.Question.{Question}
 use Rattle.layout.specs.Form.{bytes_of, flag_byte}
-use Rattle.layout.specs.Layout.{Answer, accepted, refused_by, print, read_row}
+use Rattle.layout.specs.Layout.{accepted, print, read_row}
 use Rattle.layout.specs.RowLaws.{Bytes}
 use Rattle.layout.specs.Write.{wrote, asked, writes}
+use Rattle.layout.specs.Says.{made, leaves}
 use Rattle.rows.specs.Values as value
 use Rattle.rows.specs.Rows.{device}
-use Rattle.rows.specs.Answers.{verdict_of, leaves}
-use Rattle.rows.specs.declared.Verdict.TheVariants as verdict
-use Rattle.rows.specs.declared.Written.{Written}
-use Rattle.rows.specs.declared.Written.TheVariants as written
 use Rattle.device.specs.Device.{config_of}
 use Rattle.device.specs.declared.CourierConfig.{CourierConfig}
 use Rattle.device_row.specs.declared.Device.{Device}
-use Rattle.device_row.specs.declared.DeviceRead.{DeviceRead}
 
--- ---- reading: 0 stands everywhere after a refusal
+-- ---- reading
 abbrev pub device_of : value.Device → Device
 device_of d = record {
   next_contact = d.next_contact;
@@ -26,16 +22,6 @@ device_of d = record {
   read_receipts = d.read_receipts;
   beacon_key = d.beacon_key;
 }
-
-abbrev pub zero_device : Device
-zero_device = record { next_contact = 0; beacon_day = 0; courier = config_of false 0 0; read_receipts = false; beacon_key = zeros 32 }
-
-abbrev pub device_or_zeros : Answer value.Device → Device
-device_or_zeros (accepted d) = device_of d
-device_or_zeros (refused_by q) = zero_device
-
-abbrev pub device_read : Answer value.Device → DeviceRead
-device_read a = record { verdict = verdict_of a; device = device_or_zeros a }
 
 -- ---- writing
 -- the value that a struct holds
@@ -67,18 +53,14 @@ pub record DeviceTyped (d : Device) : Type 0 where
   pub lifetime_min : d.courier.lifetime_min < 256 ^ 2
 
 -- ---- what is proved of both (proofs/RoundTrip.antt)
--- what `read_device` answers where it accepts
-abbrev pub accepts : Device → DeviceRead
-accepts d = record { verdict = verdict.Accepted; device = d }
-
--- `leaves r left ≡ writes ..` is what `Device::row` ensures of its answer r and of the output, `left` after the call, and `device_read` is what `read_device` answers
+-- `leaves r left ≡ writes ..` is what `Device::row` ensures of its answer r and of the output, `left` after the call, and `made device_of (read_row ..)` is what `read_device` answers
 pub record DeviceLaws : Type 0 where
   -- write, then read: the same struct
-  pub write_read : (d : Device) → DeviceTyped d → (n : ℕ) → asked (device 3) (image d) ≡ wrote n → device_read (read_row (device 3) (image d)) ≡ accepts d
-  pub row_read : (d : Device) → DeviceTyped d → (out left : List ℕ) (r : Written) (n : ℕ) → leaves r left ≡ writes (device 3) (image d) out → r ≡ written.Length n
-      → device_read (read_row (device 3) (take n left)) ≡ accepts d
+  pub write_read : (d : Device) → DeviceTyped d → (n : ℕ) → asked (device 3) (image d) ≡ wrote n → made device_of (read_row (device 3) (image d)) ≡ accepted d
+  pub row_read : (d : Device) → DeviceTyped d → (out left : List ℕ) (r : Result ℕ Question) (n : ℕ) → leaves r left ≡ writes (device 3) (image d) out → r ≡ Ok n
+      → made device_of (read_row (device 3) (take n left)) ≡ accepted d
   -- read, then write: the same bytes
-  pub read-write : (version : ℕ) (row : List ℕ) → Bytes row → (d : Device) → device_read (read_row (device version) row) ≡ accepts d → image d ≡ row
-  pub read-row : (version : ℕ) (row : List ℕ) → Bytes row → (d : Device) → device_read (read_row (device version) row) ≡ accepts d
-      → (out left : List ℕ) (r : Written) → leaves r left ≡ writes (device 3) (image d) out → length row ≤ length out
-      → (r ≡ written.Length (length row)) × (left ≡ row ++ drop (length row) out)
+  pub read-write : (version : ℕ) (row : List ℕ) → Bytes row → (d : Device) → made device_of (read_row (device version) row) ≡ accepted d → image d ≡ row
+  pub read-row : (version : ℕ) (row : List ℕ) → Bytes row → (d : Device) → made device_of (read_row (device version) row) ≡ accepted d
+      → (out left : List ℕ) (r : Result ℕ Question) → leaves r left ≡ writes (device 3) (image d) out → length row ≤ length out
+      → (r ≡ Ok (length row)) × (left ≡ row ++ drop (length row) out)

@@ -19,6 +19,7 @@ use Rattle.layout.proofs.Lawful.{Lawful, s-any, s-done, Blind, b-done, b-field, 
 use Rattle.layout.proofs.Front.{bytes-lawful, number-lawful, length-bytes_of, byte-print}
 use Rattle.layout.proofs.Ends.{to_end-lawful}
 use Rattle.layout.proofs.Theorems.{row_laws}
+use Rattle.layout.proofs.Along.{Fields}
 use Rattle.envelope.specs.Envelope as spec
 use Rattle.envelope.specs.Envelope.{Body, any_length, body, value_of, image, storable, EnvelopeTyped}
 use Rattle.envelope.specs.declared.Envelope.{Envelope}
@@ -42,6 +43,10 @@ body-lawful =
 pub body-laws : RowLaws body
 unfolding layout.print
 body-laws = row_laws body body-lawful (λ v rest h. h.1.1.1.1.0)
+
+-- so that it can be read field by field
+pub body-fields : Fields body
+body-fields = (bytes-lawful plain 16, λ tag. (bytes-lawful plain 16, λ c. (number-lawful 4, λ e. (number-lawful 1, λ k. (to_end-lawful veiled SEALED_LENGTH any_length, λ ct. tt)))))
 
 -- ---- the bytes
 module _ (e : Envelope) (ty : EnvelopeTyped e) (ct : List ℕ) where

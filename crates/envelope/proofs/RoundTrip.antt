@@ -8,18 +8,18 @@ use native.Mathlib.Omega.{arith}
 use lib.ListN.{length, take, drop}
 use lib.Dec.{ltb, eqb}
 use borrow.Author.Tests.{eqb-true, eqb-false, lt-ltb, le-ltb}
+use Rattle.std.specs.Prelude.{Ok}
 use Rattle.layout.specs.Form.{bytes_of}
 use Rattle.layout.specs.Layout.{Answer, accepted, refused_by, read_row, print}
 use Rattle.layout.specs.Layout as layout
 use Rattle.layout.specs.RowLaws.{Bytes}
 use Rattle.layout.specs.Write.{stored, writes}
-use Rattle.rows.specs.Answers.{leaves}
+use Rattle.layout.specs.Says.{made, leaves}
+use Rattle.layout.proofs.Theorems.{accepted≢}
 use Rattle.rows.specs.Checks.{sealed_carried, not_zero}
-use Rattle.rows.specs.declared.Verdict.TheVariants.{Accepted}
-use Rattle.rows.specs.declared.Written.TheVariants.{Length}
-use Rattle.rows.proofs.RoundTrip.{Stands, stands, rewritten, last-at, accepted-not}
+use Rattle.rows.proofs.RoundTrip.{Stands, stands, rewritten, last-at}
 use Rattle.envelope.specs.Envelope as spec
-use Rattle.envelope.specs.Envelope.{Body, body, decoded, valid_at, value_of, image, EnvelopeTyped, EnvelopeLaws}
+use Rattle.envelope.specs.Envelope.{Body, body, read_of, valid_at, value_of, image, EnvelopeTyped, EnvelopeLaws}
 use Rattle.envelope.specs.declared.Envelope.{Envelope}
 use Rattle.envelope.specs.declared.EnvelopeRead.{EnvelopeRead}
 use Rattle.envelope.proofs.Image.{body-laws, read-image}
@@ -36,7 +36,7 @@ ct-last : (b : Body) (input : List ℕ) → print body b ≡ input → drop (len
 ct-last b input e = subst (λ (l : List ℕ). drop (length l - length b.ct) l ≡ b.ct) (sym (print-is b) ∙ e) (last-at (front b) b.ct)
 
 -- ---- encode, then decode
-module _ (e : Envelope) (ct out left : List ℕ) (n : ℕ) (contract : leaves (Length n) left ≡ writes body (image e ct) out) where
+module _ (e : Envelope) (ct out left : List ℕ) (n : ℕ) (contract : leaves (Ok n) left ≡ writes body (image e ct) out) where
   held : Stands body (image e ct) left n
   held = stands body (image e ct) out left contract
 
@@ -48,18 +48,19 @@ module _ (e : Envelope) (ct out left : List ℕ) (n : ℕ) (contract : leaves (L
   write-ct = ct-last (value_of e ct) (take n left) (sym held.front)
 
 -- ---- decode, then encode
-read-write : (input : List ℕ) → Bytes input → (read : EnvelopeRead) → read ≡ decoded input (read_row body input) → read.verdict ≡ Accepted
+read-write : (input : List ℕ) → Bytes input → (read : EnvelopeRead) → made (read_of input) (read_row body input) ≡ accepted read
     → (out : List ℕ) → writes body (image read.envelope (drop read.ct_at input)) out ≡ stored input out
 unfolding spec.image
-read-write input by read r accept out = go (read_row body input) refl r
+read-write input by read r out = go (read_row body input) refl r
   where
-    go : (a : Answer Body) → read_row body input ≡ a → read ≡ decoded input a → writes body (image read.envelope (drop read.ct_at input)) out ≡ stored input out
+    go : (a : Answer Body) → read_row body input ≡ a → made (read_of input) a ≡ accepted read → writes body (image read.envelope (drop read.ct_at input)) out ≡ stored input out
     go (accepted b) e h =
-        ap (λ (x : EnvelopeRead). writes body (image x.envelope (drop x.ct_at input)) out) h
+        let same : read ≡ read_of input b = cc in
+        ap (λ (x : EnvelopeRead). writes body (image x.envelope (drop x.ct_at input)) out) same
         ∙ ap (λ (l : List ℕ). writes body (print body (record { tag = b.tag; c = b.c; expiry_min = b.expiry_min; copies = b.copies; ct = l })) out)
         (ct-last b input (body-laws.read-print input by b e))
         ∙ rewritten body body-laws input by b e out
-    go (refused_by p) e h = absurd (accepted-not {q = p} (sym accept ∙ ap (λ (x : EnvelopeRead). x.verdict) h))
+    go (refused_by p) e h = absurd (accepted≢ (sym h))
 
 -- ---- valid
 valid-row : (e : Envelope) (len : ℕ) → valid_at e len 0 ≡ (sealed_carried len && not_zero e.copies && not_zero e.expiry_min)
@@ -74,7 +75,7 @@ valid-row e len = ap (λ (t : Bool). sealed_carried len && not_zero e.copies && 
 
 pub envelope-laws : EnvelopeLaws
 envelope-laws = record {
-  write_read = λ e ty ct out left n contract. ap (λ (a : Answer Body). decoded (take n left) a) (is_read e ct out left n contract ty);
+  write_read = λ e ty ct out left n contract. ap (made (read_of (take n left))) (is_read e ct out left n contract ty);
   write-ct = write-ct;
   read-write = read-write;
   valid-row = valid-row;

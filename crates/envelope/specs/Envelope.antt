@@ -1,16 +1,14 @@
 -- An envelope's layout, what decoding leaves in the struct, when a courier accepts it, and which body a struct stands for.
 -- Assumes nothing.
-use Rattle.std.specs.Prelude.{ℕ, ◌-◌, ◌^◌, ◌<◌, List, [], Bool, true, cond, ◌&&◌, ◌≡◌, length, take, drop, leb, ltb}
-use Rattle.layout.specs.Questions.{FIELD, SEALED_LENGTH}
-use Rattle.layout.specs.Veil.{plain, veiled, zeros}
+use Rattle.std.specs.Prelude.{ℕ, ◌-◌, ◌^◌, ◌<◌, List, [], Bool, true, cond, ◌&&◌, Ok, ◌≡◌, length, take, drop, leb, ltb}
+use Rattle.layout.specs.Questions.{SEALED_LENGTH}
+use Rattle.layout.specs.Veil.{plain, veiled}
 use Rattle.layout.specs.Form.{bytes, u8, u32, to_end}
-use Rattle.layout.specs.Layout.{Layout, done, field, Answer, accepted, refused_by, read_row, print, ◌>>=◌}
+use Rattle.layout.specs.Layout.{Layout, done, field, accepted, read_row, print, ◌>>=◌}
 use Rattle.layout.specs.RowLaws.{Bytes}
 use Rattle.layout.specs.Write.{stored, writes}
+use Rattle.layout.specs.Says.{made, leaves}
 use Rattle.rows.specs.Checks.{sealed_carried, not_zero}
-use Rattle.rows.specs.Answers.{verdict_of, leaves}
-use Rattle.rows.specs.declared.Verdict.TheVariants.{Accepted, Refused}
-use Rattle.rows.specs.declared.Written.TheVariants.{Length}
 use Rattle.envelope.specs.declared.Envelope.{Envelope}
 use Rattle.envelope.specs.declared.EnvelopeRead.{EnvelopeRead}
 
@@ -35,23 +33,12 @@ body = do
   ct ← field (to_end veiled SEALED_LENGTH any_length) (λ b. b.ct)
   done (record { tag = tag; c = c; expiry_min = expiry_min; copies = copies; ct = ct })
 
--- ---- decoding: 0 stands everywhere after a refusal
-abbrev pub zero_envelope : Envelope
-zero_envelope = record { expiry_min = 0; copies = 0; tag = zeros 16; c = zeros 16 }
+-- ---- decoding: the envelope, and where its ct starts
+abbrev pub envelope_of : Body → Envelope
+envelope_of b = record { expiry_min = b.expiry_min; copies = b.copies; tag = b.tag; c = b.c }
 
-abbrev pub zero_read : ℕ → EnvelopeRead
-zero_read end = record { ct_at = end; verdict = Refused FIELD; envelope = zero_envelope }
-
-abbrev pub envelope_of : Answer Body → Envelope
-envelope_of (accepted b) = record { expiry_min = b.expiry_min; copies = b.copies; tag = b.tag; c = b.c }
-envelope_of (refused_by q) = zero_envelope
-
-abbrev pub ct_of : Answer Body → List ℕ
-ct_of (accepted b) = b.ct
-ct_of (refused_by q) = []
-
-abbrev pub decoded : List ℕ → Answer Body → EnvelopeRead
-decoded input a = record { ct_at = length input - length (ct_of a); verdict = verdict_of a; envelope = envelope_of a }
+abbrev pub read_of : List ℕ → Body → EnvelopeRead
+read_of input b = record { ct_at = length input - length b.ct; envelope = envelope_of b }
 
 -- ---- a courier accepts it
 abbrev pub valid_at : Envelope → ℕ → ℕ → Bool
@@ -76,15 +63,15 @@ pub record EnvelopeTyped (e : Envelope) : Type 0 where
   pub c : length e.c ≡ 16
 
 -- ---- what is proved of both, and of `valid` (proofs/RoundTrip.antt)
--- `leaves (Length n) left ≡ writes ..` is what `encode` ensures where it answers n and leaves the output as `left`; `decoded` is what `decode` answers
+-- `leaves (Ok n) left ≡ writes ..` is what `encode` ensures where it answers n and leaves the output as `left`; `made (read_of input) (read_row body input)` is what `decode` answers
 pub record EnvelopeLaws : Type 0 where
   -- encode, then decode: the same struct, and ct in its place
-  pub write_read : (e : Envelope) → EnvelopeTyped e → (ct out left : List ℕ) (n : ℕ) → leaves (Length n) left ≡ writes body (image e ct) out
-      → decoded (take n left) (read_row body (take n left)) ≡ record { ct_at = length (take n left) - length ct; verdict = Accepted; envelope = e }
-  pub write-ct : (e : Envelope) (ct out left : List ℕ) (n : ℕ) → leaves (Length n) left ≡ writes body (image e ct) out
+  pub write_read : (e : Envelope) → EnvelopeTyped e → (ct out left : List ℕ) (n : ℕ) → leaves (Ok n) left ≡ writes body (image e ct) out
+      → made (read_of (take n left)) (read_row body (take n left)) ≡ accepted (record { ct_at = length (take n left) - length ct; envelope = e })
+  pub write-ct : (e : Envelope) (ct out left : List ℕ) (n : ℕ) → leaves (Ok n) left ≡ writes body (image e ct) out
       → drop (length (take n left) - length ct) (take n left) ≡ ct
   -- decode, then encode: the same bytes
-  pub read-write : (input : List ℕ) → Bytes input → (read : EnvelopeRead) → read ≡ decoded input (read_row body input) → read.verdict ≡ Accepted
+  pub read-write : (input : List ℕ) → Bytes input → (read : EnvelopeRead) → made (read_of input) (read_row body input) ≡ accepted read
       → (out : List ℕ) → writes body (image read.envelope (drop read.ct_at input)) out ≡ stored input out
   -- at minute 0, as state.rs calls it, `valid` asks what a carried row is asked: 13, 14 and 15
   pub valid-row : (e : Envelope) (len : ℕ) → valid_at e len 0 ≡ (sealed_carried len && not_zero e.copies && not_zero e.expiry_min)

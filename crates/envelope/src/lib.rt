@@ -5,12 +5,10 @@ ghost use Rattle.std.specs.Prelude.{◌≡◌, ◌+◌, ◌-◌, ◌≤◌, leng
 ghost use Rattle.layout.specs.Layout.{read_row};
 ghost use Rattle.layout.specs.Write.{writes};
 ghost use Rattle.put.specs.Put.{Wrote};
-ghost use Rattle.rows.specs.Answers.{leaves};
-ghost use Rattle.envelope.specs.Envelope.{body, zero_read, decoded, valid_at, image, storable, EnvelopeTyped};
+ghost use Rattle.layout.specs.Says.{answers, made, leaves};
+ghost use Rattle.envelope.specs.Envelope.{body, read_of, valid_at, image, storable, EnvelopeTyped};
 
-use fields::{RunField, U8Field, U32Field};
-use layout::question;
-use rows::{Verdict, Written};
+use layout::Question;
 
 // An envelope but for ct: tag, c, expiry in Unix minutes, copies.
 #[derive(Clone, Copy)]
@@ -21,88 +19,53 @@ pub struct Envelope {
     pub c: [u8; 16],
 }
 
-// What decoding leaves: ct stands from ct_at on. After a refusal all is 0, and ct_at is the body's end.
+// An envelope that was decoded, and where its ct starts.
 #[derive(Clone, Copy)]
 pub struct EnvelopeRead {
     pub ct_at: usize,
-    pub verdict: Verdict,
     pub envelope: Envelope,
 }
 
 // How long an envelope is before ct.
 pub const ENVELOPE_HEADER: usize = 37;
 
-// What stands where the body is too short.
-fn short(end: usize) -> EnvelopeRead
-    ensures { result ≡ zero_read end }
-{
-    EnvelopeRead {
-        ct_at: end,
-        verdict: Verdict::Refused(question::FIELD),
-        envelope: Envelope {
-            expiry_min: 0,
-            copies: 0,
-            tag: [0; 16],
-            c: [0; 16],
-        },
-    }
-}
-
 impl Envelope {
     // Only the fields before ct are asked for; ct is judged by valid.
-    pub fn decode(input: &[u8]) -> EnvelopeRead
-        ensures { result ≡ decoded input.now (read_row body input.now) }
+    pub fn decode(input: &[u8]) -> Result<EnvelopeRead, Question>
+        ensures { answers result ≡ made (read_of input.now) (read_row body input.now) }
     {
-        let end = input.len();
-        let RunField::Value(tag_at, at1) = fields::run_at(input, 0, 16) else {
-            return short(end);
-        };
-        let RunField::Value(c_at, at2) = fields::run_at(input, at1, 16) else {
-            return short(end);
-        };
-        let U32Field::Value(expiry_min, at3) = fields::u32_at(input, at2) else {
-            return short(end);
-        };
-        let U8Field::Value(copies, at4) = fields::byte_at(input, at3) else {
-            return short(end);
-        };
-        let tag = put::copy_16(input, tag_at);
-        let c = put::copy_16(input, c_at);
-        EnvelopeRead {
+        let (tag_at, at1) = fields::run_at(input, 0, 16)?;
+        let (c_at, at2) = fields::run_at(input, at1, 16)?;
+        let (expiry_min, at3) = fields::u32_at(input, at2)?;
+        let (copies, at4) = fields::byte_at(input, at3)?;
+        Ok(EnvelopeRead {
             ct_at: at4,
-            verdict: Verdict::Accepted,
             envelope: Envelope {
                 expiry_min,
                 copies,
-                tag,
-                c,
+                tag: put::copy_array(input, tag_at),
+                c: put::copy_array(input, c_at),
             },
-        }
+        })
     }
 
     // A courier accepts it: ct, of this length, is of a courier's size, there are copies, and it has not expired.
     pub fn valid(self, ct_len: usize, now_min: u32) -> bool
         ensures { result ≡ valid_at self ct_len now_min }
     {
-        if sealed::sealed_carried(ct_len) {
-            if self.copies == 0 {
-                return false;
-            }
-            return now_min < self.expiry_min;
-        }
-        false
+        sealed::sealed_carried(ct_len) && self.copies != 0 && now_min < self.expiry_min
     }
 
     // Asks for room only; a refusal writes nothing.
-    pub fn encode(self, ct: &[u8], out: &mut [u8]) -> Written
+    pub fn encode(self, ct: &[u8], out: &mut [u8]) -> Result<usize, Question>
         ensures { leaves result out.new ≡ writes body (image self ct.now) out.old }
     {
         typed(self);
         let n = put_envelope(out, 0, self, ct);
         if n == 0 {
-            return Written::Refused(question::OUTPUT);
+            return Err(Question::Output);
         }
-        Written::Length(n)
+        Ok(n)
     }
 }
 
@@ -117,10 +80,7 @@ fn typed(envelope: Envelope) -> bool
 fn envelope_fits(ct_len: usize, room: usize) -> bool
     ensures { result ≡ leb (37 + ct_len) room }
 {
-    if room < ENVELOPE_HEADER {
-        return false;
-    }
-    ct_len <= room - ENVELOPE_HEADER
+    ENVELOPE_HEADER <= room && ct_len <= room - ENVELOPE_HEADER
 }
 
 // Writes an envelope from a place on; the place behind it. Nothing is written where there is no room.
@@ -129,10 +89,7 @@ pub fn put_envelope(out: &mut [u8], at: usize, envelope: Envelope, ct: &[u8]) ->
 {
     typed(envelope);
     let len = out.len();
-    if len < at {
-        return at;
-    }
-    if !envelope_fits(ct.len(), len - at) {
+    if len < at || !envelope_fits(ct.len(), len - at) {
         return at;
     }
     put_body(out, at, envelope, ct)
@@ -145,9 +102,9 @@ fn put_body(out: &mut [u8], at: usize, envelope: Envelope, ct: &[u8]) -> usize
 {
     typed(envelope);
     let tag = envelope.tag;
-    let c_at = put::put_16(out, at, &tag);
+    let c_at = put::put_array(out, at, &tag);
     let c = envelope.c;
-    let expiry_at = put::put_16(out, c_at, &c);
+    let expiry_at = put::put_array(out, c_at, &c);
     let copies_at = put::put_be(out, expiry_at, 4, envelope.expiry_min as u64);
     let ct_at = put::put_byte(out, copies_at, envelope.copies);
     put::put_run(out, ct_at, ct, 0, ct.len())

@@ -1,9 +1,11 @@
 -- The row that a struct and a sealed text stand for: its bytes, its length, and what reading it would answer.
 -- Assumes nothing.
 use Prim.Native.Nat.{ℕ, ◌+◌, ◌<◌}
+use Rattle.std.specs.Prelude.{Option, Some, None}
 use mathlib.Core.List.{List, [], ◌∷◌, ◌++◌, append-nil}
 use mathlib.Core.Bool.{Bool, true, false, cond}
-use mathlib.Core.Option.{Option, none, some}
+use mathlib.Core.Option.{none, some}
+use mathlib.Core.Option as math
 use mathlib.Core.Path.{◌≡◌, refl, ap, subst, ◌∙◌}
 use native.Mathlib.Omega.{arith}
 use lib.ListN.{length, length-append}
@@ -22,11 +24,10 @@ use Rattle.rows.proofs.Proved.{proved}
 use Rattle.queued_row.specs.Row as spec
 use Rattle.queued_row.specs.Row.{envelope_of, value_of, own_image, image, OwnTyped, OutgoingTyped}
 use Rattle.queued_row.specs.declared.OwnEnvelope.{OwnEnvelope}
-use Rattle.queued_row.specs.declared.OwnEnvelope.TheVariants.{Absent, Present}
 use Rattle.queued_row.specs.declared.Outgoing.{Outgoing}
 
 -- ---- the envelope's bytes
-pub own-absent : (q : Outgoing) → q.envelope ≡ Absent → own_image q ≡ 0 ∷ []
+pub own-absent : (q : Outgoing) → q.envelope ≡ None → own_image q ≡ 0 ∷ []
 unfolding spec.own_image layout.print
 own-absent q e = rw e
 
@@ -39,13 +40,13 @@ flagged : (e : value.OwnEnvelope) → (optional (group own_envelope)).print (som
 unfolding layout.print
 flagged e = ap (λ (l : List ℕ). 1 ∷ l) (append-nil (print own_envelope e))
 
-module _ (q : Outgoing) (ty : OutgoingTyped q) {expiry copies : ℕ} {renewed : Bool} (e : q.envelope ≡ Present expiry copies renewed) where
-  pub own-present : own_image q ≡ (1 ∷ []) ++ (q.tag ++ (q.s ++ (bytes_of 4 expiry ++ ((copies ∷ []) ++ (flag_byte renewed ∷ [])))))
+module _ (q : Outgoing) (ty : OutgoingTyped q) {e : OwnEnvelope} (is : q.envelope ≡ Some e) where
+  pub own-present : own_image q ≡ (1 ∷ []) ++ (q.tag ++ (q.s ++ (bytes_of 4 e.expiry_min ++ ((e.copies ∷ []) ++ (flag_byte e.renewed ∷ [])))))
   unfolding spec.own_image
   own-present =
-      let its : value.OwnEnvelope = record { tag = q.tag; s = q.s; expiry_min = expiry; copies = copies; renewed = renewed } in
-      ap (λ (own : OwnEnvelope). (optional (group own_envelope)).print (envelope_of own q.tag q.s)) e ∙ flagged its
-      ∙ ap (λ (l : List ℕ). 1 ∷ l) (envelope-print its (subst OwnTyped e ty.envelope).1)
+      let its : value.OwnEnvelope = record { tag = q.tag; s = q.s; expiry_min = e.expiry_min; copies = e.copies; renewed = e.renewed } in
+      ap (λ (own : Option OwnEnvelope). (optional (group own_envelope)).print (envelope_of own q.tag q.s)) is ∙ flagged its
+      ∙ ap (λ (l : List ℕ). 1 ∷ l) (envelope-print its (subst OwnTyped is ty.envelope).1)
 
   pub length-present : length (own_image q) ≡ 39
   length-present = rw own-present (simp (length-append, length-bytes_of) (omega (arith, ty.tag, ty.s)))
@@ -66,24 +67,24 @@ module _ (q : Outgoing) (ty : OutgoingTyped q) (sealed : List ℕ) where
   flag-fits true = refl
   flag-fits false = refl
 
-  own-fits : (own : OwnEnvelope) → OwnTyped own → (post : List ℕ) → (optional (group own_envelope)).fits (envelope_of own q.tag q.s) post
-  own-fits Absent t post = (refl, (tt, refl))
-  own-fits (Present expiry copies renewed) t post = (refl, ((ty.tag, (ty.s, (t.0, (t.1, (flag-fits renewed, refl))))), refl))
+  own-fits : (own : Option OwnEnvelope) → OwnTyped own → (post : List ℕ) → (optional (group own_envelope)).fits (envelope_of own q.tag q.s) post
+  own-fits None t post = (refl, (tt, refl))
+  own-fits (Some e) t post = (refl, ((ty.tag, (ty.s, (t.0, (t.1, (flag-fits e.renewed, refl))))), refl))
 
   pub fits : fits_of (queued 3) (value_of q sealed) []
   unfolding layout.print
   fits = (ty.created_s, (own-fits q.envelope ty.envelope _, (ty.gen_, (ty.idx, (refl, (refl, refl))))))
 
-  own_granted : (own : OwnEnvelope) → (optional (group own_envelope)).refusal (envelope_of own q.tag q.s) ≡ none
+  own_granted : (own : Option OwnEnvelope) → (optional (group own_envelope)).refusal (envelope_of own q.tag q.s) ≡ none
   unfolding layout.refusal_of
-  own_granted Absent = refl
-  own_granted (Present expiry copies renewed) = refl
+  own_granted None = refl
+  own_granted (Some e) = refl
 
-  refusal : {o : Option ℕ} → cond (sealed_queued (length sealed)) none (some SEALED_LENGTH) ≡ o → refusal_of (queued 3) (value_of q sealed) ≡ o
+  refusal : {o : math.Option ℕ} → cond (sealed_queued (length sealed)) none (some SEALED_LENGTH) ≡ o → refusal_of (queued 3) (value_of q sealed) ≡ o
   unfolding layout.refusal_of
   refusal e = rw (own_granted q.envelope) (last _ ∙ e)
     where
-      last : (o : Option ℕ) → first o (first none none) ≡ o
+      last : (o : math.Option ℕ) → first o (first none none) ≡ o
       last none = refl
       last (some n) = refl
 

@@ -3,6 +3,7 @@
 use Prim.Native.Nat.{ℕ, ◌-◌}
 use mathlib.Core.List.{List, ◌++◌, append_assoc, append-nil}
 use mathlib.Core.Option.{Option, none, some}
+use Rattle.std.specs.Prelude.{Ok}
 use mathlib.Core.Path.{◌≡◌, refl, sym, ap, subst, ◌∙◌}
 use lib.ListN.{length, take, drop}
 use Rattle.layout.specs.Form.{bytes_of, leb_print}
@@ -10,14 +11,12 @@ use Rattle.layout.specs.Layout.{Answer, accepted, refused_by, read_row, print, g
 use Rattle.layout.specs.Layout as layout
 use Rattle.layout.specs.RowLaws.{Bytes}
 use Rattle.layout.specs.Write.{stored, writes}
-use Rattle.layout.specs.Write as write
 use Rattle.rows.specs.Values as value
 use Rattle.rows.specs.Rows.{own_envelope, queued}
-use Rattle.rows.specs.Answers.{leaves}
-use Rattle.rows.specs.declared.Verdict.TheVariants.{Accepted}
-use Rattle.rows.specs.declared.Written.TheVariants.{Length}
+use Rattle.layout.specs.Says.{answers, made, leaves}
+use Rattle.layout.proofs.Theorems.{accepted≢}
 use Rattle.rows.proofs.Proved.{proved}
-use Rattle.rows.proofs.RoundTrip.{Stands, stands, printed-back, three, rewritten, last-at, accepted-not}
+use Rattle.rows.proofs.RoundTrip.{Stands, stands, printed-back, three, rewritten, last-at}
 use Rattle.queued_row.specs.Row as spec
 use Rattle.queued_row.specs.Row.{own_of, tag_of, s_of, queued_of, decoded, envelope_of, value_of, image, OutgoingTyped, QueuedLaws}
 use Rattle.queued_row.specs.declared.Outgoing.{Outgoing}
@@ -42,7 +41,7 @@ pub sealed-last : (version : ℕ) (v : value.Queued) (row : List ℕ) → print 
 sealed-last version v row e = subst (λ (l : List ℕ). drop (length l - length v.sealed) l ≡ v.sealed) (sym (print-is version v) ∙ e) (last-at (front v) v.sealed)
 
 -- ---- write, then read
-module _ (q : Outgoing) (sealed out left : List ℕ) (n : ℕ) (contract : leaves (Length n) left ≡ writes (queued 3) (image q sealed) out) where
+module _ (q : Outgoing) (sealed out left : List ℕ) (n : ℕ) (contract : leaves (Ok n) left ≡ writes (queued 3) (image q sealed) out) where
   held : Stands (queued 3) (image q sealed) left n
   held = stands (queued 3) (image q sealed) out left contract
 
@@ -65,24 +64,25 @@ value-back : (v : value.Queued) → value_of (queued_of v) v.sealed ≡ v
 value-back v =
     ap (λ (o : Option value.OwnEnvelope). record { created_s = v.created_s; envelope = o; gen = v.gen; idx = v.idx; sealed = v.sealed }) (own_back v.envelope)
 
-read-write : (version : ℕ) (row : List ℕ) → Bytes row → (read : QueuedRead) → read ≡ decoded row (read_row (queued version) row) → read.verdict ≡ Accepted
+read-write : (version : ℕ) (row : List ℕ) → Bytes row → (read : QueuedRead) → answers (Ok read) ≡ made (decoded row) (read_row (queued version) row)
     → (out : List ℕ) → writes (queued 3) (image read.queued (drop read.sealed_at row)) out ≡ stored row out
 unfolding spec.image
-read-write version row by read r accept out = go (read_row (queued version) row) refl r
+read-write version row by read r out = go (read_row (queued version) row) refl r
   where
-    go : (a : Answer value.Queued) → read_row (queued version) row ≡ a → read ≡ decoded row a
+    go : (a : Answer value.Queued) → read_row (queued version) row ≡ a → accepted read ≡ made (decoded row) a
         → writes (queued 3) (image read.queued (drop read.sealed_at row)) out ≡ stored row out
     go (accepted v) e h =
         let text = sealed-last version v row ((proved.queued version).laws.read-print row by v e) in
         let known : read_row (queued 3) row ≡ accepted v = subst (λ (n : ℕ). read_row (queued n) row ≡ accepted v) (three _ version row e) e in
-        ap (λ (x : QueuedRead). writes (queued 3) (image x.queued (drop x.sealed_at row)) out) h
+        let same : read ≡ decoded row v = cc in
+        ap (λ (x : QueuedRead). writes (queued 3) (image x.queued (drop x.sealed_at row)) out) same
         ∙ ap (λ (l : List ℕ). writes (queued 3) (image (queued_of v) l) out) text
         ∙ ap (λ (x : value.Queued). writes (queued 3) (print (queued 3) x) out) (value-back v) ∙ rewritten (queued 3) (proved.queued 3).laws row by v known out
-    go (refused_by p) e h = absurd (accepted-not {q = p} (sym accept ∙ ap (λ (x : QueuedRead). x.verdict) h))
+    go (refused_by p) e h = absurd (accepted≢ h)
 
 pub queued-laws : QueuedLaws
 queued-laws = record {
-  write_read = λ q ty sealed out left n contract. ap (λ (a : Answer value.Queued). decoded (take n left) a) (is_read q sealed out left n contract ty);
+  write_read = λ q ty sealed out left n contract. ap (made (decoded (take n left))) (is_read q sealed out left n contract ty);
   write-sealed = write-sealed;
   read-write = read-write;
 }

@@ -4,26 +4,22 @@
 ghost use Rattle.std.specs.Prelude.{◌≡◌, [], ◌∷◌, ◌++◌, ◌+◌, ◌≤◌, length};
 ghost use Rattle.layout.specs.Form.{bytes_of, flag_byte};
 ghost use Rattle.layout.specs.Layout.{read_row};
+ghost use Rattle.layout.specs.Says.{answers, made, written_says, leaves};
 ghost use Rattle.layout.specs.Write.{asked, writes};
 ghost use Rattle.put.specs.Put.{Wrote};
 ghost use Rattle.rows.specs.Rows.{queued};
-ghost use Rattle.rows.specs.Answers.{written_says, leaves};
 ghost use Rattle.queued.specs.Queued.{queued_from, Offsets};
-ghost use Rattle.queued_row.specs.Row.{queued_of, zero_outgoing, decoded, OwnTyped, OutgoingTyped, own_image, image};
+ghost use Rattle.queued_row.specs.Row.{queued_of, decoded, OwnTyped, OutgoingTyped, own_image, image};
 
-use layout::question;
-use queued::{OwnEnvelopeAt, QueuedAt, QueuedCheck};
-use rows::{Verdict, Written};
+use layout::Question;
+use queued::QueuedAt;
 
-// The numbers of a sender's own envelope, if there is one.
+// The numbers of a sender's own envelope.
 #[derive(Clone, Copy)]
-pub enum OwnEnvelope {
-    Absent,
-    Present {
-        expiry_min: u32,
-        copies: u8,
-        renewed: bool,
-    },
+pub struct OwnEnvelope {
+    pub expiry_min: u32,
+    pub copies: u8,
+    pub renewed: bool,
 }
 
 // A queued row but for its sealed text. tag and s are the envelope's: 0 where there is none.
@@ -32,16 +28,15 @@ pub struct Outgoing {
     pub created_s: u64,
     pub idx: u32,
     pub gen_: u8,
-    pub envelope: OwnEnvelope,
+    pub envelope: Option<OwnEnvelope>,
     pub tag: [u8; 16],
     pub s: [u8; 16],
 }
 
-// What reading leaves: the sealed text stands from sealed_at on. After a refusal all is 0, and sealed_at is the row's end.
+// What reading leaves: the sealed text stands from sealed_at on.
 #[derive(Clone, Copy)]
 pub struct QueuedRead {
     pub sealed_at: usize,
-    pub verdict: Verdict,
     pub queued: Outgoing,
 }
 
@@ -50,118 +45,84 @@ fn queued_from(row: &[u8], at: QueuedAt) -> Outgoing
     requires { Offsets row.now at }
     ensures { result ≡ queued_of (queued_from row.now at) }
 {
-    let own = at.envelope;
-    let OwnEnvelopeAt::Present(envelope) = own else {
+    let Some(envelope) = at.envelope else {
         return Outgoing {
             created_s: at.created_s,
             idx: at.idx,
             gen_: at.gen_,
-            envelope: OwnEnvelope::Absent,
+            envelope: None,
             tag: [0; 16],
             s: [0; 16],
         };
     };
-    let tag = put::copy_16(row, envelope.tag);
-    let s = put::copy_16(row, envelope.s);
     Outgoing {
         created_s: at.created_s,
         idx: at.idx,
         gen_: at.gen_,
-        envelope: OwnEnvelope::Present {
+        envelope: Some(OwnEnvelope {
             expiry_min: envelope.expiry_min,
             copies: envelope.copies,
             renewed: envelope.renewed,
-        },
-        tag,
-        s,
+        }),
+        tag: put::copy_array(row, envelope.tag),
+        s: put::copy_array(row, envelope.s),
     }
 }
 
-pub fn read_queued(version: u32, row: &[u8]) -> QueuedRead
-    ensures { result ≡ decoded row.now (read_row (queued version) row.now) }
+pub fn read_queued(version: u32, row: &[u8]) -> Result<QueuedRead, Question>
+    ensures { answers result ≡ made (decoded row.now) (read_row (queued version) row.now) }
 {
-    let check = queued::check_queued(version, row);
-    let QueuedCheck::Fields(at) = check else {
-        return QueuedRead {
-            sealed_at: row.len(),
-            verdict: Verdict::Refused(check.refusal()),
-            queued: Outgoing::zero(),
-        };
-    };
-    QueuedRead {
+    let at = queued::check_queued(version, row)?;
+    Ok(QueuedRead {
         sealed_at: at.sealed,
-        verdict: Verdict::Accepted,
         queued: queued_from(row, at),
-    }
+    })
 }
 
 impl Outgoing {
-    // All zeros: what stands where no row was read.
-    fn zero() -> Outgoing
-        ensures { result ≡ zero_outgoing }
-    {
-        Outgoing {
-            created_s: 0,
-            idx: 0,
-            gen_: 0,
-            envelope: OwnEnvelope::Absent,
-            tag: [0; 16],
-            s: [0; 16],
-        }
-    }
-
     // Writes the row with this sealed text. Asks what reading the row would ask, then for room; a refusal writes nothing.
-    pub fn row(self, sealed: &[u8], out: &mut [u8]) -> Written
+    pub fn row(self, sealed: &[u8], out: &mut [u8]) -> Result<usize, Question>
         ensures { leaves result out.new ≡ writes (queued 3) (image self sealed.now) out.old }
     {
-        let size = queued_size(self, sealed);
-        let Written::Length(n) = size else {
-            return size;
-        };
+        let n = queued_size(self, sealed)?;
         if out.len() < n {
-            return Written::Refused(question::OUTPUT);
+            return Err(Question::Output);
         }
         put_queued(out, 0, self, sealed);
-        Written::Length(n)
+        Ok(n)
     }
 }
 
 // What the types say, as facts.
-fn own_typed(own: OwnEnvelope) -> bool
+fn own_typed(own: Option<OwnEnvelope>) -> bool
     ensures { OwnTyped own }
 {
     match own {
-        OwnEnvelope::Absent => true,
-        OwnEnvelope::Present {
-            expiry_min: _,
-            copies: _,
-            renewed,
-        } => renewed,
+        None => true,
+        Some(envelope) => envelope.renewed,
     }
 }
 
 fn typed(outgoing: Outgoing) -> bool
     ensures { OutgoingTyped outgoing }
 {
-    let own = outgoing.envelope;
-    own_typed(own)
+    own_typed(outgoing.envelope)
 }
 
 // The length of the row with this sealed text, or the question that reading it would answer no.
-fn queued_size(outgoing: Outgoing, sealed: &[u8]) -> Written
+fn queued_size(outgoing: Outgoing, sealed: &[u8]) -> Result<usize, Question>
     ensures { written_says result ≡ asked (queued 3) (image outgoing sealed.now) }
 {
     typed(outgoing);
     let n = sealed.len();
-    if sealed::sealed_queued(n) {
-        let idx_len = data::leb128_len(outgoing.idx);
-        let own = outgoing.envelope;
-        let OwnEnvelope::Present { .. } = own else {
-            return Written::Length(10 + idx_len + n);
-        };
-        return Written::Length(48 + idx_len + n);
+    if !sealed::sealed_queued(n) {
+        return Err(Question::SealedLength);
     }
-    Written::Refused(question::SEALED_LENGTH)
+    let own_len = match outgoing.envelope {
+        None => 1,
+        Some(_) => 39,
+    };
+    Ok(9 + own_len + data::leb128_len(outgoing.idx) + n)
 }
 
 // Writes the row, where there is room; the place behind it.
@@ -183,32 +144,21 @@ fn put_own_envelope(out: &mut [u8], at: usize, outgoing: Outgoing) -> usize
     ensures { (result ≡ at + length (own_image outgoing)) × Wrote out.old at (own_image outgoing) out.new result }
 {
     typed(outgoing);
-    let own = outgoing.envelope;
-    let OwnEnvelope::Present {
-        expiry_min,
-        copies,
-        renewed,
-    } = own
-    else {
+    let Some(envelope) = outgoing.envelope else {
         return put::put_byte(out, at, 0);
     };
     let tag_at = put::put_byte(out, at, 1);
-    let tag = outgoing.tag;
-    let s_at = put::put_16(out, tag_at, &tag);
-    let s = outgoing.s;
-    let expiry_at = put::put_16(out, s_at, &s);
-    put_numbers(out, expiry_at, expiry_min, copies, renewed)
+    let s_at = put::put_array(out, tag_at, &outgoing.tag);
+    let expiry_at = put::put_array(out, s_at, &outgoing.s);
+    put_numbers(out, expiry_at, envelope)
 }
 
 // An envelope's numbers.
-fn put_numbers(out: &mut [u8], at: usize, expiry_min: u32, copies: u8, renewed: bool) -> usize
+fn put_numbers(out: &mut [u8], at: usize, envelope: OwnEnvelope) -> usize
     requires { at + 6 ≤ length out.old }
-    ensures { (result ≡ at + 6) × Wrote out.old at (bytes_of 4 expiry_min ++ ((copies ∷ []) ++ (flag_byte renewed ∷ []))) out.new result }
+    ensures { (result ≡ at + 6) × Wrote out.old at (bytes_of 4 envelope.expiry_min ++ ((envelope.copies ∷ []) ++ (flag_byte envelope.renewed ∷ []))) out.new result }
 {
-    let copies_at = put::put_be(out, at, 4, expiry_min as u64);
-    let renewed_at = put::put_byte(out, copies_at, copies);
-    if renewed {
-        return put::put_byte(out, renewed_at, 1);
-    }
-    put::put_byte(out, renewed_at, 0)
+    let copies_at = put::put_be(out, at, 4, u64::from(envelope.expiry_min));
+    let renewed_at = put::put_byte(out, copies_at, envelope.copies);
+    put::put_byte(out, renewed_at, u8::from(envelope.renewed))
 }

@@ -19,12 +19,12 @@ use Rattle.received.specs.Change.{change_of, applied}
 use Rattle.received.specs.Lent.{pairs, received_in, stored, fits, plan_of, list_after, Fitting}
 use Rattle.numbers.specs.Lists.{limit_of}
 use Rattle.received.specs.declared.Change.{Change}
-use Rattle.received.specs.declared.Planned.TheVariants as planned
 use Rattle.rows.proofs.Tests.{either, if-lt}
 use Rattle.received.proofs.Pairs.{length_pairs}
+use Rattle.layout.specs.Layout.{accepted, refused_by}
 
 -- ---- the ranges behind the merged one are the last of those that were there
-behind-short : (f t : ℕ) (rs : List Range) → length (merged f t rs).behind ≤ length rs
+pub behind-short : (f t : ℕ) (rs : List Range) → length (merged f t rs).behind ≤ length rs
 behind-short f t [] = omega arith
 behind-short f t (r ∷ rs) =
     if-lt (t + 1) r.from
@@ -43,7 +43,7 @@ behind-is f t (r ∷ rs) =
     let n : suc (length rs) - length m.behind ≡ suc (length rs - length m.behind) = omega (arith, behind-short (min f r.from) (max t r.to) rs) in
     behind-is (min f r.from) (max t r.to) rs ∙ rw n)
 
-below-few : (f : ℕ) (rs : List Range) → below f rs ≤ length rs
+pub below-few : (f : ℕ) (rs : List Range) → below f rs ≤ length rs
 below-few f [] = omega arith
 below-few f (r ∷ rs) =
     if-lt (r.to + 1) f (λ b. cond b (suc (below f rs)) 0 ≤ suc (length rs)) (λ h. omega (arith, below-few f rs)) (λ h. omega arith)
@@ -131,49 +131,51 @@ module _ (v : Received) (f t : ℕ) where
       (λ h. subst (Sound v f t) (change-joined v f t h) (joined-sound h))
 
 -- ---- what `change_of` answers, from what its loops found
-module _ (c k : ℕ) (rs : List Range) (n : length rs ≡ k) (f t next a b : ℕ) (new : ℕ) (counts : new ≡ added (received c rs) f t) where
-  pub joined-found : (h : ℕ) → f ≤ c + 1 → h ≡ max t c → merged 0 h rs ≡ record { range = range a b; behind = drop next rs }
-      → change 0 (k - next) (k - next) b a b (not (eqb b c)) new ≡ change_of (received c rs) f t
-  joined-found h le e found =
-      let m : merged 0 (max t c) rs ≡ record { range = range a b; behind = drop next rs } = rw e at found in
-      rw (← change-joined (received c rs) f t le, m, length-drop, n, counts)
+module _ (c : ℕ) (rs : List Range) (f t a b after new : ℕ) (counts : new ≡ added (received c rs) f t) where
+  pub joined-found : (h : ℕ) → f ≤ c + 1 → h ≡ max t c → (merged 0 h rs).range ≡ range a b → length (merged 0 h rs).behind ≡ after
+      → change 0 after after b a b (not (eqb b c)) new ≡ change_of (received c rs) f t
+  joined-found h le e is n =
+      let is' : (merged 0 (max t c) rs).range ≡ range a b = rw e at is in
+      let n' : length (merged 0 (max t c) rs).behind ≡ after = rw e at n in
+      rw (← change-joined (received c rs) f t le, is', n', counts)
 
-  pub apart-found : (i : ℕ) → c + 1 < f → i ≡ below f rs → merged f t (drop i rs) ≡ record { range = range a b; behind = drop next rs }
-      → change (i + 1) (k - next) (i + 1 + (k - next)) c a b false new ≡ change_of (received c rs) f t
-  apart-found i lt e found =
-      let m : merged f t (drop (below f rs) rs) ≡ record { range = range a b; behind = drop next rs } = rw e at found in
-      rw (← change-apart (received c rs) f t lt, m, length-drop, n, e, counts)
+  pub apart-found : (i : ℕ) → c + 1 < f → i ≡ below f rs → (merged f t (drop i rs)).range ≡ range a b → length (merged f t (drop i rs)).behind ≡ after
+      → change (i + 1) after (i + 1 + after) c a b false new ≡ change_of (received c rs) f t
+  apart-found i lt e is n =
+      let is' : (merged f t (drop (below f rs) rs)).range ≡ range a b = rw e at is in
+      let n' : length (merged f t (drop (below f rs) rs)).behind ≡ after = rw e at n in
+      rw (← change-apart (received c rs) f t lt, is', n', e, counts)
 
 -- ---- what `plan` answers: the change where there is room for it, else a refusal
 module _ (v : Received) (n f t : ℕ) where
-  pub plan-change : (c : Change) → c ≡ change_of v f t → c.count ≤ limit_of n → planned.Change c ≡ plan_of v n f t
+  pub plan-change : (c : Change) → c ≡ change_of v f t → c.count ≤ limit_of n → accepted c ≡ plan_of v n f t
   unfolding change_of
   plan-change c e h = rw (le-leb (length (inserted v f t).above) (limit_of n) (rw e at h), e)
 
-  pub plan-refusal : (c : Change) → c ≡ change_of v f t → limit_of n < c.count → planned.Refused RANGES_FIT ≡ plan_of v n f t
+  pub plan-refusal : (c : Change) → c ≡ change_of v f t → limit_of n < c.count → refused_by RANGES_FIT ≡ plan_of v n f t
   unfolding change_of
   plan-refusal c e h = rw (lt-leb (length (inserted v f t).above) (limit_of n) (rw e at h))
 
-  granted : (c : Change) → planned.Change c ≡ plan_of v n f t → (fits v n f t ≡ true) × (c ≡ change_of v f t)
+  granted : (c : Change) → accepted c ≡ plan_of v n f t → (fits v n f t ≡ true) × (c ≡ change_of v f t)
   granted c =
-      either (fits v n f t) (λ b. planned.Change c ≡ cond b (planned.Change (change_of v f t)) (planned.Refused RANGES_FIT) → (b ≡ true) × (c ≡ change_of v f t))
+      either (fits v n f t) (λ b. accepted c ≡ cond b (accepted (change_of v f t)) (refused_by RANGES_FIT) → (b ≡ true) × (c ≡ change_of v f t))
       (λ e p. (refl, cc))
       (λ e p. absurd (let z : ◌≡◌ {A = ℕ} 0 1 = cc in omega arith))
 
-  refused : (q : ℕ) → planned.Refused q ≡ plan_of v n f t → fits v n f t ≡ false
+  refused : (q : ℕ) → refused_by q ≡ plan_of v n f t → fits v n f t ≡ false
   refused q =
-      either (fits v n f t) (λ b. planned.Refused q ≡ cond b (planned.Change (change_of v f t)) (planned.Refused RANGES_FIT) → b ≡ false)
+      either (fits v n f t) (λ b. refused_by q ≡ cond b (accepted (change_of v f t)) (refused_by RANGES_FIT) → b ≡ false)
       (λ e p. absurd (let z : ◌≡◌ {A = ℕ} 0 1 = cc in omega arith))
       (λ e p. refl)
 
 -- ---- what `insert` does with the answer
 module _ (contiguous count : ℕ) (l : List ℕ) (f t : ℕ) where
-  pub kept : (q : ℕ) → planned.Refused q ≡ plan_of (received_in contiguous count l) (length l) f t → l ≡ list_after (received_in contiguous count l) l f t
+  pub kept : (q : ℕ) → refused_by q ≡ plan_of (received_in contiguous count l) (length l) f t → l ≡ list_after (received_in contiguous count l) l f t
   kept q p = rw (refused (received_in contiguous count l) (length l) f t q p)
 
   -- the list holds k ranges, and the answer is a change
   module _ (k : ℕ) (lent : 2 * k ≤ length l) (same : pairs k l ≡ pairs count l) (c : Change)
-      (p : planned.Change c ≡ plan_of (received_in contiguous count l) (length l) f t) where
+      (p : accepted c ≡ plan_of (received_in contiguous count l) (length l) f t) where
     all_held : length (pairs count l) ≡ k
     all_held = rw (← same) (length_pairs k l lent)
 

@@ -1,6 +1,5 @@
 pub mod Pairs
 pub mod Turns
-pub mod Over
 pub mod Stored
 pub mod Changes
 pub mod Cases

@@ -1,15 +1,20 @@
 -- The ranges that a flat list holds, and the flat list of ranges.
 -- Assumes nothing.
-use Prim.Native.Nat.{ℕ, zero, suc, ◌+◌, ◌*◌, ◌/◌, ◌≤◌, ◌<◌}
+use Prim.Native.Nat.{ℕ, zero, suc, ◌+◌, ◌-◌, ◌*◌, ◌/◌, ◌≤◌, ◌<◌, min}
 use mathlib.Core.List.{List, [], ◌∷◌, ◌++◌}
 use mathlib.Core.Path.{◌≡◌, refl, sym, ap, ◌∙◌}
 use native.Mathlib.Omega.{arith}
 use native.Mathlib.Numerals.{add-one}
-use lib.ListN.{length, get_or, take, drop, drop_of_length-le}
-use lib.Seq.{drop-cons, take-nil, drop-nil, take-take}
+use mathlib.Core.Bool.{Bool}
+use lib.ListN.{length, get_or, take, drop, drop_of_length-le, length-drop, get_or-map}
+use Rattle.std.proofs.lemmas.List.{length-map, drop-map}
+use Rattle.std.specs.Simd.{first_chunks}
+use Rattle.std.specs.List.{list_any}
+use Rattle.rows.specs.Checks.{any}
+use lib.Seq.{drop-cons, take-nil, take_all, drop-nil, take-take}
 use Rattle.rows.specs.Values.{Range}
 use Rattle.numbers.specs.Ranges.{range}
-use Rattle.received.specs.Lent.{pairs, flat}
+use Rattle.received.specs.Lent.{pairs, flat, as_range, ranges_of}
 
 two : (k : ℕ) → 2 * suc k ≡ suc (suc (2 * k))
 two k = omega arith
@@ -94,3 +99,41 @@ pairs-enough (suc j) (suc k) (a ∷ b ∷ l) h le = ap {B = List Range} (λ (rs 
 
 pub pairs-lent : (k : ℕ) (l : List ℕ) → length l / 2 ≤ k → pairs (length l / 2) l ≡ pairs k l
 pairs-lent k l h = pairs-enough (length l / 2) k l (omega arith) h
+
+-- ---- the ranges of a list of pairs
+pub ranges-first : (n k j : ℕ) (l : List ℕ) → j ≡ min k n → 2 * n ≤ length l → length l < 2 * n + 2 → ranges_of (take j (first_chunks 2 n l)) ≡ pairs k l
+unfolding pairs
+ranges-first zero zero j l e h g = ap ranges_of (take-nil j)
+ranges-first zero (suc k) j [] e h g = ap ranges_of (take-nil j)
+ranges-first zero (suc k) j (a ∷ []) e h g = ap ranges_of (take-nil j)
+ranges-first zero (suc k) j (a ∷ b ∷ l) e h g = absurd (omega arith)
+ranges-first (suc n) zero j l e h g = let z : j ≡ 0 = omega arith in rw z
+ranges-first (suc n) (suc k) j [] e h g = absurd (omega arith)
+ranges-first (suc n) (suc k) j (a ∷ []) e h g = absurd (omega arith)
+ranges-first (suc n) (suc k) j (a ∷ b ∷ l) e h g =
+    let m : j ≡ suc (min k n) = omega arith in
+    rw (m, ranges-first n k (min k n) l refl (omega arith) (omega arith))
+
+pub any-of : (test : Range → Bool) (ps : List (List ℕ)) → list_any (λ p. test (as_range p)) ps ≡ any test (ranges_of ps)
+any-of test [] = refl
+any-of test (p ∷ ps) = rw (any-of test ps)
+
+pub length-ranges : (ps : List (List ℕ)) → length (ranges_of ps) ≡ length ps
+length-ranges ps = length-map ps as_range
+
+pub drop-ranges : (ps : List (List ℕ)) (i : ℕ) → i < length ps → drop i (ranges_of ps) ≡ as_range (get_or ps i []) ∷ drop (i + 1) (ranges_of ps)
+drop-ranges ps i h = rw (add-one i, drop-cons (ranges_of ps) i (range 0 0) (rw (length-ranges ps) h), get_or-map as_range ps i [])
+
+pub ranges-behind : (ps : List (List ℕ)) (i : ℕ) → ranges_of (take (length ps - i) (drop i ps)) ≡ drop i (ranges_of ps)
+ranges-behind ps i = rw (take_all (length ps - i) (drop i ps) (omega (arith, length-drop i ps))) (sym (drop-map as_range i ps))
+
+-- the ranges that are counted are those that the list holds
+pub pairs-counted : (k : ℕ) (l : List ℕ) → pairs (length (pairs k l)) l ≡ pairs k l
+unfolding pairs
+pairs-counted zero l = refl
+pairs-counted (suc k) [] = refl
+pairs-counted (suc k) (a ∷ []) = refl
+pairs-counted (suc k) (a ∷ b ∷ l) = rw (pairs-counted k l)
+
+pub pairs-held : (ps : List (List ℕ)) (k : ℕ) (l : List ℕ) → ranges_of ps ≡ pairs k l → pairs (length ps) l ≡ pairs k l
+pairs-held ps k l e = rw (← length-ranges ps, e) (pairs-counted k l)

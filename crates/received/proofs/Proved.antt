@@ -18,7 +18,6 @@ use Rattle.numbers.specs.Lists.{limit_of}
 use Rattle.numbers.specs.Sets.{add, how_many, runs, Records, Coverable, insert_all, added_by_all}
 use Rattle.received.specs.Cases.{outcome, gives, refuses}
 use Rattle.received.specs.Proved.{ScanLaws, leads_to, RecordLaws, Proved}
-use Rattle.received.specs.declared.Planned.TheVariants as planned
 use Rattle.rows.proofs.Tests.{either, or-joined}
 use Rattle.numbers.proofs.Canon.{to_in, from_in, from-canon}
 use Rattle.numbers.proofs.Runs.{runs-canon, runs-from, runs_to, runs-size, all-each, each_all}
@@ -27,6 +26,7 @@ use Rattle.numbers.proofs.Sets.{records, contiguous-width, above-width, contiguo
 use Rattle.numbers.proofs.Sizes.{size_counts}
 use Rattle.numbers.proofs.Uncovered.{uncovered-most, added-most, zero-never, uncovered-counts, same_count, add-more, added_new, added_more}
 use Rattle.received.proofs.Cases.{thirteen, proved-cases}
+use Rattle.layout.specs.Layout.{accepted, refused_by}
 
 scan-laws : (S : ℕ → Bool) (n k : ℕ) → ScanLaws S n k
 scan-laws S n k = record {
@@ -59,7 +59,7 @@ module _ (v : Received) (l : List ℕ) (count : ℕ) (held : pairs count l ≡ v
   unfolding change_of
   leads =
       either (leb (length (inserted v f t).above) (limit_of (length l)))
-      (λ b. outcome (cond b (planned.Change (change_of v f t)) (planned.Refused RANGES_FIT)) (cond b (stored (inserted v f t).above (length v.above) l) l)
+      (λ b. outcome (cond b (accepted (change_of v f t)) (refused_by RANGES_FIT)) (cond b (stored (inserted v f t).above (length v.above) l) l)
       ≡ cond b (gives (inserted v f t) (not (eqb (inserted v f t).contiguous v.contiguous)) (added v f t)) (refuses RANGES_FIT l))
       (λ e. ap (λ (rs : List Range). gives (received (inserted v f t).contiguous rs) (not (eqb (inserted v f t).contiguous v.contiguous)) (added v f t))
       (pairs-stored (inserted v f t).above (length v.above) l before (after (leb-true _ _ e))))

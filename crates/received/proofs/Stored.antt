@@ -1,19 +1,22 @@
--- What `take_out` and `place` leave in the lent list: the ranges stored from the front on.
+-- What `apply` leaves in the lent list: the ranges stored from the front on.
 -- Assumes nothing.
-use Prim.Native.Nat.{ℕ, zero, suc, ◌+◌, ◌-◌, ◌*◌, ◌≤◌, ◌<◌, max}
-use mathlib.Core.List.{List, ◌∷◌, ◌++◌, append-nil, append_assoc}
+use Prim.Native.Nat.{ℕ, zero, suc, ◌+◌, ◌-◌, ◌*◌, ◌≤◌, ◌<◌, min, max}
+use mathlib.Core.List.{List, [], ◌∷◌, ◌++◌, append_assoc}
 use mathlib.Core.Path.{◌≡◌, refl, sym, ap, ◌∙◌}
 use native.Mathlib.Omega.{arith}
-use lib.ListN.{length, take, drop, length-append, length-drop, length-replicate}
-use lib.Seq.{take-take, take-add, drop_at, drop-drop, take-append-add, length-take-le}
+use lib.ListN.{length, take, drop, set, length-append, length-drop, length-replicate, take-append-drop}
+use lib.Seq.{take-add, take_at, drop_at, drop-drop, length-take-le}
 use Rattle.layout.specs.Veil.{zeros}
 use Rattle.rows.specs.Values.{Range}
+use Rattle.rows.proofs.Tests.{if-lt}
 use Rattle.put.proofs.Put.{put_front}
 use Rattle.numbers.specs.Ranges.{range}
-use Rattle.received.specs.Change.{placed}
-use Rattle.received.specs.Lent.{pairs, flat, stored}
+use Rattle.received.specs.Change.{placed, applied}
+use Rattle.received.specs.declared.Change.{Change}
+use Rattle.std.specs.List.{copy_within}
+use borrow.Author.Tests.{eq-eqb, ne_eqb}
+use Rattle.received.specs.Lent.{pairs, flat, stored, Fitting}
 use Rattle.received.proofs.Pairs.{length_pairs, length-flat, flat_append, flat-take, flat-drop, pairs-flat}
-use Rattle.received.proofs.Over.{closed, shifted}
 
 -- the list in three parts: the ranges, the freed places, and what stays
 pub stored_is : (rs : List Range) (k : ℕ) (l : List ℕ) → 2 * k ≤ length l → 2 * length rs ≤ length l
@@ -34,70 +37,79 @@ drop-take m n l h k =
     let e : n ≡ m + (n - m) = omega arith in
     ap (λ (x : ℕ). drop m (take x l)) e ∙ rw (take-add m (n - m) l) (drop_at (take m l) (take (n - m) (drop m l)) m (length-take-le m l (omega arith)))
 
-take-zeros : (n m : ℕ) → n ≤ m → take n (zeros m) ≡ zeros n
-take-zeros zero m h = refl
-take-zeros (suc n) zero h = absurd (omega arith)
-take-zeros (suc n) (suc m) h = ap {B = List ℕ} (λ (x : List ℕ). 0 ∷ x) (take-zeros n m (omega arith))
+-- the first numbers but two stay, and two follow
+put_two : (i : ℕ) (l rest : List ℕ) (f t : ℕ) → suc (suc i) ≤ length l → set (set (take (suc (suc i)) l ++ rest) i f) (suc i) t ≡ take i l ++ (f ∷ t ∷ rest)
+put_two i [] rest f t h = absurd (omega arith)
+put_two i (x ∷ []) rest f t h = absurd (omega arith)
+put_two zero (x ∷ y ∷ l) rest f t h = refl
+put_two (suc i) (x ∷ y ∷ l) rest f t h = ap {B = List ℕ} (λ (r : List ℕ). x ∷ r) (put_two i (y ∷ l) rest f t (omega arith))
 
-pub taken_out : (l m : List ℕ) (k next : ℕ) → 2 * k ≤ length l → next ≤ k → m ≡ closed (2 * next) (take (2 * k - 0) l)
-    → m ++ drop (2 * k - 0) l ≡ stored (drop next (pairs k l)) k l
-taken_out l m k next fits h e =
-    let n : length (drop next (pairs k l)) ≡ k - next = length-drop next (pairs k l) ∙ rw (length_pairs k l fits) in
-    let z : 2 * (k - (k - next)) ≡ 2 * next = omega arith in
-    let w : 2 * max k (k - next) ≡ 2 * k = omega arith in
-    let o : 2 * k - 0 ≡ 2 * k = omega arith in
-    sym (stored_is (drop next (pairs k l)) k l fits (omega arith) ∙ rw (n, z, w, flat-drop k next l fits, e, o, append_assoc))
+put_range : (p q r : ℕ) (l rest : List ℕ) (f t : ℕ) → q ≡ suc p → r ≡ suc q → r ≤ length l → set (set (take r l ++ rest) p f) q t ≡ take p l ++ (f ∷ t ∷ rest)
+put_range p q r l rest f t e d h = rw (d, e) (put_two p l rest f t (omega arith))
 
--- f..t and the ranges behind it, flat
-back : List ℕ → (k next f t : ℕ) → List ℕ
-back l k next f t = f ∷ t ∷ drop (2 * next) (take (2 * k) l)
+-- ---- a change c carried out in the list l, which holds k ranges
+module _ (l : List ℕ) (k : ℕ) (c : Change) (fit : Fitting l k c) where
+  -- the ranges behind move to their places
+  moved : (m : List ℕ) → m ≡ copy_within l (2 * k - 2 * c.after) (2 * k) (2 * c.before)
+      → m ≡ take (2 * c.before) l ++ (flat (drop (k - c.after) (pairs k l)) ++ drop (2 * c.before + 2 * c.after) l)
+  moved m e =
+      let n : 2 * k - (2 * k - 2 * c.after) ≡ 2 * c.after = omega arith in
+      let s : 2 * k - 2 * c.after ≡ 2 * (k - c.after) = omega arith in
+      let w : 2 * k - 2 * (k - c.after) ≡ 2 * c.after = omega arith in
+      let behind : flat (drop (k - c.after) (pairs k l)) ≡ take (2 * c.after) (drop (2 * (k - c.after)) l) =
+      flat-drop k (k - c.after) l fit.lent ∙ drop-take (2 * (k - c.after)) (2 * k) l (omega arith) fit.lent ∙ rw w in
+      e ∙ rw (n, s, behind, append_assoc)
 
-module _ (l : List ℕ) (k i next f t : ℕ) (fits : 2 * k ≤ length l) (le : i ≤ next) (h : next ≤ k) where
-  length-placed : length (placed i next f t (pairs k l)) ≡ i + 1 + (k - next)
-  length-placed =
-      length-append (take i (pairs k l)) (range f t ∷ drop next (pairs k l))
-      ∙ rw (length-take-le i (pairs k l) (rw (length_pairs k l fits) (omega arith)), length-drop next (pairs k l), length_pairs k l fits) (omega arith)
+  applied_none : c.before ≤ 0 → applied c (pairs k l) ≡ drop (k - c.after) (pairs k l)
+  applied_none h = let z : c.before ≡ 0 = omega arith in rw (eq-eqb c.before 0 z, length_pairs k l fit.lent)
 
-  length_back : length (back l k next f t) ≡ 2 * (k - next) + 2
-  unfolding back
-  length_back =
-      let n : length (drop (2 * next) (take (2 * k) l)) ≡ 2 * k - 2 * next = length-drop (2 * next) (take (2 * k) l) ∙ rw (length-take-le (2 * k) l fits) in
-      omega arith
+  applied_some : 0 < c.before → applied c (pairs k l) ≡ placed (c.before - 1) (k - c.after) c.from c.to (pairs k l)
+  applied_some h = rw (ne_eqb c.before 0 (λ e. omega arith), length_pairs k l fit.lent)
 
-  flat-placed : flat (placed i next f t (pairs k l)) ≡ take (2 * i) l ++ back l k next f t
-  unfolding back
-  flat-placed = flat_append (take i (pairs k l)) (range f t ∷ drop next (pairs k l)) ∙ rw (flat-take k i l fits (omega arith), flat-drop k next l fits)
+  length-applied : 2 * length (applied c (pairs k l)) ≡ 2 * c.before + 2 * c.after
+  length-applied =
+      let n : length (drop (k - c.after) (pairs k l)) ≡ c.after = length-drop (k - c.after) (pairs k l) ∙ rw (length_pairs k l fit.lent) (omega (arith, fit.after)) in
+      if-lt 0 c.before (λ _. 2 * length (applied c (pairs k l)) ≡ 2 * c.before + 2 * c.after)
+      (λ h. let m : length (take (c.before - 1) (pairs k l)) ≡ c.before - 1 = length-take-le (c.before - 1) (pairs k l) (rw (length_pairs k l fit.lent) (omega arith)) in
+      rw (applied_some h) (omega (arith, length-append (take (c.before - 1) (pairs k l)) (range c.from c.to ∷ drop (k - c.after) (pairs k l)), m, n)))
+      (λ h. rw (applied_none h) (omega (arith, n)))
 
-  -- the ranges in front stay where they are, w numbers behind them are written anew, and the rest stays
-  settled : (m : List ℕ) (w z : ℕ) → 2 * (i + 1 + (k - next)) ≤ length l → 2 * max k (i + 1 + (k - next)) ≡ 2 * i + w → 2 * (k - (i + 1 + (k - next))) ≡ z
-      → m ≡ back l k next f t ++ zeros z → take (2 * i) l ++ (m ++ drop w (drop (2 * i) l)) ≡ stored (placed i next f t (pairs k l)) k l
-  settled m w z room n c e =
-      let s = stored_is (placed i next f t (pairs k l)) k l fits (rw length-placed room) in
-      rw (e, drop-drop, append_assoc) (sym (s ∙ rw (length-placed, flat-placed, n, c, append_assoc)))
+  -- ... and a range that joins none of 1..contiguous is put in front of them
+  pub alone : (m : List ℕ) → m ≡ copy_within l (2 * k - 2 * c.after) (2 * k) (2 * c.before) → c.before ≤ 0
+      → m ≡ flat (applied c (pairs k l)) ++ drop (2 * c.before + 2 * c.after) l
+  alone m e h = let z : 2 * c.before ≡ 0 = omega arith in rw (applied_none h) (moved m e ∙ rw z)
 
-  -- where there was one at least, places become free
-  pub replaced : (m : List ℕ) → i < next
-      → m ≡ take (length (take (2 * k - 2 * i) (drop (2 * i) l))) (shifted (2 * (next - i)) f t (take (2 * k - 2 * i) (drop (2 * i) l)))
-      → take (2 * i) l ++ (m ++ drop (2 * k - 2 * i) (drop (2 * i) l)) ≡ stored (placed i next f t (pairs k l)) k l
-  unfolding back
-  replaced m g e =
-      let freed : ℕ = 2 * (next - i) in
-      let n : 2 * i + freed ≡ 2 * next = omega arith in
-      let long : length (drop (2 * i) (take (2 * k) l)) ≡ length (back l k next f t) + (freed - 2) =
-      length-drop (2 * i) (take (2 * k) l) ∙ rw (length-take-le (2 * k) l fits) (omega (arith, length_back)) in
-      settled m (2 * k - 2 * i) (freed - 2) (omega arith) (omega arith) (omega arith)
-      (e ∙ rw (← drop-take (2 * i) (2 * k) l (omega arith) (omega arith), long, drop-drop freed (2 * i) (take (2 * k) l), n)
-      (take-append-add (back l k next f t) (zeros freed) (freed - 2) ∙ rw (take-zeros (freed - 2) freed (omega arith))))
+  pub with_range : (m n : List ℕ) → m ≡ copy_within l (2 * k - 2 * c.after) (2 * k) (2 * c.before) → 0 < c.before → n ≡ set (set m (2 * c.before - 2) c.from) (2 * c.before - 1) c.to
+      → n ≡ flat (applied c (pairs k l)) ++ drop (2 * c.before + 2 * c.after) l
+  with_range m n e h q =
+      let i : ℕ = c.before - 1 in
+      let rest : List ℕ = flat (drop (k - c.after) (pairs k l)) ++ drop (2 * c.before + 2 * c.after) l in
+      let at : 2 * c.before - 2 ≡ 2 * i = omega arith in
+      let flat-placed : flat (placed i (k - c.after) c.from c.to (pairs k l)) ≡ take (2 * i) l ++ (c.from ∷ c.to ∷ flat (drop (k - c.after) (pairs k l))) =
+      flat_append (take i (pairs k l)) (range c.from c.to ∷ drop (k - c.after) (pairs k l)) ∙ rw (flat-take k i l fit.lent (omega arith)) in
+      q ∙ ap (λ (x : List ℕ). set (set x (2 * c.before - 2) c.from) (2 * c.before - 1) c.to) (moved m e)
+      ∙ put_range (2 * c.before - 2) (2 * c.before - 1) (2 * c.before) l rest c.from c.to (omega arith) (omega arith) (omega (arith, fit.room))
+      ∙ rw (applied_some h, flat-placed, append_assoc, at)
 
-  -- where there was none, the ranges behind move up
-  pub put_in : (m : List ℕ) → next ≡ i → 2 * k + 2 ≤ length l
-      → m ≡ take (length (take (2 * k + 2 - 2 * i) (drop (2 * i) l))) (shifted 0 f t (take (2 * k + 2 - 2 * i) (drop (2 * i) l)))
-      → take (2 * i) l ++ (m ++ drop (2 * k + 2 - 2 * i) (drop (2 * i) l)) ≡ stored (placed i next f t (pairs k l)) k l
-  unfolding back
-  put_in m q room e =
-      let part : List ℕ = take (2 * k + 2 - 2 * i) (drop (2 * i) l) in
-      let long : length part ≡ suc (suc (2 * k - 2 * i)) = length-take-le (2 * k + 2 - 2 * i) (drop (2 * i) l) (rw length-drop (omega arith)) ∙ omega arith in
-      let stays : take (2 * k - 2 * i) part ≡ drop (2 * next) (take (2 * k) l) =
-      take-take (2 * k - 2 * i) (2 * k + 2 - 2 * i) (drop (2 * i) l) (omega arith) ∙ rw (← drop-take (2 * i) (2 * k) l (omega arith) (omega arith), q) in
-      settled m (2 * k + 2 - 2 * i) 0 (omega arith) (omega arith) (omega arith)
-      (e ∙ rw (long, append-nil part, stays, append-nil (drop (2 * next) (take (2 * k) l))))
+  -- ... and the places that are left over, if there are any, become 0
+  pub settled : (m z : List ℕ) (e : ℕ) → m ≡ flat (applied c (pairs k l)) ++ drop (2 * c.before + 2 * c.after) l → e ≡ min (2 * k) (2 * c.before + 2 * c.after)
+      → z ≡ zeros (length (take (2 * k - e) (drop e m))) → take e m ++ (z ++ drop (2 * k - e) (drop e m)) ≡ stored (applied c (pairs k l)) k l
+  settled m z e is q p =
+      let rs : List Range = applied c (pairs k l) in
+      let left : ℕ = 2 * c.before + 2 * c.after in
+      let n = length-applied in
+      let long : length (flat rs) ≡ left = length-flat rs ∙ n in
+      let parts = stored_is rs k l fit.lent (omega (arith, fit.room)) in
+      rw p
+      (if-lt left (2 * k) (λ _. take e m ++ (zeros (length (take (2 * k - e) (drop e m))) ++ drop (2 * k - e) (drop e m)) ≡ stored rs k l)
+      (λ h. let here : e ≡ left = omega arith in
+      let front : take left m ≡ flat rs = rw is (take_at (flat rs) (drop left l) left long) in
+      let behind : drop left m ≡ drop left l = rw is (drop_at (flat rs) (drop left l) left long) in
+      let some : length (take (2 * k - left) (drop left l)) ≡ 2 * (k - length rs) =
+      length-take-le (2 * k - left) (drop left l) (rw (length-drop left l) (omega (arith, fit.lent))) ∙ omega arith in
+      let all : left + (2 * k - left) ≡ 2 * max k (length rs) = omega arith in
+      rw (here, front, behind, some, drop-drop, all) (sym parts))
+      (λ h. let here : 2 * k - e ≡ 0 = omega arith in
+      let none : 2 * (k - length rs) ≡ 0 = omega arith in
+      let all : 2 * max k (length rs) ≡ left = omega arith in
+      rw (here, take-append-drop) (is ∙ sym (parts ∙ rw (none, all)))))

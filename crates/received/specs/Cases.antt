@@ -7,17 +7,17 @@ use Rattle.layout.specs.Form.{leb128}
 use Rattle.rows.specs.Checks.{sealed_queued, sealed_carried}
 use Rattle.numbers.specs.Ranges.{Received, received, range, contains, covers}
 use Rattle.received.specs.Lent.{pairs, plan_of, list_after}
-use Rattle.received.specs.declared.Planned.{Planned}
-use Rattle.received.specs.declared.Planned.TheVariants.{Change, Refused}
+use Rattle.layout.specs.Layout.{Answer, accepted, refused_by}
+use Rattle.received.specs.declared.Change.{Change}
 
 -- what a cover leads to: a record, which the list then holds, whether contiguous moved, and how many numbers are new (02, A2); or a refusal, and the list as it is then
 pub data Outcome : Type 0 where
   gives : Received → (moved : Bool) → (added : ℕ) → Outcome
   refuses : ℕ → List ℕ → Outcome
 
-abbrev pub outcome : Planned → List ℕ → Outcome
-outcome (Change c) l = gives (received c.contiguous (pairs c.count l)) c.moved c.added
-outcome (Refused q) l = refuses q l
+abbrev pub outcome : Answer Change → List ℕ → Outcome
+outcome (accepted c) l = gives (received c.contiguous (pairs c.count l)) c.moved c.added
+outcome (refused_by q) l = refuses q l
 
 pub data Case : Type 0 where
   -- reading these LEB128 bytes gives this

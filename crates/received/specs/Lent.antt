@@ -1,6 +1,6 @@
 -- Ranges in a lent flat list of from, to, from, to: which it holds, what a cover answers (question 38), and every place of the list afterwards.
 -- Assumes nothing.
-use Rattle.std.specs.Prelude.{ℕ, zero, suc, ◌+◌, ◌-◌, ◌*◌, ◌≤◌, List, [], ◌∷◌, ◌++◌, Bool, cond, leb, length}
+use Rattle.std.specs.Prelude.{ℕ, zero, suc, ◌+◌, ◌-◌, ◌*◌, ◌≤◌, List, [], ◌∷◌, ◌++◌, map, Bool, cond, leb, length, get_or}
 use Rattle.layout.specs.Questions.{RANGES_FIT}
 use Rattle.layout.specs.Veil.{zeros}
 use Rattle.rows.specs.Values.{Range}
@@ -9,8 +9,7 @@ use Rattle.numbers.specs.Lists.{limit_of}
 use Rattle.numbers.specs.Ranges.{Received, received, range, inserted}
 use Rattle.received.specs.Change.{change_of}
 use Rattle.received.specs.declared.Change.{Change}
-use Rattle.received.specs.declared.Planned.{Planned}
-use Rattle.received.specs.declared.Planned.TheVariants as planned
+use Rattle.layout.specs.Layout.{Answer, accepted, refused_by}
 
 -- the first k pairs, or as many as there are
 unfoldable pub pairs : ℕ → List ℕ → List Range
@@ -18,6 +17,13 @@ pairs zero l = []
 pairs (suc k) [] = []
 pairs (suc k) (a ∷ []) = []
 pairs (suc k) (a ∷ b ∷ l) = range a b ∷ pairs k l
+
+-- a pair as a range, and the ranges of a list of pairs
+abbrev pub as_range : List ℕ → Range
+as_range p = range (get_or p 0 0) (get_or p 1 0)
+
+abbrev pub ranges_of : List (List ℕ) → List Range
+ranges_of ps = map as_range ps
 
 abbrev pub received_in : ℕ → ℕ → List ℕ → Received
 received_in contiguous count l = received contiguous (pairs count l)
@@ -35,8 +41,8 @@ abbrev pub fits : Received → ℕ → ℕ → ℕ → Bool
 fits v n f t = leb (length (inserted v f t).above) (limit_of n)
 
 -- what a cover of f..t answers, from v, in a list of n numbers
-abbrev pub plan_of : Received → ℕ → ℕ → ℕ → Planned
-plan_of v n f t = cond (fits v n f t) (planned.Change (change_of v f t)) (planned.Refused RANGES_FIT)
+abbrev pub plan_of : Received → ℕ → ℕ → ℕ → Answer Change
+plan_of v n f t = cond (fits v n f t) (accepted (change_of v f t)) (refused_by RANGES_FIT)
 
 -- the list l afterwards, which held the ranges of v; a refusal changes nothing
 abbrev pub list_after : Received → List ℕ → ℕ → ℕ → List ℕ

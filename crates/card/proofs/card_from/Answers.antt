@@ -26,22 +26,25 @@ module _ (input : List ℕ) (at : CardAt) (places : Offsets input at) where
 pub returns-then-not-card_fits : goal.returns-then-not-card_fits
 returns-then-not-card_fits c = rw (sym c.card_fits.ensures ∙ c.if-not-card_fits.true, c.zero.ensures)
 
-pub copy_32-beacon_key-requires : goal.copy_32-beacon_key-requires
-copy_32-beacon_key-requires c =
-    omega (arith, ((let places : Offsets c.args.input.now c.args.at = fit-places c.args.input.now c.args.at (sym c.card_fits.ensures ∙ c.if-not-card_fits.false) in places)).name)
+pub copy_array-beacon_key-requires : goal.copy_array-beacon_key-requires
+copy_array-beacon_key-requires c =
+    let p : Offsets c.args.input.now c.args.at = fit-places _ _ (sym c.card_fits.ensures ∙ c.if-not-card_fits.false) in omega (arith, p.name)
 
 pub name_from-name-requires : goal.name_from-name-requires
 name_from-name-requires c =
-    let p = (let places : Offsets c.args.input.now c.args.at = fit-places c.args.input.now c.args.at (sym c.card_fits.ensures ∙ c.if-not-card_fits.false) in places) in (p.name_len, p.name)
+    let p : Offsets c.args.input.now c.args.at = fit-places _ _ (sym c.card_fits.ensures ∙ c.if-not-card_fits.false) in (p.name_len, p.name)
 
-pub static_ek_from-static_ek-requires : goal.static_ek_from-static_ek-requires
-static_ek_from-static_ek-requires c =
-    ((let places : Offsets c.args.input.now c.args.at = fit-places c.args.input.now c.args.at (sym c.card_fits.ensures ∙ c.if-not-card_fits.false) in places)).static_ek (eq-eqb _ _ c.if-at-eq1.true)
+pub copy_array-static_ek-requires : goal.copy_array-static_ek-requires
+copy_array-static_ek-requires c =
+    let p : Offsets c.args.input.now c.args.at = fit-places _ _ (sym c.card_fits.ensures ∙ c.if-not-card_fits.false) in
+    (omega arith, p.static_ek (eq-eqb _ _ c.if-at-eq1.true))
 
 pub returns-then-at-eq1 : goal.returns-then-at-eq1
 returns-then-at-eq1 c =
-    made c.args.input.now c.args.at ((let places : Offsets c.args.input.now c.args.at = fit-places c.args.input.now c.args.at (sym c.card_fits.ensures ∙ c.if-not-card_fits.false) in places)) _ _ _ c.copy_32-beacon_key.ensures c.name_from-name.ensures (rw (eq-eqb _ _ c.if-at-eq1.true) c.static_ek_from-static_ek.ensures)
+    let p : Offsets c.args.input.now c.args.at = fit-places _ _ (sym c.card_fits.ensures ∙ c.if-not-card_fits.false) in
+    made c.args.input.now c.args.at p _ _ _ c.copy_array-beacon_key.ensures c.name_from-name.ensures (rw (eq-eqb _ _ c.if-at-eq1.true) c.copy_array-static_ek.ensures)
 
 pub returns-else-at-eq1 : goal.returns-else-at-eq1
 returns-else-at-eq1 c =
-    made c.args.input.now c.args.at ((let places : Offsets c.args.input.now c.args.at = fit-places c.args.input.now c.args.at (sym c.card_fits.ensures ∙ c.if-not-card_fits.false) in places)) _ _ _ c.copy_32-beacon_key.ensures c.name_from-name.ensures (rw (ne_eqb _ _ c.if-at-eq1.false))
+    let p : Offsets c.args.input.now c.args.at = fit-places _ _ (sym c.card_fits.ensures ∙ c.if-not-card_fits.false) in
+    made c.args.input.now c.args.at p _ _ _ c.copy_array-beacon_key.ensures c.name_from-name.ensures (rw (ne_eqb _ _ c.if-at-eq1.false))

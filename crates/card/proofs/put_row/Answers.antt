@@ -11,8 +11,8 @@ pub put_be-beacon_key_at-requires : goal.put_be-beacon_key_at-requires
 put_be-beacon_key_at-requires c =
     omega (arith, length-parts c.args.card c.typed.ensures c.requires.0, wrote-long c.put_byte-beacon_day_at.ensures.1)
 
-pub put_32-name_len_at-requires : goal.put_32-name_len_at-requires
-put_32-name_len_at-requires c =
+pub put_array-name_len_at-requires : goal.put_array-name_len_at-requires
+put_array-name_len_at-requires c =
     omega (arith, length-parts c.args.card c.typed.ensures c.requires.0, wrote-long c.put_byte-beacon_day_at.ensures.1, wrote-long c.put_be-beacon_key_at.ensures.1, c.put_be-beacon_key_at.ensures.0, c.put_byte-beacon_day_at.ensures.0, c.requires.1)
 
 pub put_name-requires : goal.put_name-requires
@@ -23,8 +23,8 @@ put_name-requires c = (
     length-parts c.args.card c.typed.ensures c.requires.0,
     wrote-long c.put_byte-beacon_day_at.ensures.1,
     wrote-long c.put_be-beacon_key_at.ensures.1,
-    wrote-long c.put_32-name_len_at.ensures.1,
-    c.put_32-name_len_at.ensures.0,
+    wrote-long c.put_array-name_len_at.ensures.1,
+    c.put_array-name_len_at.ensures.0,
     c.put_be-beacon_key_at.ensures.0,
     c.put_byte-beacon_day_at.ensures.0,
     c.requires.1,
@@ -33,5 +33,5 @@ put_name-requires c = (
 
 pub returns : goal.returns
 returns c =
-    let w = c.put_byte-beacon_day_at.ensures.1 then (c.put_be-beacon_key_at.ensures.1 then (c.put_32-name_len_at.ensures.1 then c.put_name.ensures.1)) in
+    let w = c.put_byte-beacon_day_at.ensures.1 then (c.put_be-beacon_key_at.ensures.1 then (c.put_array-name_len_at.ensures.1 then c.put_name.ensures.1)) in
     rw (image-is c.args.card c.typed.ensures c.requires.0) (w.next-is, w)

@@ -21,17 +21,17 @@ returns-then-held-eq0-2 c =
     let expires : not_zero c.args.held.expiry_min ≡ true = ap not (ne_eqb _ _ c.if-held-eq0.false) in
     sym (bad-copies c.args.held c.typed.ensures c.args.sealed.now c.in-Carried.is expires (ap not (eq-eqb _ _ c.if-held-eq0-2.true)))
 
-pub returns-then-sealed_carried : goal.returns-then-sealed_carried
-returns-then-sealed_carried c =
-    let expires : not_zero c.args.held.expiry_min ≡ true = ap not (ne_eqb _ _ c.if-held-eq0.false) in
-    let copied : not_zero c.args.held.copies ≡ true = ap not (ne_eqb _ _ c.if-held-eq0-2.false) in
-    let allowed : sealed_carried (length c.args.sealed.now) ≡ true = sym c.sealed_carried.ensures ∙ c.if-sealed_carried.true in
-    sym (whole-carried c.args.held c.typed.ensures c.args.sealed.now expires copied allowed c.in-Carried.is
-    ∙ ap wrote (length-carried c.args.held c.typed.ensures c.args.sealed.now))
-
 pub returns : goal.returns
 returns c =
     let expires : not_zero c.args.held.expiry_min ≡ true = ap not (ne_eqb _ _ c.if-held-eq0.false) in
     let copied : not_zero c.args.held.copies ≡ true = ap not (ne_eqb _ _ c.if-held-eq0-2.false) in
+    let allowed : sealed_carried (length c.args.sealed.now) ≡ true = sym c.sealed_carried.ensures ∙ c.if-not-sealed_carried.false in
+    sym (whole-carried c.args.held c.typed.ensures c.args.sealed.now expires copied allowed c.in-Carried.is
+    ∙ ap wrote (length-carried c.args.held c.typed.ensures c.args.sealed.now))
+
+pub returns-then-not-sealed_carried : goal.returns-then-not-sealed_carried
+returns-then-not-sealed_carried c =
+    let expires : not_zero c.args.held.expiry_min ≡ true = ap not (ne_eqb _ _ c.if-held-eq0.false) in
+    let copied : not_zero c.args.held.copies ≡ true = ap not (ne_eqb _ _ c.if-held-eq0-2.false) in
     sym (bad-length c.args.held c.typed.ensures c.args.sealed.now c.in-Carried.is expires copied
-    (sym c.sealed_carried.ensures ∙ c.if-sealed_carried.false))
+    (sym c.sealed_carried.ensures ∙ c.if-not-sealed_carried.true))

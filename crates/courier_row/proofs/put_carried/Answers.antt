@@ -32,4 +32,4 @@ returns c =
       c.requires,
     ) in
     wrote_as (carried-is held c.typed.ensures text)
-    (c.put_byte-depositor_at.ensures.1 then (c.put_be-envelope_at.ensures.1 then rw (whole-fits (envelope_in held) text _ room) at c.put_envelope.ensures))
+    (rw c.from.ensures at c.put_byte-depositor_at.ensures.1 then (c.put_be-envelope_at.ensures.1 then rw (whole-fits (envelope_in held) text _ room) at c.put_envelope.ensures))

@@ -7,13 +7,13 @@ use Rattle.courier_row.proofs.Image.{image-carried, image-tombstone}
 use Rattle.courier_row.proofs.put_courier.Goals as goal
 
 pub put_tombstone-requires : goal.put_tombstone-requires
-put_tombstone-requires c = omega (arith, ap length (image-tombstone c.args.held c.args.sealed.now c.in_default.is))
+put_tombstone-requires c = omega (arith, ap length (image-tombstone c.args.held c.args.sealed.now c.in-Tombstone.is))
 
-pub returns-in_default : goal.returns-in_default
-returns-in_default c = wrote_as (image-tombstone c.args.held c.args.sealed.now c.in_default.is) c.put_tombstone.ensures.1
+pub returns-in-Tombstone : goal.returns-in-Tombstone
+returns-in-Tombstone c = wrote_as (image-tombstone c.args.held c.args.sealed.now c.in-Tombstone.is) c.put_tombstone.ensures.1
 
 pub put_carried-requires : goal.put_carried-requires
 put_carried-requires c = omega (arith, ap length (image-carried c.args.held c.args.sealed.now c.in-Carried.is))
 
-pub returns : goal.returns
-returns c = wrote_as (image-carried c.args.held c.args.sealed.now c.in-Carried.is) c.put_carried.ensures.1
+pub returns-in-Carried : goal.returns-in-Carried
+returns-in-Carried c = wrote_as (image-carried c.args.held c.args.sealed.now c.in-Carried.is) c.put_carried.ensures.1

@@ -8,19 +8,19 @@ use Rattle.courier_row.proofs.put_tombstone.Goals as goal
 pub put_byte-tag_at-requires : goal.put_byte-tag_at-requires
 put_byte-tag_at-requires c = omega (arith, length-tombstone c.args.held c.typed.ensures)
 
-pub put_16-s_at-requires : goal.put_16-s_at-requires
-put_16-s_at-requires c =
+pub put_array-s_at-requires : goal.put_array-s_at-requires
+put_array-s_at-requires c =
     omega (arith, length-tombstone c.args.held c.typed.ensures, wrote-long c.put_byte-tag_at.ensures.1, c.put_byte-tag_at.ensures.0, c.requires)
 
-pub put_16-expiry_at-requires : goal.put_16-expiry_at-requires
-put_16-expiry_at-requires c =
+pub put_array-expiry_at-requires : goal.put_array-expiry_at-requires
+put_array-expiry_at-requires c =
     omega (
       arith,
       length-tombstone c.args.held c.typed.ensures,
       wrote-long c.put_byte-tag_at.ensures.1,
-      wrote-long c.put_16-s_at.ensures.1,
+      wrote-long c.put_array-s_at.ensures.1,
       c.put_byte-tag_at.ensures.0,
-      c.put_16-s_at.ensures.0,
+      c.put_array-s_at.ensures.0,
       c.requires,
     )
 
@@ -30,15 +30,15 @@ put_be-requires c =
       arith,
       length-tombstone c.args.held c.typed.ensures,
       wrote-long c.put_byte-tag_at.ensures.1,
-      wrote-long c.put_16-s_at.ensures.1,
-      wrote-long c.put_16-expiry_at.ensures.1,
+      wrote-long c.put_array-s_at.ensures.1,
+      wrote-long c.put_array-expiry_at.ensures.1,
       c.put_byte-tag_at.ensures.0,
-      c.put_16-s_at.ensures.0,
-      c.put_16-expiry_at.ensures.0,
+      c.put_array-s_at.ensures.0,
+      c.put_array-expiry_at.ensures.0,
       c.requires,
     )
 
 pub returns : goal.returns
 returns c =
     wrote_as (tombstone-is c.args.held c.typed.ensures)
-    (c.put_byte-tag_at.ensures.1 then (c.put_16-s_at.ensures.1 then (c.put_16-expiry_at.ensures.1 then c.put_be.ensures.1)))
+    (rw c.from.ensures at c.put_byte-tag_at.ensures.1 then (c.put_array-s_at.ensures.1 then (c.put_array-expiry_at.ensures.1 then c.put_be.ensures.1)))

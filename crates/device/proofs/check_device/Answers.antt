@@ -1,208 +1,67 @@
--- `device::check_device` meets its contract: one step of the layout for each field and question.
-use Prim.Native.Nat.{ℕ, ◌+◌}
-use mathlib.Core.List.{List}
-use mathlib.Core.Bool.{true}
-use mathlib.Core.Path.{◌≡◌, sym, ap, subst, ◌∙◌}
-use native.Mathlib.Omega.{arith}
-use lib.ListN.{take, drop}
-use borrow.Author.Tests.{eq-eqb, ne_eqb}
-use Rattle.layout.specs.Veil.{plain, veiled}
-use Rattle.layout.specs.Form.{bytes, u8, u16, u32, u64, flag}
-use Rattle.layout.specs.Layout.{answer}
-use Rattle.layout.specs.Field.{takes, read_at}
+-- `device::check_device` meets its contract: along the layout, the row's fields are what was taken so far.
+use Rattle.std.proofs.Common.{rules, ◌≡◌, ℕ, List, Err, arith}
+use mathlib.Core.Path.{refl, sym}
+use borrow.Author.Tests.{ne_eqb}
+use Rattle.layout.specs.Layout.{read_row}
 use Rattle.layout.specs.RowLaws.{Bytes}
-use Rattle.layout.proofs.Front.{number-lawful, flag-lawful}
-use Rattle.layout.proofs.At.{learn, Took, typed, took, refused-at, bytes_next, number-next}
-use Rattle.layout.proofs.Steps.{Reached, start, field-yes, field-no, ask-yes, ask-no, end-yes, end-no, done-yes}
-use Rattle.rows.specs.Checks.{courier_allowed}
+use Rattle.layout.specs.Veil.{plain}
+use Rattle.layout.specs.Form.{u32}
+use Rattle.layout.proofs.Front.{number-lawful}
+use Rattle.layout.proofs.At.{typed, took, number-next}
+use Rattle.layout.proofs.Along.{along, asked_of, row-along, any-run, ends, goes_past}
 use Rattle.rows.specs.Rows as layouts
-use Rattle.fields.specs.Says.{run_says, Ends, u8_says, u16_says, u32_says, u64_says, flag_says, flag_refusal}
-use Rattle.fields.proofs.Runs.{run-took, run_short}
-use Rattle.device.specs.Device.{config_of, config_says}
-use Rattle.device.specs.declared.CourierConfig.{CourierConfig}
+use Rattle.fields.proofs.Runs.{run-stands}
+use Rattle.rows.proofs.Fields.{device-fields}
 use Rattle.device.proofs.Config.{config-yes, config-no}
 use Rattle.device.proofs.check_device.Goals as goal
+use Rattle.device.proofs.check_device.Goals.{Else-version-ne-BLOB_VERSION}
+
+-- version 3: the row is read along its layout
+reads : (c : Else-version-ne-BLOB_VERSION) → asked_of (along (layouts.device 3) c.args.row.now 0) ≡ read_row (layouts.device c.args.version) c.args.row.now
+reads c = rw c.if-version-ne-BLOB_VERSION.false (sym (row-along c.args.row.now (typed _ c.type_inv.row) (layouts.device 3) (device-fields 3) tt))
 
 pub returns-then-version-ne-BLOB_VERSION : goal.returns-then-version-ne-BLOB_VERSION
-returns-then-version-ne-BLOB_VERSION c =
-    let row : List ℕ = c.args.row.now in
-    let r0 : Reached (layouts.device c.args.version) row 0 = start in
-    let stop = ask-no r0.so (ne_eqb _ _ c.if-version-ne-BLOB_VERSION.true) in (sym (ap answer stop), tt)
+returns-then-version-ne-BLOB_VERSION c = (rw (row-along c.args.row.now (typed _ c.type_inv.row) (layouts.device c.args.version) (device-fields c.args.version) tt, ne_eqb _ _ c.if-version-ne-BLOB_VERSION.true) refl, tt)
 
-pub returns-in_default : goal.returns-in_default
-returns-in_default c =
-    let row : List ℕ = c.args.row.now in
-    let r0 : Reached (layouts.device c.args.version) row 0 = start in
-    let r1 : Reached (layouts.device c.args.version) row 0 = ask-yes r0.so (eq-eqb _ _ c.if-version-ne-BLOB_VERSION.false) in
-    let stop = field-no r1.so (refused-at _ _ u32 (learn u32_says c.u32_at.ensures c.in_default.is)) in (sym (ap answer stop), tt)
+pub returns-in_err-beacon_day : goal.returns-in_err-beacon_day
+returns-in_err-beacon_day c = let no : c.from_residual.result ≡ Err c.in_err-beacon_day.field-0.0 = search rules in rw (no, ← reads (goal.at.returns-in_err-beacon_day c).Else-version-ne-BLOB_VERSION, ← c.in_err-beacon_day.ensures) (refl, tt)
 
-pub returns-in_default-run_at : goal.returns-in_default-run_at
-returns-in_default-run_at c =
-    let row : List ℕ = c.args.row.now in
-    let by : Bytes row = typed row c.type_inv.row in
-    let r0 : Reached (layouts.device c.args.version) row 0 = start in
-    let r1 : Reached (layouts.device c.args.version) row 0 = ask-yes r0.so (eq-eqb _ _ c.if-version-ne-BLOB_VERSION.false) in
-    let day-read : read_at u32 row 0 ≡ takes c.in-Value.beacon_day c.in-Value.at1 = learn u32_says c.u32_at.ensures c.in-Value.is in
-    let day-took : Took u32 row 0 c.in-Value.beacon_day c.in-Value.at1 = took _ _ u32 (number-lawful 4) by day-read in
-    let r2 : Reached (layouts.device c.args.version) row 0 = field-yes r1.so day-took in
-    let stop = field-no r2.so (run_short _ _ veiled 32 c.run_at.ensures.0 c.in_default-run_at.is) in (sym (ap answer stop), tt)
+pub returns-in_err-_beacon_key : goal.returns-in_err-_beacon_key
+returns-in_err-_beacon_key c = let no : c.from_residual-in_err-_beacon_key.result ≡ Err c.in_err-_beacon_key.field-0.0 = search rules in rw (no, ← reads (goal.at.returns-in_err-_beacon_key c).Else-version-ne-BLOB_VERSION, ← c.in_ok-beacon_day.ensures, any-run, ← c.in_err-_beacon_key.ensures.0) (refl, tt)
 
-pub returns-in_default-u64_at : goal.returns-in_default-u64_at
-returns-in_default-u64_at c =
-    let row : List ℕ = c.args.row.now in
-    let by : Bytes row = typed row c.type_inv.row in
-    let r0 : Reached (layouts.device c.args.version) row 0 = start in
-    let r1 : Reached (layouts.device c.args.version) row 0 = ask-yes r0.so (eq-eqb _ _ c.if-version-ne-BLOB_VERSION.false) in
-    let day-read : read_at u32 row 0 ≡ takes c.in-Value.beacon_day c.in-Value.at1 = learn u32_says c.u32_at.ensures c.in-Value.is in
-    let day-took : Took u32 row 0 c.in-Value.beacon_day c.in-Value.at1 = took _ _ u32 (number-lawful 4) by day-read in
-    let r2 : Reached (layouts.device c.args.version) row 0 = field-yes r1.so day-took in
-    let day-ends : c.in-Value.at1 ≡ 4 = omega (arith, number-next row 0 4 by day-read (omega arith)) in
-    let key-long : c.in-Value-run_at.at2 ≡ c.in-Value-run_at._beacon_key + 32 = subst (Ends 32) c.in-Value-run_at.is c.run_at.ensures.1 in
-    let key-stands : c.in-Value-run_at._beacon_key ≡ 4 = omega (arith, day-ends, bytes_next row r2.here 32 plain by (learn (run_says 32 row) c.run_at.ensures.0 c.in-Value-run_at.is) day-took.inside, key-long) in
-    let key-took : Took (bytes veiled 32) row r2.here (take 32 (drop 4 row)) c.in-Value-run_at.at2 = subst (λ (n : ℕ). Took (bytes veiled 32) row r2.here (take 32 (drop n row)) c.in-Value-run_at.at2) key-stands (run-took _ _ veiled 32 c.run_at.ensures.0 by c.in-Value-run_at.is) in
-    let r3 : Reached (layouts.device c.args.version) row 0 = field-yes r2.so key-took in
-    let stop = field-no r3.so (refused-at _ _ u64 (learn u64_says c.u64_at.ensures c.in_default-u64_at.is)) in (sym (ap answer stop), tt)
+pub returns-in_err-next_contact : goal.returns-in_err-next_contact
+returns-in_err-next_contact c = let no : c.from_residual-in_err-next_contact.result ≡ Err c.in_err-next_contact.field-0.0 = search rules in rw (no, ← reads (goal.at.returns-in_err-next_contact c).Else-version-ne-BLOB_VERSION, ← c.in_ok-beacon_day.ensures, any-run, ← c.in_ok-_beacon_key.ensures.0, ← c.in_err-next_contact.ensures) (refl, tt)
 
-pub returns-in_default-receipts : goal.returns-in_default-receipts
-returns-in_default-receipts c =
-    let row : List ℕ = c.args.row.now in
-    let by : Bytes row = typed row c.type_inv.row in
-    let r0 : Reached (layouts.device c.args.version) row 0 = start in
-    let r1 : Reached (layouts.device c.args.version) row 0 = ask-yes r0.so (eq-eqb _ _ c.if-version-ne-BLOB_VERSION.false) in
-    let day-read : read_at u32 row 0 ≡ takes c.in-Value.beacon_day c.in-Value.at1 = learn u32_says c.u32_at.ensures c.in-Value.is in
-    let day-took : Took u32 row 0 c.in-Value.beacon_day c.in-Value.at1 = took _ _ u32 (number-lawful 4) by day-read in
-    let r2 : Reached (layouts.device c.args.version) row 0 = field-yes r1.so day-took in
-    let day-ends : c.in-Value.at1 ≡ 4 = omega (arith, number-next row 0 4 by day-read (omega arith)) in
-    let key-long : c.in-Value-run_at.at2 ≡ c.in-Value-run_at._beacon_key + 32 = subst (Ends 32) c.in-Value-run_at.is c.run_at.ensures.1 in
-    let key-stands : c.in-Value-run_at._beacon_key ≡ 4 = omega (arith, day-ends, bytes_next row r2.here 32 plain by (learn (run_says 32 row) c.run_at.ensures.0 c.in-Value-run_at.is) day-took.inside, key-long) in
-    let key-took : Took (bytes veiled 32) row r2.here (take 32 (drop 4 row)) c.in-Value-run_at.at2 = subst (λ (n : ℕ). Took (bytes veiled 32) row r2.here (take 32 (drop n row)) c.in-Value-run_at.at2) key-stands (run-took _ _ veiled 32 c.run_at.ensures.0 by c.in-Value-run_at.is) in
-    let r3 : Reached (layouts.device c.args.version) row 0 = field-yes r2.so key-took in
-    let r4 : Reached (layouts.device c.args.version) row 0 = field-yes r3.so (took _ _ u64 (number-lawful 8) by (learn u64_says c.u64_at.ensures c.in-Value-u64_at.is)) in
-    let stop = field-no r4.so (refused-at _ _ flag (learn flag_says c.flag_at-receipts.ensures c.in_default-receipts.is)) in rw (c.refusal.ensures ∙ ap flag_refusal c.in_default-receipts.is) (sym (ap answer stop), tt)
+pub returns-in_err-read_receipts : goal.returns-in_err-read_receipts
+returns-in_err-read_receipts c = let no : c.from_residual-in_err-read_receipts.result ≡ Err c.in_err-read_receipts.field-0.0 = search rules in rw (no, ← reads (goal.at.returns-in_err-read_receipts c).Else-version-ne-BLOB_VERSION, ← c.in_ok-beacon_day.ensures, any-run, ← c.in_ok-_beacon_key.ensures.0, ← c.in_ok-next_contact.ensures, ← c.in_err-read_receipts.ensures) (refl, tt)
 
-pub returns-in_default-carries : goal.returns-in_default-carries
-returns-in_default-carries c =
-    let row : List ℕ = c.args.row.now in
-    let by : Bytes row = typed row c.type_inv.row in
-    let r0 : Reached (layouts.device c.args.version) row 0 = start in
-    let r1 : Reached (layouts.device c.args.version) row 0 = ask-yes r0.so (eq-eqb _ _ c.if-version-ne-BLOB_VERSION.false) in
-    let day-read : read_at u32 row 0 ≡ takes c.in-Value.beacon_day c.in-Value.at1 = learn u32_says c.u32_at.ensures c.in-Value.is in
-    let day-took : Took u32 row 0 c.in-Value.beacon_day c.in-Value.at1 = took _ _ u32 (number-lawful 4) by day-read in
-    let r2 : Reached (layouts.device c.args.version) row 0 = field-yes r1.so day-took in
-    let day-ends : c.in-Value.at1 ≡ 4 = omega (arith, number-next row 0 4 by day-read (omega arith)) in
-    let key-long : c.in-Value-run_at.at2 ≡ c.in-Value-run_at._beacon_key + 32 = subst (Ends 32) c.in-Value-run_at.is c.run_at.ensures.1 in
-    let key-stands : c.in-Value-run_at._beacon_key ≡ 4 = omega (arith, day-ends, bytes_next row r2.here 32 plain by (learn (run_says 32 row) c.run_at.ensures.0 c.in-Value-run_at.is) day-took.inside, key-long) in
-    let key-took : Took (bytes veiled 32) row r2.here (take 32 (drop 4 row)) c.in-Value-run_at.at2 = subst (λ (n : ℕ). Took (bytes veiled 32) row r2.here (take 32 (drop n row)) c.in-Value-run_at.at2) key-stands (run-took _ _ veiled 32 c.run_at.ensures.0 by c.in-Value-run_at.is) in
-    let r3 : Reached (layouts.device c.args.version) row 0 = field-yes r2.so key-took in
-    let r4 : Reached (layouts.device c.args.version) row 0 = field-yes r3.so (took _ _ u64 (number-lawful 8) by (learn u64_says c.u64_at.ensures c.in-Value-u64_at.is)) in
-    let r5 : Reached (layouts.device c.args.version) row 0 = field-yes r4.so (took _ _ flag flag-lawful by (learn flag_says c.flag_at-receipts.ensures c.in-Value-receipts.is)) in
-    let stop = field-no r5.so (refused-at _ _ flag (learn flag_says c.flag_at-carries.ensures c.in_default-carries.is)) in rw (c.refusal-in_default-carries.ensures ∙ ap flag_refusal c.in_default-carries.is) (sym (ap answer stop), tt)
+pub returns-in_err-enabled : goal.returns-in_err-enabled
+returns-in_err-enabled c = let no : c.from_residual-in_err-enabled.result ≡ Err c.in_err-enabled.field-0.0 = search rules in rw (no, ← reads (goal.at.returns-in_err-enabled c).Else-version-ne-BLOB_VERSION, ← c.in_ok-beacon_day.ensures, any-run, ← c.in_ok-_beacon_key.ensures.0, ← c.in_ok-next_contact.ensures, ← c.in_ok-read_receipts.ensures, ← c.in_err-enabled.ensures) (refl, tt)
 
-pub returns-in_default-byte_at : goal.returns-in_default-byte_at
-returns-in_default-byte_at c =
-    let row : List ℕ = c.args.row.now in
-    let by : Bytes row = typed row c.type_inv.row in
-    let r0 : Reached (layouts.device c.args.version) row 0 = start in
-    let r1 : Reached (layouts.device c.args.version) row 0 = ask-yes r0.so (eq-eqb _ _ c.if-version-ne-BLOB_VERSION.false) in
-    let day-read : read_at u32 row 0 ≡ takes c.in-Value.beacon_day c.in-Value.at1 = learn u32_says c.u32_at.ensures c.in-Value.is in
-    let day-took : Took u32 row 0 c.in-Value.beacon_day c.in-Value.at1 = took _ _ u32 (number-lawful 4) by day-read in
-    let r2 : Reached (layouts.device c.args.version) row 0 = field-yes r1.so day-took in
-    let day-ends : c.in-Value.at1 ≡ 4 = omega (arith, number-next row 0 4 by day-read (omega arith)) in
-    let key-long : c.in-Value-run_at.at2 ≡ c.in-Value-run_at._beacon_key + 32 = subst (Ends 32) c.in-Value-run_at.is c.run_at.ensures.1 in
-    let key-stands : c.in-Value-run_at._beacon_key ≡ 4 = omega (arith, day-ends, bytes_next row r2.here 32 plain by (learn (run_says 32 row) c.run_at.ensures.0 c.in-Value-run_at.is) day-took.inside, key-long) in
-    let key-took : Took (bytes veiled 32) row r2.here (take 32 (drop 4 row)) c.in-Value-run_at.at2 = subst (λ (n : ℕ). Took (bytes veiled 32) row r2.here (take 32 (drop n row)) c.in-Value-run_at.at2) key-stands (run-took _ _ veiled 32 c.run_at.ensures.0 by c.in-Value-run_at.is) in
-    let r3 : Reached (layouts.device c.args.version) row 0 = field-yes r2.so key-took in
-    let r4 : Reached (layouts.device c.args.version) row 0 = field-yes r3.so (took _ _ u64 (number-lawful 8) by (learn u64_says c.u64_at.ensures c.in-Value-u64_at.is)) in
-    let r5 : Reached (layouts.device c.args.version) row 0 = field-yes r4.so (took _ _ flag flag-lawful by (learn flag_says c.flag_at-receipts.ensures c.in-Value-receipts.is)) in
-    let r6 : Reached (layouts.device c.args.version) row 0 = field-yes r5.so (took _ _ flag flag-lawful by (learn flag_says c.flag_at-carries.ensures c.in-Value-carries.is)) in
-    let stop = field-no r6.so (refused-at _ _ u8 (learn u8_says c.byte_at.ensures c.in_default-byte_at.is)) in (sym (ap answer stop), tt)
+pub returns-in_err-copies : goal.returns-in_err-copies
+returns-in_err-copies c = let no : c.from_residual-in_err-copies.result ≡ Err c.in_err-copies.field-0.0 = search rules in rw (no, ← reads (goal.at.returns-in_err-copies c).Else-version-ne-BLOB_VERSION, ← c.in_ok-beacon_day.ensures, any-run, ← c.in_ok-_beacon_key.ensures.0, ← c.in_ok-next_contact.ensures, ← c.in_ok-read_receipts.ensures, ← c.in_ok-enabled.ensures, ← c.in_err-copies.ensures) (refl, tt)
 
-pub returns-in_default-u16_at : goal.returns-in_default-u16_at
-returns-in_default-u16_at c =
-    let row : List ℕ = c.args.row.now in
-    let by : Bytes row = typed row c.type_inv.row in
-    let r0 : Reached (layouts.device c.args.version) row 0 = start in
-    let r1 : Reached (layouts.device c.args.version) row 0 = ask-yes r0.so (eq-eqb _ _ c.if-version-ne-BLOB_VERSION.false) in
-    let day-read : read_at u32 row 0 ≡ takes c.in-Value.beacon_day c.in-Value.at1 = learn u32_says c.u32_at.ensures c.in-Value.is in
-    let day-took : Took u32 row 0 c.in-Value.beacon_day c.in-Value.at1 = took _ _ u32 (number-lawful 4) by day-read in
-    let r2 : Reached (layouts.device c.args.version) row 0 = field-yes r1.so day-took in
-    let day-ends : c.in-Value.at1 ≡ 4 = omega (arith, number-next row 0 4 by day-read (omega arith)) in
-    let key-long : c.in-Value-run_at.at2 ≡ c.in-Value-run_at._beacon_key + 32 = subst (Ends 32) c.in-Value-run_at.is c.run_at.ensures.1 in
-    let key-stands : c.in-Value-run_at._beacon_key ≡ 4 = omega (arith, day-ends, bytes_next row r2.here 32 plain by (learn (run_says 32 row) c.run_at.ensures.0 c.in-Value-run_at.is) day-took.inside, key-long) in
-    let key-took : Took (bytes veiled 32) row r2.here (take 32 (drop 4 row)) c.in-Value-run_at.at2 = subst (λ (n : ℕ). Took (bytes veiled 32) row r2.here (take 32 (drop n row)) c.in-Value-run_at.at2) key-stands (run-took _ _ veiled 32 c.run_at.ensures.0 by c.in-Value-run_at.is) in
-    let r3 : Reached (layouts.device c.args.version) row 0 = field-yes r2.so key-took in
-    let r4 : Reached (layouts.device c.args.version) row 0 = field-yes r3.so (took _ _ u64 (number-lawful 8) by (learn u64_says c.u64_at.ensures c.in-Value-u64_at.is)) in
-    let r5 : Reached (layouts.device c.args.version) row 0 = field-yes r4.so (took _ _ flag flag-lawful by (learn flag_says c.flag_at-receipts.ensures c.in-Value-receipts.is)) in
-    let r6 : Reached (layouts.device c.args.version) row 0 = field-yes r5.so (took _ _ flag flag-lawful by (learn flag_says c.flag_at-carries.ensures c.in-Value-carries.is)) in
-    let r7 : Reached (layouts.device c.args.version) row 0 = field-yes r6.so (took _ _ u8 (number-lawful 1) by (learn u8_says c.byte_at.ensures c.in-Value-byte_at.is)) in
-    let stop = field-no r7.so (refused-at _ _ u16 (learn u16_says c.u16_at.ensures c.in_default-u16_at.is)) in (sym (ap answer stop), tt)
+pub returns-in_err-lifetime_min : goal.returns-in_err-lifetime_min
+returns-in_err-lifetime_min c = let no : c.from_residual-in_err-lifetime_min.result ≡ Err c.in_err-lifetime_min.field-0.0 = search rules in rw (no, ← reads (goal.at.returns-in_err-lifetime_min c).Else-version-ne-BLOB_VERSION, ← c.in_ok-beacon_day.ensures, any-run, ← c.in_ok-_beacon_key.ensures.0, ← c.in_ok-next_contact.ensures, ← c.in_ok-read_receipts.ensures, ← c.in_ok-enabled.ensures, ← c.in_ok-copies.ensures, ← c.in_err-lifetime_min.ensures) (refl, tt)
 
-pub returns-in_default-new : goal.returns-in_default-new
-returns-in_default-new c =
-    let row : List ℕ = c.args.row.now in
-    let by : Bytes row = typed row c.type_inv.row in
-    let r0 : Reached (layouts.device c.args.version) row 0 = start in
-    let r1 : Reached (layouts.device c.args.version) row 0 = ask-yes r0.so (eq-eqb _ _ c.if-version-ne-BLOB_VERSION.false) in
-    let day-read : read_at u32 row 0 ≡ takes c.in-Value.beacon_day c.in-Value.at1 = learn u32_says c.u32_at.ensures c.in-Value.is in
-    let day-took : Took u32 row 0 c.in-Value.beacon_day c.in-Value.at1 = took _ _ u32 (number-lawful 4) by day-read in
-    let r2 : Reached (layouts.device c.args.version) row 0 = field-yes r1.so day-took in
-    let day-ends : c.in-Value.at1 ≡ 4 = omega (arith, number-next row 0 4 by day-read (omega arith)) in
-    let key-long : c.in-Value-run_at.at2 ≡ c.in-Value-run_at._beacon_key + 32 = subst (Ends 32) c.in-Value-run_at.is c.run_at.ensures.1 in
-    let key-stands : c.in-Value-run_at._beacon_key ≡ 4 = omega (arith, day-ends, bytes_next row r2.here 32 plain by (learn (run_says 32 row) c.run_at.ensures.0 c.in-Value-run_at.is) day-took.inside, key-long) in
-    let key-took : Took (bytes veiled 32) row r2.here (take 32 (drop 4 row)) c.in-Value-run_at.at2 = subst (λ (n : ℕ). Took (bytes veiled 32) row r2.here (take 32 (drop n row)) c.in-Value-run_at.at2) key-stands (run-took _ _ veiled 32 c.run_at.ensures.0 by c.in-Value-run_at.is) in
-    let r3 : Reached (layouts.device c.args.version) row 0 = field-yes r2.so key-took in
-    let r4 : Reached (layouts.device c.args.version) row 0 = field-yes r3.so (took _ _ u64 (number-lawful 8) by (learn u64_says c.u64_at.ensures c.in-Value-u64_at.is)) in
-    let r5 : Reached (layouts.device c.args.version) row 0 = field-yes r4.so (took _ _ flag flag-lawful by (learn flag_says c.flag_at-receipts.ensures c.in-Value-receipts.is)) in
-    let r6 : Reached (layouts.device c.args.version) row 0 = field-yes r5.so (took _ _ flag flag-lawful by (learn flag_says c.flag_at-carries.ensures c.in-Value-carries.is)) in
-    let r7 : Reached (layouts.device c.args.version) row 0 = field-yes r6.so (took _ _ u8 (number-lawful 1) by (learn u8_says c.byte_at.ensures c.in-Value-byte_at.is)) in
-    let r8 : Reached (layouts.device c.args.version) row 0 = field-yes r7.so (took _ _ u16 (number-lawful 2) by (learn u16_says c.u16_at.ensures c.in-Value-u16_at.is)) in
-    let stop = ask-no r8.so (config-no _ _ _ (learn config_says c.new.ensures c.in_default-new.is)) in (sym (ap answer stop), tt)
+pub returns-in_err-courier : goal.returns-in_err-courier
+returns-in_err-courier c =
+    let no : c.from_residual-in_err-courier.result ≡ Err c.in_err-courier.field-0.0 = search rules in
+    let bad = config-no _ _ _ c.in_err-courier.ensures in
+    rw (no, ← reads (goal.at.returns-in_err-courier c).Else-version-ne-BLOB_VERSION, ← c.in_ok-beacon_day.ensures, any-run, ← c.in_ok-_beacon_key.ensures.0, ← c.in_ok-next_contact.ensures, ← c.in_ok-read_receipts.ensures, ← c.in_ok-enabled.ensures, ← c.in_ok-copies.ensures, ← c.in_ok-lifetime_min.ensures, bad.0, bad.1) (refl, tt)
 
 pub returns-then-at7-row : goal.returns-then-at7-row
 returns-then-at7-row c =
-    let row : List ℕ = c.args.row.now in
-    let by : Bytes row = typed row c.type_inv.row in
-    let r0 : Reached (layouts.device c.args.version) row 0 = start in
-    let r1 : Reached (layouts.device c.args.version) row 0 = ask-yes r0.so (eq-eqb _ _ c.if-version-ne-BLOB_VERSION.false) in
-    let day-read : read_at u32 row 0 ≡ takes c.in-Value.beacon_day c.in-Value.at1 = learn u32_says c.u32_at.ensures c.in-Value.is in
-    let day-took : Took u32 row 0 c.in-Value.beacon_day c.in-Value.at1 = took _ _ u32 (number-lawful 4) by day-read in
-    let r2 : Reached (layouts.device c.args.version) row 0 = field-yes r1.so day-took in
-    let day-ends : c.in-Value.at1 ≡ 4 = omega (arith, number-next row 0 4 by day-read (omega arith)) in
-    let key-long : c.in-Value-run_at.at2 ≡ c.in-Value-run_at._beacon_key + 32 = subst (Ends 32) c.in-Value-run_at.is c.run_at.ensures.1 in
-    let key-stands : c.in-Value-run_at._beacon_key ≡ 4 = omega (arith, day-ends, bytes_next row r2.here 32 plain by (learn (run_says 32 row) c.run_at.ensures.0 c.in-Value-run_at.is) day-took.inside, key-long) in
-    let key-took : Took (bytes veiled 32) row r2.here (take 32 (drop 4 row)) c.in-Value-run_at.at2 = subst (λ (n : ℕ). Took (bytes veiled 32) row r2.here (take 32 (drop n row)) c.in-Value-run_at.at2) key-stands (run-took _ _ veiled 32 c.run_at.ensures.0 by c.in-Value-run_at.is) in
-    let r3 : Reached (layouts.device c.args.version) row 0 = field-yes r2.so key-took in
-    let r4 : Reached (layouts.device c.args.version) row 0 = field-yes r3.so (took _ _ u64 (number-lawful 8) by (learn u64_says c.u64_at.ensures c.in-Value-u64_at.is)) in
-    let r5 : Reached (layouts.device c.args.version) row 0 = field-yes r4.so (took _ _ flag flag-lawful by (learn flag_says c.flag_at-receipts.ensures c.in-Value-receipts.is)) in
-    let r6 : Reached (layouts.device c.args.version) row 0 = field-yes r5.so (took _ _ flag flag-lawful by (learn flag_says c.flag_at-carries.ensures c.in-Value-carries.is)) in
-    let r7 : Reached (layouts.device c.args.version) row 0 = field-yes r6.so (took _ _ u8 (number-lawful 1) by (learn u8_says c.byte_at.ensures c.in-Value-byte_at.is)) in
-    let r8 : Reached (layouts.device c.args.version) row 0 = field-yes r7.so (took _ _ u16 (number-lawful 2) by (learn u16_says c.u16_at.ensures c.in-Value-u16_at.is)) in
-    let config : CourierConfig = config_of c.in-Value-carries.enabled c.in-Value-byte_at.copies c.in-Value-u16_at.lifetime_min in
-    let allowed : (courier_allowed config.copies config.lifetime_min ≡ true) × (c.in-Config.courier ≡ config) = config-yes _ _ _ (learn config_says c.new.ensures c.in-Config.is) in
-    let r9 : Reached (layouts.device c.args.version) row 0 = ask-yes r8.so allowed.0 in
-    let stop = end-no r9.so c.if-at7-row.true in (sym (ap answer stop), tt)
+    let fit = config-yes _ _ _ c.in_ok-courier.ensures in
+    (rw (← reads (goal.at.returns-then-at7-row c).Else-version-ne-BLOB_VERSION, ← c.in_ok-beacon_day.ensures, any-run, ← c.in_ok-_beacon_key.ensures.0, ← c.in_ok-next_contact.ensures, ← c.in_ok-read_receipts.ensures, ← c.in_ok-enabled.ensures, ← c.in_ok-copies.ensures, ← c.in_ok-lifetime_min.ensures, fit.0, goes_past _ _ _ c.if-at7-row.true) refl, tt)
 
 pub returns : goal.returns
 returns c =
     let row : List ℕ = c.args.row.now in
     let by : Bytes row = typed row c.type_inv.row in
-    let r0 : Reached (layouts.device c.args.version) row 0 = start in
-    let r1 : Reached (layouts.device c.args.version) row 0 = ask-yes r0.so (eq-eqb _ _ c.if-version-ne-BLOB_VERSION.false) in
-    let day-read : read_at u32 row 0 ≡ takes c.in-Value.beacon_day c.in-Value.at1 = learn u32_says c.u32_at.ensures c.in-Value.is in
-    let day-took : Took u32 row 0 c.in-Value.beacon_day c.in-Value.at1 = took _ _ u32 (number-lawful 4) by day-read in
-    let r2 : Reached (layouts.device c.args.version) row 0 = field-yes r1.so day-took in
-    let day-ends : c.in-Value.at1 ≡ 4 = omega (arith, number-next row 0 4 by day-read (omega arith)) in
-    let key-long : c.in-Value-run_at.at2 ≡ c.in-Value-run_at._beacon_key + 32 = subst (Ends 32) c.in-Value-run_at.is c.run_at.ensures.1 in
-    let key-stands : c.in-Value-run_at._beacon_key ≡ 4 = omega (arith, day-ends, bytes_next row r2.here 32 plain by (learn (run_says 32 row) c.run_at.ensures.0 c.in-Value-run_at.is) day-took.inside, key-long) in
-    let key-took : Took (bytes veiled 32) row r2.here (take 32 (drop 4 row)) c.in-Value-run_at.at2 = subst (λ (n : ℕ). Took (bytes veiled 32) row r2.here (take 32 (drop n row)) c.in-Value-run_at.at2) key-stands (run-took _ _ veiled 32 c.run_at.ensures.0 by c.in-Value-run_at.is) in
-    let r3 : Reached (layouts.device c.args.version) row 0 = field-yes r2.so key-took in
-    let r4 : Reached (layouts.device c.args.version) row 0 = field-yes r3.so (took _ _ u64 (number-lawful 8) by (learn u64_says c.u64_at.ensures c.in-Value-u64_at.is)) in
-    let r5 : Reached (layouts.device c.args.version) row 0 = field-yes r4.so (took _ _ flag flag-lawful by (learn flag_says c.flag_at-receipts.ensures c.in-Value-receipts.is)) in
-    let r6 : Reached (layouts.device c.args.version) row 0 = field-yes r5.so (took _ _ flag flag-lawful by (learn flag_says c.flag_at-carries.ensures c.in-Value-carries.is)) in
-    let r7 : Reached (layouts.device c.args.version) row 0 = field-yes r6.so (took _ _ u8 (number-lawful 1) by (learn u8_says c.byte_at.ensures c.in-Value-byte_at.is)) in
-    let r8 : Reached (layouts.device c.args.version) row 0 = field-yes r7.so (took _ _ u16 (number-lawful 2) by (learn u16_says c.u16_at.ensures c.in-Value-u16_at.is)) in
-    let config : CourierConfig = config_of c.in-Value-carries.enabled c.in-Value-byte_at.copies c.in-Value-u16_at.lifetime_min in
-    let allowed : (courier_allowed config.copies config.lifetime_min ≡ true) × (c.in-Config.courier ≡ config) = config-yes _ _ _ (learn config_says c.new.ensures c.in-Config.is) in
-    let r9 : Reached (layouts.device c.args.version) row 0 = ask-yes r8.so allowed.0 in
-    let r10 : Reached (layouts.device c.args.version) row 0 = end-yes r9.so c.if-at7-row.false in
-    (rw allowed.1 (sym (ap answer (done-yes r10.so))), omega (arith, key-stands, key-long, key-took.inside))
+    let day = took row 0 u32 (number-lawful 4) by (sym c.in_ok-beacon_day.ensures) in
+    let behind : c.in_ok-beacon_day.at1 ≡ 4 = number-next row 0 4 by (sym c.in_ok-beacon_day.ensures) (omega arith) in
+    let key = run-stands row _ plain 32 by c.in_ok-_beacon_key.ensures.0 c.in_ok-_beacon_key.ensures.1 day.inside in
+    let fit = config-yes _ _ _ c.in_ok-courier.ensures in
+    let stands : c.in_ok-_beacon_key._beacon_key ≡ 4 = omega (arith, key.0, behind) in
+    (rw (← reads (goal.at.returns c).Else-version-ne-BLOB_VERSION, ← c.in_ok-beacon_day.ensures, any-run, ← c.in_ok-_beacon_key.ensures.0, ← c.in_ok-next_contact.ensures, ← c.in_ok-read_receipts.ensures, ← c.in_ok-enabled.ensures, ← c.in_ok-copies.ensures, ← c.in_ok-lifetime_min.ensures, fit.0, fit.1, ends _ _ _ c.if-at7-row.false, stands) refl, omega (arith, key.1, behind))

@@ -8,4 +8,4 @@ pub returns : goal.returns
 unfolding spec.courier_part
 returns c =
     let w = c.put_byte-copies_at.ensures.1 then (c.put_byte-lifetime_min_at.ensures.1 then c.put_be.ensures.1) in
-    (search rules, rw c.flag_byte.ensures at w)
+    (search rules, rw c.from.ensures at w)

@@ -10,15 +10,15 @@ use Rattle.device_row.proofs.put_device.Goals as goal
 pub put_be-beacon_key_at-requires : goal.put_be-beacon_key_at-requires
 put_be-beacon_key_at-requires c = omega (arith, length-image c.args.device c.typed.ensures)
 
-pub put_32-next_contact_at-requires : goal.put_32-next_contact_at-requires
-put_32-next_contact_at-requires c =
+pub put_array-next_contact_at-requires : goal.put_array-next_contact_at-requires
+put_array-next_contact_at-requires c =
     let long : length (image c.args.device) ≡ 49 = length-image c.args.device c.typed.ensures in
     omega (arith, long, wrote-long c.put_be-beacon_key_at.ensures.1, c.put_be-beacon_key_at.ensures.0, c.requires)
 
 pub put_be-read_receipts_at-requires : goal.put_be-read_receipts_at-requires
 put_be-read_receipts_at-requires c =
     let long : length (image c.args.device) ≡ 49 = length-image c.args.device c.typed.ensures in
-    omega (arith, long, wrote-long c.put_be-beacon_key_at.ensures.1, wrote-long c.put_32-next_contact_at.ensures.1, c.put_be-beacon_key_at.ensures.0, c.put_32-next_contact_at.ensures.0, c.requires)
+    omega (arith, long, wrote-long c.put_be-beacon_key_at.ensures.1, wrote-long c.put_array-next_contact_at.ensures.1, c.put_be-beacon_key_at.ensures.0, c.put_array-next_contact_at.ensures.0, c.requires)
 
 pub put_byte-courier_at-requires : goal.put_byte-courier_at-requires
 put_byte-courier_at-requires c =
@@ -27,10 +27,10 @@ put_byte-courier_at-requires c =
       arith,
       long,
       wrote-long c.put_be-beacon_key_at.ensures.1,
-      wrote-long c.put_32-next_contact_at.ensures.1,
+      wrote-long c.put_array-next_contact_at.ensures.1,
       wrote-long c.put_be-read_receipts_at.ensures.1,
       c.put_be-beacon_key_at.ensures.0,
-      c.put_32-next_contact_at.ensures.0,
+      c.put_array-next_contact_at.ensures.0,
       c.put_be-read_receipts_at.ensures.0,
       c.requires,
     )
@@ -42,11 +42,11 @@ put_courier-requires c =
       arith,
       long,
       wrote-long c.put_be-beacon_key_at.ensures.1,
-      wrote-long c.put_32-next_contact_at.ensures.1,
+      wrote-long c.put_array-next_contact_at.ensures.1,
       wrote-long c.put_be-read_receipts_at.ensures.1,
       wrote-long c.put_byte-courier_at.ensures.1,
       c.put_be-beacon_key_at.ensures.0,
-      c.put_32-next_contact_at.ensures.0,
+      c.put_array-next_contact_at.ensures.0,
       c.put_be-read_receipts_at.ensures.0,
       c.put_byte-courier_at.ensures.0,
       c.requires,
@@ -54,5 +54,5 @@ put_courier-requires c =
 
 pub returns : goal.returns
 returns c =
-    let w = c.put_be-beacon_key_at.ensures.1 then (c.put_32-next_contact_at.ensures.1 then (c.put_be-read_receipts_at.ensures.1 then (c.put_byte-courier_at.ensures.1 then c.put_courier.ensures.1))) in
-    rw (image-is c.args.device c.typed.ensures, ← c.flag_byte.ensures) (w.next-is, w)
+    let w = c.put_be-beacon_key_at.ensures.1 then (c.put_array-next_contact_at.ensures.1 then (c.put_be-read_receipts_at.ensures.1 then (c.put_byte-courier_at.ensures.1 then c.put_courier.ensures.1))) in
+    rw (image-is c.args.device c.typed.ensures, ← c.from.ensures) (w.next-is, w)

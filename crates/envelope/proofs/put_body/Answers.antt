@@ -7,16 +7,16 @@ use Rattle.sealed.proofs.Text.{wrote_as}
 use Rattle.envelope.proofs.Image.{image-is, length-image}
 use Rattle.envelope.proofs.put_body.Goals as goal
 
-pub put_16-c_at-requires : goal.put_16-c_at-requires
-put_16-c_at-requires c = omega (arith, length-image c.args.envelope c.typed.ensures c.args.ct.now)
+pub put_array-c_at-requires : goal.put_array-c_at-requires
+put_array-c_at-requires c = omega (arith, length-image c.args.envelope c.typed.ensures c.args.ct.now)
 
-pub put_16-expiry_at-requires : goal.put_16-expiry_at-requires
-put_16-expiry_at-requires c =
+pub put_array-expiry_at-requires : goal.put_array-expiry_at-requires
+put_array-expiry_at-requires c =
     omega (
       arith,
       length-image c.args.envelope c.typed.ensures c.args.ct.now,
-      wrote-long c.put_16-c_at.ensures.1,
-      c.put_16-c_at.ensures.0,
+      wrote-long c.put_array-c_at.ensures.1,
+      c.put_array-c_at.ensures.0,
       c.requires,
     )
 
@@ -25,10 +25,10 @@ put_be-copies_at-requires c =
     omega (
       arith,
       length-image c.args.envelope c.typed.ensures c.args.ct.now,
-      wrote-long c.put_16-c_at.ensures.1,
-      wrote-long c.put_16-expiry_at.ensures.1,
-      c.put_16-c_at.ensures.0,
-      c.put_16-expiry_at.ensures.0,
+      wrote-long c.put_array-c_at.ensures.1,
+      wrote-long c.put_array-expiry_at.ensures.1,
+      c.put_array-c_at.ensures.0,
+      c.put_array-expiry_at.ensures.0,
       c.requires,
     )
 
@@ -37,11 +37,11 @@ put_byte-ct_at-requires c =
     omega (
       arith,
       length-image c.args.envelope c.typed.ensures c.args.ct.now,
-      wrote-long c.put_16-c_at.ensures.1,
-      wrote-long c.put_16-expiry_at.ensures.1,
+      wrote-long c.put_array-c_at.ensures.1,
+      wrote-long c.put_array-expiry_at.ensures.1,
       wrote-long c.put_be-copies_at.ensures.1,
-      c.put_16-c_at.ensures.0,
-      c.put_16-expiry_at.ensures.0,
+      c.put_array-c_at.ensures.0,
+      c.put_array-expiry_at.ensures.0,
       c.put_be-copies_at.ensures.0,
       c.requires,
     )
@@ -51,12 +51,12 @@ put_run-requires c = (
   omega (
     arith,
     length-image c.args.envelope c.typed.ensures c.args.ct.now,
-    wrote-long c.put_16-c_at.ensures.1,
-    wrote-long c.put_16-expiry_at.ensures.1,
+    wrote-long c.put_array-c_at.ensures.1,
+    wrote-long c.put_array-expiry_at.ensures.1,
     wrote-long c.put_be-copies_at.ensures.1,
     wrote-long c.put_byte-ct_at.ensures.1,
-    c.put_16-c_at.ensures.0,
-    c.put_16-expiry_at.ensures.0,
+    c.put_array-c_at.ensures.0,
+    c.put_array-expiry_at.ensures.0,
     c.put_be-copies_at.ensures.0,
     c.put_byte-ct_at.ensures.0,
     c.requires,
@@ -68,7 +68,7 @@ pub returns : goal.returns
 returns c =
     let text = c.args.ct.now in
     let w =
-    c.put_16-c_at.ensures.1 then (c.put_16-expiry_at.ensures.1 then (c.put_be-copies_at.ensures.1 then (
+    c.put_array-c_at.ensures.1 then (c.put_array-expiry_at.ensures.1 then (c.put_be-copies_at.ensures.1 then (
     c.put_byte-ct_at.ensures.1 then whole_run {s = text} (length text) refl c.put_run.ensures.1
     ))) in
     wrote_as (image-is c.args.envelope c.typed.ensures text) w

@@ -13,6 +13,7 @@ use Rattle.envelope.specs.Envelope.{EnvelopeTyped, image, storable}
 use Rattle.envelope.specs.declared.Envelope.{Envelope}
 use Rattle.envelope.proofs.Image.{length-image}
 use Rattle.envelope.proofs.put_envelope.Goals as goal
+use Rattle.envelope.proofs.put_envelope.Goals.{then-len-at-via-then-len-at, then-len-at-via-else-len-at+then-not-envelope_fits}
 
 module _ (e : Envelope) (ty : EnvelopeTyped e) (ct : List ℕ) (room : ℕ) where
   body-fits : leb (length (image e ct)) room ≡ leb (37 + length ct) room
@@ -28,12 +29,10 @@ pub returns-then-len-at : goal.returns-then-len-at
 returns-then-len-at c =
     let a = c.args in
     let room = length a.out.now - a.at in
-    not-stored a.envelope c.typed.ensures a.ct.now room a.out.now a.at (lt-leb (37 + length a.ct.now) room (omega arith))
-
-pub returns-then-not-envelope_fits : goal.returns-then-not-envelope_fits
-returns-then-not-envelope_fits c =
-    let a = c.args in
-    not-stored a.envelope c.typed.ensures a.ct.now (length a.out.now - a.at) a.out.now a.at (sym c.envelope_fits.ensures ∙ c.if-not-envelope_fits.true)
+    elim c.then-len-at.branch [
+      | then-len-at-via-then-len-at w ↦ not-stored a.envelope c.typed.ensures a.ct.now room a.out.now a.at (lt-leb (37 + length a.ct.now) room (omega arith))
+      | then-len-at-via-else-len-at+then-not-envelope_fits w ↦ not-stored a.envelope c.typed.ensures a.ct.now room a.out.now a.at (sym w.envelope_fits.ensures ∙ w.if-not-envelope_fits.true)
+    ]
 
 pub put_body-requires : goal.put_body-requires
 put_body-requires c =

@@ -1,60 +1,32 @@
 -- `queued_row::put_own_envelope` meets its contract: the flag alone, or the flag and one writer behind another.
-use mathlib.Core.Path.{◌≡◌, ap}
+use mathlib.Core.Path.{ap}
 use native.Mathlib.Omega.{arith}
 use lib.ListN.{length}
 use Rattle.put.proofs.Put.{◌then◌, wrote-long}
 use Rattle.sealed.proofs.Text.{wrote_as}
-use Rattle.queued_row.specs.Row.{own_image}
 use Rattle.queued_row.proofs.Image.{own-absent, own-present, length-present}
 use Rattle.queued_row.proofs.put_own_envelope.Goals as goal
 
 pub put_byte-requires : goal.put_byte-requires
-put_byte-requires c =
-    let q = c.args.outgoing in
-    omega (arith, ap length (own-absent q c.in_default.is))
+put_byte-requires c = omega (arith, ap length (own-absent c.args.outgoing c.in_default.is))
 
 pub returns-in_default : goal.returns-in_default
 returns-in_default c = wrote_as (own-absent c.args.outgoing c.in_default.is) c.put_byte.ensures.1
 
 pub put_byte-tag_at-requires : goal.put_byte-tag_at-requires
-put_byte-tag_at-requires c =
-    let long : length (own_image (c.args.outgoing)) ≡ 39 = length-present (c.args.outgoing) c.typed.ensures c.in-Present.is in
-    omega (arith, long)
+put_byte-tag_at-requires c = omega (arith, length-present c.args.outgoing c.typed.ensures c.in-Some.is)
 
-pub put_16-s_at-requires : goal.put_16-s_at-requires
-put_16-s_at-requires c =
-    let long : length (own_image (c.args.outgoing)) ≡ 39 = length-present (c.args.outgoing) c.typed.ensures c.in-Present.is in
-    omega (arith, long, wrote-long c.put_byte-tag_at.ensures.1)
+pub put_array-s_at-requires : goal.put_array-s_at-requires
+put_array-s_at-requires c = omega (arith, length-present c.args.outgoing c.typed.ensures c.in-Some.is, wrote-long c.put_byte-tag_at.ensures.1)
 
-pub put_16-expiry_at-requires : goal.put_16-expiry_at-requires
-put_16-expiry_at-requires c =
-    let long : length (own_image (c.args.outgoing)) ≡ 39 = length-present (c.args.outgoing) c.typed.ensures c.in-Present.is in
-    omega (
-      arith,
-      long,
-      wrote-long c.put_byte-tag_at.ensures.1,
-      wrote-long c.put_16-s_at.ensures.1,
-      c.put_16-s_at.ensures.0,
-      c.put_byte-tag_at.ensures.0,
-      c.requires,
-    )
+pub put_array-expiry_at-requires : goal.put_array-expiry_at-requires
+put_array-expiry_at-requires c = omega (arith, length-present c.args.outgoing c.typed.ensures c.in-Some.is, wrote-long c.put_byte-tag_at.ensures.1, wrote-long c.put_array-s_at.ensures.1)
 
 pub put_numbers-requires : goal.put_numbers-requires
 put_numbers-requires c =
-    let long : length (own_image (c.args.outgoing)) ≡ 39 = length-present (c.args.outgoing) c.typed.ensures c.in-Present.is in
-    omega (
-      arith,
-      long,
-      wrote-long c.put_byte-tag_at.ensures.1,
-      wrote-long c.put_16-s_at.ensures.1,
-      wrote-long c.put_16-expiry_at.ensures.1,
-      c.put_16-expiry_at.ensures.0,
-      c.put_16-s_at.ensures.0,
-      c.put_byte-tag_at.ensures.0,
-      c.requires,
-    )
+    omega (arith, length-present c.args.outgoing c.typed.ensures c.in-Some.is, wrote-long c.put_byte-tag_at.ensures.1, wrote-long c.put_array-s_at.ensures.1, wrote-long c.put_array-expiry_at.ensures.1)
 
 pub returns : goal.returns
 returns c =
-    wrote_as (own-present (c.args.outgoing) c.typed.ensures c.in-Present.is)
-    (c.put_byte-tag_at.ensures.1 then (c.put_16-s_at.ensures.1 then (c.put_16-expiry_at.ensures.1 then c.put_numbers.ensures.1)))
+    wrote_as (own-present (c.args.outgoing) c.typed.ensures c.in-Some.is)
+    (c.put_byte-tag_at.ensures.1 then (c.put_array-s_at.ensures.1 then (c.put_array-expiry_at.ensures.1 then c.put_numbers.ensures.1)))

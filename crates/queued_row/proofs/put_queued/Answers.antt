@@ -16,47 +16,15 @@ put_own_envelope-gen_at-requires c =
 
 pub put_byte-idx_at-requires : goal.put_byte-idx_at-requires
 put_byte-idx_at-requires c =
-    omega (
-      arith,
-      length-image c.args.outgoing c.typed.ensures c.args.sealed.now,
-      wrote-long c.put_be-envelope_at.ensures.1,
-      wrote-long c.put_own_envelope-gen_at.ensures.1,
-      c.put_be-envelope_at.ensures.0,
-      c.put_own_envelope-gen_at.ensures.0,
-      c.requires,
-    )
+    omega (arith, length-image c.args.outgoing c.typed.ensures c.args.sealed.now, wrote-long c.put_be-envelope_at.ensures.1, wrote-long c.put_own_envelope-gen_at.ensures.1)
 
 pub put_leb128-sealed_at-requires : goal.put_leb128-sealed_at-requires
 put_leb128-sealed_at-requires c =
-    omega (
-      arith,
-      length-image c.args.outgoing c.typed.ensures c.args.sealed.now,
-      wrote-long c.put_be-envelope_at.ensures.1,
-      wrote-long c.put_own_envelope-gen_at.ensures.1,
-      wrote-long c.put_byte-idx_at.ensures.1,
-      c.put_be-envelope_at.ensures.0,
-      c.put_own_envelope-gen_at.ensures.0,
-      c.put_byte-idx_at.ensures.0,
-      c.requires,
-    )
+    omega (arith, length-image c.args.outgoing c.typed.ensures c.args.sealed.now, wrote-long c.put_be-envelope_at.ensures.1, wrote-long c.put_own_envelope-gen_at.ensures.1, wrote-long c.put_byte-idx_at.ensures.1)
 
 pub put_run-requires : goal.put_run-requires
-put_run-requires c = (
-  omega (
-    arith,
-    length-image c.args.outgoing c.typed.ensures c.args.sealed.now,
-    wrote-long c.put_be-envelope_at.ensures.1,
-    wrote-long c.put_own_envelope-gen_at.ensures.1,
-    wrote-long c.put_byte-idx_at.ensures.1,
-    wrote-long c.put_leb128-sealed_at.ensures.1,
-    c.put_be-envelope_at.ensures.0,
-    c.put_own_envelope-gen_at.ensures.0,
-    c.put_byte-idx_at.ensures.0,
-    c.put_leb128-sealed_at.ensures.0,
-    c.requires,
-  ),
-  omega arith,
-)
+put_run-requires c =
+    (omega (arith, length-image c.args.outgoing c.typed.ensures c.args.sealed.now, wrote-long c.put_be-envelope_at.ensures.1, wrote-long c.put_own_envelope-gen_at.ensures.1, wrote-long c.put_byte-idx_at.ensures.1, wrote-long c.put_leb128-sealed_at.ensures.1), omega arith)
 
 pub returns : goal.returns
 returns c =

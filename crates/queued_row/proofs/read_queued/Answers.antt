@@ -1,25 +1,27 @@
--- `queued_row::read_queued` meets its contract: checked, then copied; or refused, and zeros.
-use Prim.Native.Nat.{◌-◌, ◌≤◌}
-use mathlib.Core.Path.{◌≡◌, subst}
-use native.Mathlib.Omega.{arith}
-use lib.ListN.{length, drop, length-drop}
-use Rattle.layout.specs.Layout.{read_row}
-use Rattle.layout.proofs.At.{learn, typed}
-use Rattle.rows.specs.Rows.{queued}
-use Rattle.queued.proofs.Placed.{check_says, Placed, check-says, check-placed}
+-- `queued_row::read_queued` meets its contract: checked, then copied; or refused by the same question.
+use Rattle.std.proofs.Common.{rules, ◌≡◌, ◌-◌, ◌≤◌, ℕ, Err, length, drop, length-drop, arith}
+use mathlib.Core.Path.{refl, sym, ap}
+use Rattle.layout.specs.Layout.{Answer, accepted, refused_by}
+use Rattle.layout.specs.Says.{made}
+use Rattle.layout.proofs.Theorems.{accepted≢}
+use Rattle.layout.proofs.At.{typed}
+use Rattle.queued.proofs.Placed.{placed}
 use Rattle.queued_row.proofs.read_queued.Goals as goal
 
+-- what refuses one thing that is made of a row refuses the other
+made-no : {A B C : Type 0} (f : A → B) (g : A → C) (a : Answer A) {q : ℕ} → refused_by q ≡ made f a → refused_by q ≡ made g a
+made-no f g (accepted v) e = absurd (accepted≢ (sym e))
+made-no f g (refused_by p) {q} e = let same : q ≡ p = cc in ap refused_by same
+
+pub returns-in_err-at : goal.returns-in_err-at
+returns-in_err-at c = let no : c.from_residual.result ≡ Err c.in_err-at.field-0.0 = search rules in rw no (made-no _ _ _ c.in_err-at.ensures)
+
 pub queued_from-requires : goal.queued_from-requires
-queued_from-requires c =
-    let placed : Placed (c.args.row.now) c.check_queued-check.result = check-placed (c.args.row.now) (typed (c.args.row.now) c.type_inv.row) c.args.version c.check_queued-check.ensures in
-    subst (Placed _) c.in-Fields.is placed
+queued_from-requires c = (placed c.args.row.now (typed _ c.type_inv.row) c.args.version c.in_ok-at.ensures).1
 
 pub returns : goal.returns
 returns c =
-    let placed : Placed (c.args.row.now) c.check_queued-check.result = check-placed (c.args.row.now) (typed (c.args.row.now) c.type_inv.row) c.args.version c.check_queued-check.ensures in
-    let says : check_says (c.args.row.now) c.check_queued-check.result ≡ read_row (queued c.args.version) (c.args.row.now) = check-says (c.args.row.now) (typed (c.args.row.now) c.type_inv.row) c.args.version c.check_queued-check.ensures in
-    let its = c.args.row.now in
-    let sealed = c.in-Fields.at.sealed in
-    let inside : sealed ≤ length its = (subst (Placed its) c.in-Fields.is placed).sealed in
-    let place : length its - length (drop sealed its) ≡ sealed = simp length-drop (omega arith) in
-    rw (learn (check_says _) says c.in-Fields.is, c.queued_from.ensures, place)
+    let its = placed c.args.row.now (typed _ c.type_inv.row) c.args.version c.in_ok-at.ensures in
+    let inside : c.in_ok-at.at.sealed ≤ length c.args.row.now = its.1.sealed in
+    let place : length c.args.row.now - length (drop c.in_ok-at.at.sealed c.args.row.now) ≡ c.in_ok-at.at.sealed = rw length-drop (omega arith) in
+    rw (its.0, c.queued_from.ensures, place) refl

@@ -1,19 +1,14 @@
--- `received::in_one` meets its contract. The invariant: the ranges from the i-th on answer as all of them.
-use mathlib.Core.Path.{refl}
-use native.Mathlib.Omega.{arith}
-use borrow.Author.Rules.{rules}
-use Rattle.received.proofs.Turns.{any-hit, any-low, any-high, any-end}
+-- `received::in_one` meets its contract: `any` over the pairs is `any` over their ranges.
+use Rattle.std.proofs.Common.{◌∙◌, rules, tests}
+use Rattle.std.proofs.lemmas.Iterator.{YieldsList-from_slice}
+use Rattle.std.proofs.lemmas.Iterator.Search.{any_from_yields_List}
+use Rattle.numbers.specs.Ranges.{inside}
+use Rattle.received.specs.Lent.{as_range}
+use Rattle.received.proofs.Pairs.{any-of}
 use Rattle.received.proofs.in_one.Goals as goal
-use Rattle.received.proofs.in_one.Goals.{then-a-from+else-to-b, else-a-from}
-
-pub loop-i-init : goal.loop-i-init
-loop-i-init c = (search rules, refl)
-
-pub returns-then-to-b : goal.returns-then-to-b
-returns-then-to-b c = search any-hit
-
-pub loop-i-preserved : goal.loop-i-preserved
-loop-i-preserved c = (omega arith, elim c.if-a-from.branch [ then-a-from+else-to-b w ↦ search any-high | else-a-from w ↦ search any-low ])
 
 pub returns : goal.returns
-returns c = search any-end
+returns c =
+    let a = c.args in
+    any_from_yields_List (λ p. inside a.from a.to (as_range p)) _ _ _ c.any.ensures.ran (YieldsList-from_slice a.ranges.now cc) (λ x b q k. search (rules, tests))
+    ∙ any-of (inside a.from a.to) a.ranges.now

@@ -1,30 +1,13 @@
 -- `received::merge` meets its contract. The invariant: what is merged so far, merged with the ranges that are left, is the answer.
-use mathlib.Core.Path.{refl}
-use native.Mathlib.Omega.{arith}
-use borrow.Author.Rules.{rules}
-use Rattle.received.proofs.Turns.{merged-stop, merged_on, merged-end}
+use Rattle.std.proofs.Common.{arith}
+use Rattle.received.proofs.Turns.{merged-stop, merged_on}
 use Rattle.received.proofs.merge.Goals as goal
 
-pub loop-next-init : goal.loop-next-init
-loop-next-init c = (omega arith, omega arith, omega arith, refl)
+pub returns-then-from : goal.returns-then-from
+returns-then-from c =
+    let stop = merged-stop c.args.ranges.now c.loop-i.i (omega arith) _ _ _ c.loop-i.invariant.1 (omega arith) in
+    record { range = stop.0; after = stop.1 }
 
-pub returns-then-wide : goal.returns-then-wide
-returns-then-wide c =
-    let a = c.args in
-    record {
-      above_value = merged-stop a.above.now a.held c.loop-next.next (omega arith) (omega arith) _ _ _ c.loop-next.invariant.3 (omega arith);
-      i_le_next = (omega arith, omega arith);
-    }
-
-pub loop-next-preserved : goal.loop-next-preserved
-loop-next-preserved c =
-    let a = c.args in (
-      omega arith,
-      omega arith,
-      search rules,
-      rw (c.lower-a.ensures, c.higher-b.ensures)
-          (merged_on a.above.now a.held c.loop-next.next (omega arith) (omega arith) _ _ _ c.loop-next.invariant.3 (omega arith)),
-    )
-
-pub returns : goal.returns
-returns c = record { above_value = search merged-end; i_le_next = (omega arith, omega arith) }
+pub loop-i-preserved : goal.loop-i-preserved
+loop-i-preserved c =
+    (omega arith, rw (c.min-from.ensures, c.max-to.ensures) (merged_on c.args.ranges.now c.loop-i.i (omega arith) _ _ _ c.loop-i.invariant.1 (omega arith)))

@@ -8,13 +8,13 @@ use native.Mathlib.Omega.{arith}
 use lib.ListN.{length}
 use lib.Dec.{leb}
 use borrow.Author.Tests.{leb-true, leb-false}
-use Rattle.layout.specs.Questions.{OUTPUT}
+use Rattle.std.specs.Prelude.{Ok, Err}
+use Rattle.layout.specs.declared.question.Question.TheVariants as question
 use Rattle.layout.specs.Write.{writes}
+use Rattle.layout.specs.Says.{leaves}
 use Rattle.layout.proofs.Write.{writes_short, writes-row}
 use Rattle.put.specs.Put.{Wrote}
 use Rattle.put.proofs.Put.{put_front, wrote_none}
-use Rattle.rows.specs.Answers.{leaves}
-use Rattle.rows.specs.declared.Written.TheVariants.{Length, Refused}
 use Rattle.envelope.specs.Envelope.{EnvelopeTyped, body, image}
 use Rattle.envelope.specs.declared.Envelope.{Envelope}
 use Rattle.envelope.proofs.Image.{length-image, whole}
@@ -27,17 +27,17 @@ module _ (e : Envelope) (ty : EnvelopeTyped e) (ct out m : List ℕ) (p : ℕ) w
   abbrev fits : Bool
   fits = leb (length (image e ct)) (length out - 0)
 
-  none_written : (t : Bool) → fits ≡ t → Stored t → p ≡ 0 → leaves (Refused OUTPUT) m ≡ writes body (image e ct) out
+  none_written : (t : Bool) → fits ≡ t → Stored t → p ≡ 0 → leaves (Err question.Output) m ≡ writes body (image e ct) out
   none_written true f w z = absurd (omega (arith, w.next-is, length-image e ty ct))
   none_written false f w z =
-      ap (leaves (Refused OUTPUT)) (w.now-is ∙ sym (wrote_none out 0).now-is)
+      ap (leaves (Err question.Output)) (w.now-is ∙ sym (wrote_none out 0).now-is)
       ∙ sym (writes_short body (image e ct) out (whole e ty ct) (omega (arith, leb-false (length (image e ct)) (length out - 0) f, length-image e ty ct)))
 
-  all-written : (t : Bool) → fits ≡ t → Stored t → (p ≡ 0 → ⊥) → leaves (Length p) m ≡ writes body (image e ct) out
+  all-written : (t : Bool) → fits ≡ t → Stored t → (p ≡ 0 → ⊥) → leaves (Ok p) m ≡ writes body (image e ct) out
   all-written true f w n =
       let room = leb-true (length (image e ct)) (length out - 0) f in
       let long : p ≡ 37 + length ct = omega (arith, w.next-is, length-image e ty ct) in
-      ap₂ (λ (r : ℕ) (l : List ℕ). leaves (Length r) l) long (w.now-is ∙ put_front out (image e ct) (omega arith))
+      ap₂ (λ (r : ℕ) (l : List ℕ). leaves (Ok r) l) long (w.now-is ∙ put_front out (image e ct) (omega arith))
       ∙ sym (writes-row body (image e ct) out (whole e ty ct) (omega (arith, length-image e ty ct)))
   all-written false f w n = absurd (n w.next-is)
 

@@ -1,1 +1,0 @@
--- `courier::courier_sealed` meets its contract: the part from that place on.

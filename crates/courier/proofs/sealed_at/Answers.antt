@@ -1,1 +1,0 @@
--- `courier::sealed_at` meets its contract: by the kind.

@@ -1,1 +1,0 @@
--- `courier_row::carried_from` meets its contract: the numbers, and two runs copied.

@@ -1,1 +1,0 @@
--- `courier_row::held_from` meets its contract: by the kind.

@@ -1,1 +1,0 @@
--- `courier_row::tombstone_from` meets its contract: the numbers, and two runs copied.

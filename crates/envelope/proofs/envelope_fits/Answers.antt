@@ -1,1 +1,0 @@
--- `envelope::envelope_fits` meets its contract.

@@ -1,1 +1,0 @@
--- `queued_row::own_typed` meets its contract: in each case, what the types of its fields say.

@@ -1,1 +1,0 @@
--- `queued_row::queued_from` meets its contract: the numbers, and the two runs copied or zeros.
