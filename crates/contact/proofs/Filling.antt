@@ -11,9 +11,8 @@ use Rattle.rows.specs.Rows.{pending, send, contact}
 use Rattle.rows.proofs.Proved.{proved}
 use Rattle.contact_parts.specs.Offsets.{run, pending_from, send_from}
 use Rattle.contact_parts.specs.declared.PendingAt.{PendingAt}
-use Rattle.contact_parts.specs.declared.PendingAt.TheVariants as pending_at
-use Rattle.contact_parts.specs.declared.SendAt.{SendAt}
-use Rattle.contact_parts.specs.declared.SendAt.TheVariants as send_at
+use Rattle.contact_parts.specs.declared.SendChainAt.{SendChainAt}
+use Rattle.std.specs.Prelude.{Option, Some, None}
 use Rattle.contact.specs.Check.{contact_from, Offsets, PendingRuns, SendRuns, Filling}
 use Rattle.contact.specs.declared.ContactAt.{ContactAt}
 
@@ -22,13 +21,13 @@ module _ (row : List ℕ) where
   inside : (n from : ℕ) → 0 < n → length (run n row from) ≡ n → from + n ≤ length row
   inside n from some e = omega (arith, length-take n (drop from row), length-drop from row)
 
-  pending-inside : (at : PendingAt) (post : List ℕ) → (optional (group pending)).fits (pending_from row at) post → PendingRuns row at
-  pending-inside pending_at.Absent post h = tt
-  pending-inside (pending_at.Present chain_key msg_seed) post h = (inside 32 chain_key (omega arith) h.1.0.0, inside 32 msg_seed (omega arith) h.1.0.1.0)
+  pending-inside : (at : Option PendingAt) (post : List ℕ) → (optional (group pending)).fits (pending_from row at) post → PendingRuns row at
+  pending-inside None post h = tt
+  pending-inside (Some p) post h = (inside 32 p.chain_key (omega arith) h.1.0.0, inside 32 p.msg_seed (omega arith) h.1.0.1.0)
 
-  send-inside : (at : SendAt) (post : List ℕ) → (optional (group send)).fits (send_from row at) post → SendRuns row at
-  send-inside send_at.Absent post h = tt
-  send-inside (send_at.Present s) post h = inside 32 s.key (omega arith) h.1.0.1.1.1.0
+  send-inside : (at : Option SendChainAt) (post : List ℕ) → (optional (group send)).fits (send_from row at) post → SendRuns row at
+  send-inside None post h = tt
+  send-inside (Some s) post h = inside 32 s.key (omega arith) h.1.0.1.1.1.0
 
 pub filling : (version : ℕ) (row : List ℕ) (at : ContactAt) → Bytes row → Offsets row at → read_row (contact version) row ≡ accepted (contact_from row at) → Filling row at
 filling version row at by places e =

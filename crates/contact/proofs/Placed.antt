@@ -20,18 +20,10 @@ use Rattle.contact_parts.specs.Parts.{Paired, paired, Keys, keys, Chained, chain
 use Rattle.contact_parts.proofs.Parts.{embed, embed-parse, in_parts, after_paired, after_keys, after_chained, consistent}
 use Rattle.contact_parts.proofs.Lawful.{paired-lawful, keys-lawful, chained-lawful, numbers-lawful}
 use Rattle.contact_parts.proofs.Placed.{paired_is, paired-inside, keys-is, chained-is, chained-inside, numbers-is, numbers-inside}
-use Rattle.contact.specs.Check.{contact_at, checked, contact_from, Offsets}
-use Rattle.contact.specs.declared.ContactCheck.{ContactCheck}
-use Rattle.contact.specs.declared.ContactCheck.TheVariants as check
-
--- the value at the places that were answered, and that they lie in the row
-abbrev pub check_says : List ℕ → ContactCheck → Answer value.Contact
-check_says row (check.Fields at) = accepted (contact_from row at)
-check_says row (check.Refused q) = refused_by q
-
-abbrev pub Placed : List ℕ → ContactCheck → Type 0
-Placed row (check.Fields at) = Offsets row at
-Placed row (check.Refused q) = Unit {0}
+use Rattle.contact.specs.Check.{contact_at, contact_from, Offsets}
+use Rattle.contact.specs.declared.ContactAt.{ContactAt}
+use Rattle.layout.specs.Says.{made}
+use Rattle.layout.proofs.Theorems.{accepted≢}
 
 -- ---- where the parts begin
 module _ (version : ℕ) (v : value.Contact) where
@@ -130,13 +122,22 @@ module _ (row : List ℕ) (by : Bytes row) (version : ℕ) where
       let inside = contact-inside version row p.got k.got c.got n.got bp.here bk.here bc.here bn.here in
       always Found (consistent p.got k.got c.got n.got) (λ u. (is, inside)) n.mid n.second
 
-  says : (x : Read value.Contact) → parse (contact version) row ≡ x → (check_says row (checked version (answer x)) ≡ answer x) × Placed row (checked version (answer x))
-  says (value v rest) read = let f = found v rest read in (ap accepted f.0, f.1)
-  says (refused q) read = (refl, tt)
+  says : (x : Read value.Contact) → parse (contact version) row ≡ x → {at : ContactAt} → accepted at ≡ made (contact_at version) (answer x)
+      → (answer x ≡ accepted (contact_from row at)) × Offsets row at
+  says (value v rest) read {at} told =
+      let f = found v rest read in
+      let same : at ≡ contact_at version v = cc in
+      (rw (same, f.0) refl, rw same f.1)
+  says (refused q) read told = absurd (accepted≢ told)
 
-  module _ {r : ContactCheck} (answer : r ≡ checked version (read_row (contact version) row)) where
-    pub check-says : check_says row r ≡ read_row (contact version) row
-    check-says = rw answer (says (parse (contact version) row) refl).0
+  -- from what a check answers: the value at its places was read, and they lie in the row
+  pub placed : {at : ContactAt} → accepted at ≡ made (contact_at version) (read_row (contact version) row) → (read_row (contact version) row ≡ accepted (contact_from row at)) × Offsets row at
+  placed told = says (parse (contact version) row) refl told
 
-    pub check-placed : Placed row r
-    check-placed = rw answer (says (parse (contact version) row) refl).1
+  -- or its refusal is the row's
+  pub unplaced : {q : ℕ} → refused_by q ≡ made (contact_at version) (read_row (contact version) row) → read_row (contact version) row ≡ refused_by q
+  unplaced told = go (read_row (contact version) row) told
+    where
+      go : (x : Answer value.Contact) {q : ℕ} → refused_by q ≡ made (contact_at version) x → x ≡ refused_by q
+      go (accepted v) e = absurd (accepted≢ (sym e))
+      go (refused_by p) e = cc

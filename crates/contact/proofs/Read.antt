@@ -8,32 +8,30 @@ use lib.ListN.{length}
 use lib.Dec.{leb}
 use borrow.Author.Tests.{leb-true}
 use Rattle.layout.specs.Questions.{LISTS}
-use Rattle.layout.specs.Layout.{read_row}
-use Rattle.layout.specs.Layout as answer
+use Rattle.layout.specs.Layout.{accepted, refused_by, read_row}
 use Rattle.layout.specs.RowLaws.{Bytes}
 use Rattle.layout.proofs.Front.{number-lawful}
 use Rattle.rows.specs.Values as value
 use Rattle.rows.specs.Rows.{contact}
-use Rattle.rows.specs.declared.Verdict.TheVariants.{Accepted}
 use Rattle.rows.proofs.Lawful.{chain-lawful, skipped-lawful, range-lawful}
 use Rattle.contact_lists.proofs.Ends.{listed-fits}
 use Rattle.contact.specs.Check.{contact_from, Offsets}
 use Rattle.contact.specs.Contact as spec
-use Rattle.contact.specs.Contact.{Lists, contact_of, long_enough, filled, leaves, refused_by, reads, Fillable}
+use Rattle.contact.specs.Contact.{Lists, contact_of, long_enough, filled, reads, Fillable}
 use Rattle.contact.specs.declared.ContactAt.{ContactAt}
 use Rattle.contact.proofs.Counts.{five, in-51, in-46, in-2}
 
 module _ (version : ℕ) (row : List ℕ) (l : Lists) where
-  pub not-read : {q : ℕ} → read_row (contact version) row ≡ answer.refused_by q → reads version row l ≡ leaves (refused_by q) l
+  pub not-read : {q : ℕ} → read_row (contact version) row ≡ refused_by q → reads version row l ≡ record { answer = refused_by q; lists = l }
   unfolding spec.reads
   not-read e = rw e
 
-  pub too_short : {v : value.Contact} → read_row (contact version) row ≡ answer.accepted v → long_enough v l ≡ false → reads version row l ≡ leaves (refused_by LISTS) l
+  pub too_short : {v : value.Contact} → read_row (contact version) row ≡ accepted v → long_enough v l ≡ false → reads version row l ≡ record { answer = refused_by LISTS; lists = l }
   unfolding spec.reads
   too_short e h = rw (e, h)
 
-  pub is_read : {v : value.Contact} → read_row (contact version) row ≡ answer.accepted v → long_enough v l ≡ true
-      → reads version row l ≡ leaves (record { verdict = Accepted; contact = contact_of v }) (filled v l)
+  pub is_read : {v : value.Contact} → read_row (contact version) row ≡ accepted v → long_enough v l ≡ true
+      → reads version row l ≡ record { answer = accepted (contact_of v); lists = filled v l }
   unfolding spec.reads
   is_read e h = rw (e, h)
 

@@ -1,7 +1,6 @@
 -- What the answers about a contact row say: where its parts stand.
 -- Assumes nothing.
-use Rattle.std.specs.Prelude.{ℕ, ◌+◌, ◌≤◌, List, length}
-use Rattle.layout.specs.Layout.{Answer, accepted, refused_by}
+use Rattle.std.specs.Prelude.{ℕ, ◌+◌, ◌≤◌, List, Option, Some, None, length}
 use Rattle.rows.specs.Values as value
 use Rattle.offsets.specs.Offset.{offset}
 use Rattle.numbers.specs.Lists.{Counts, counts}
@@ -9,12 +8,8 @@ use Rattle.rows.specs.Rows.{contact}
 use Rattle.contact_parts.specs.Parts.{paired_of, keys_of, chained_of, numbers_of, joined}
 use Rattle.contact_parts.specs.Offsets.{paired_at, paired_from, keys_at, keys_from, chained_at, chained_from, numbers_at, numbers_from, CardOffsets, ChainedLists, NumbersLists}
 use Rattle.contact_parts.specs.declared.PendingAt.{PendingAt}
-use Rattle.contact_parts.specs.declared.PendingAt.TheVariants as pending_at
-use Rattle.contact_parts.specs.declared.SendAt.{SendAt}
-use Rattle.contact_parts.specs.declared.SendAt.TheVariants as send_at
+use Rattle.contact_parts.specs.declared.SendChainAt.{SendChainAt}
 use Rattle.contact.specs.declared.ContactAt.{ContactAt}
-use Rattle.contact.specs.declared.ContactCheck.{ContactCheck}
-use Rattle.contact.specs.declared.ContactCheck.TheVariants as check
 
 -- ---- a contact row: where its parts begin, and where their fields stand
 abbrev pub contact_at : ℕ → value.Contact → ContactAt
@@ -30,14 +25,6 @@ abbrev pub counts_at : ContactAt → Counts
 counts_at at =
     counts at.chained.chains.count at.chained.skipped.count at.numbers.above.count at.numbers.unacked.count at.numbers.expired.count
 
-abbrev pub checked : ℕ → Answer value.Contact → ContactCheck
-checked version (accepted v) = check.Fields (contact_at version v)
-checked version (refused_by q) = check.Refused q
-
-abbrev pub check_refusal : ContactCheck → ℕ
-check_refusal (check.Fields at) = 0
-check_refusal (check.Refused q) = q
-
 -- ---- the contact that stands at places of a row, and that these lie in it
 abbrev pub contact_from : List ℕ → ContactAt → value.Contact
 contact_from row at = joined (paired_from row at.paired) (keys_from row at.keys) (chained_from row at.chained) (numbers_from row at.numbers)
@@ -48,13 +35,13 @@ pub record Offsets (row : List ℕ) (at : ContactAt) : Type 0 where
   pub numbers : NumbersLists row at.numbers
 
 -- ---- the runs lie in the row, so that they can be copied
-abbrev pub PendingRuns : List ℕ → PendingAt → Type 0
-PendingRuns row pending_at.Absent = Unit {0}
-PendingRuns row (pending_at.Present chain_key msg_seed) = (chain_key + 32 ≤ length row) × (msg_seed + 32 ≤ length row)
+abbrev pub PendingRuns : List ℕ → Option PendingAt → Type 0
+PendingRuns row None = Unit {0}
+PendingRuns row (Some p) = (p.chain_key + 32 ≤ length row) × (p.msg_seed + 32 ≤ length row)
 
-abbrev pub SendRuns : List ℕ → SendAt → Type 0
-SendRuns row send_at.Absent = Unit {0}
-SendRuns row (send_at.Present s) = s.key + 32 ≤ length row
+abbrev pub SendRuns : List ℕ → Option SendChainAt → Type 0
+SendRuns row None = Unit {0}
+SendRuns row (Some s) = s.key + 32 ≤ length row
 
 pub record Filling (row : List ℕ) (at : ContactAt) : Type 0 where
   pub places : Offsets row at

@@ -1,12 +1,12 @@
 -- Questions 54 and 17 to 24 of a contact's value, in their order: the number of the first that is a no. The code's own words, which nobody has to believe:
 -- that the layout of a contact row asks the same is proved (proofs/Consistent.antt). Assumes nothing.
-use Rattle.std.specs.Prelude.{ℕ, ◌+◌, List, Bool, cond, ◌&&◌}
+use Rattle.std.specs.Prelude.{ℕ, ◌+◌, List, Bool, Result, Ok, Err, cond, ◌&&◌}
 use Rattle.std.proofs.Math.Option.{Option, none, some}
+use Rattle.layout.specs.declared.question.Question.{Question}
+use Rattle.layout.specs.Questions.{number_of}
 use Rattle.layout.specs.Questions.{CHAINS_COUNT, CHAINS_CURRENT, CHAINS_GENS, SKIPPED_KEYS, SKIPPED_COUNT, PEER_ACKED, UNACKED, ABOVE, EXPIRED}
 use Rattle.layout.specs.Read.{first}
 use Rattle.rows.specs.Values.{Chain, Skipped, Range, Contact}
-use Rattle.rows.specs.declared.Verdict.{Verdict}
-use Rattle.rows.specs.declared.Verdict.TheVariants as verdict
 use Rattle.rows.specs.Checks.{few_chains, one_chain_at_most, gens_distinct, keys_distinct, few_skipped, acked_sent, rising, canonical, none_above}
 
 -- question q, and then the others
@@ -35,7 +35,7 @@ inconsistency v =
     first (chains_refusal v.chains v.skipped)
     (numbers_refusal v.sent_msgno v.peer_acked v.contiguous v.above v.unacked v.expired)
 
--- the question that a verdict names
-abbrev pub refusal_in : Verdict → Option ℕ
-refusal_in verdict.Accepted = none
-refusal_in (verdict.Refused q) = some q
+-- the question that an answer names
+abbrev pub refusal_in : Result (Unit {0}) Question → Option ℕ
+refusal_in (Ok u) = none
+refusal_in (Err q) = some (number_of q)

@@ -4,26 +4,25 @@ use Rattle.std.specs.Prelude.{ℕ, ◌*◌, ◌≤◌, List, Bool, false, cond, 
 use Rattle.std.proofs.Math.Option.{Option, none, some}
 use Rattle.std.specs.Borrow.{MutBor}
 use denote.Triple.Both.{Both}
+use Rattle.std.specs.Prelude as code
+use Rattle.layout.specs.declared.question.Question.{Question}
 use Rattle.layout.specs.Questions.{LISTS}
+use Rattle.layout.specs.Says.{answers}
 use Rattle.layout.specs.Veil.{zeros}
-use Rattle.layout.specs.Layout.{Answer, read_row, group, present}
-use Rattle.layout.specs.Layout as answer
+use Rattle.layout.specs.Layout.{Answer, accepted, refused_by, read_row, group, present}
 use Rattle.rows.specs.Values as value
 use Rattle.rows.specs.Rows.{chain, skipped, contact}
 use Rattle.rows.specs.declared.PairingRole.TheVariants as role
 use Rattle.rows.specs.declared.Verification.TheVariants as verification
-use Rattle.rows.specs.declared.Verdict.TheVariants as verdict
 use Rattle.card.specs.Card.{card_of, zero_card}
 use Rattle.put.specs.Put.{put}
 use Rattle.contact_lists.specs.Places.{print_places}
 use Rattle.received.specs.Lent.{flat}
 use Rattle.numbers.specs.Lists.{CHAIN_PLACE, SKIPPED_PLACE, Counts, counts, items_of, room_for}
 use Rattle.contact.specs.declared.SendChain.{SendChain}
-use Rattle.contact.specs.declared.SendChain.TheVariants as send_chain
 use Rattle.contact.specs.declared.Contact.{Contact}
 use Rattle.contact.specs.Check.{Offsets}
 use Rattle.contact.specs.declared.ContactAt.{ContactAt}
-use Rattle.contact.specs.declared.ContactRead.{ContactRead}
 use Rattle.contact.specs.declared.PendingKeys.{PendingKeys}
 use Rattle.contact.specs.declared.Send.{Send}
 
@@ -61,9 +60,9 @@ abbrev pub lists_after : (chains skipped above unacked expired : Slice) → List
 lists_after c s a u e = lists c.exit.now s.exit.now a.exit.now u.exit.now e.exit.now
 
 -- ---- the struct of a value: 0 stands where a flag leaves something out
-abbrev pub send_of : Option value.Send → SendChain
-send_of none = send_chain.Absent
-send_of (some s) = send_chain.Present s.gen s.dir s.idx
+abbrev pub send_of : Option value.Send → code.Option SendChain
+send_of none = code.None
+send_of (some s) = code.Some (record { gen_ = s.gen; dir = s.dir; idx = s.idx })
 
 abbrev pub send_key_of : Option value.Send → List ℕ
 send_key_of none = zeros 32
@@ -128,7 +127,7 @@ zero_contact = record {
   peer_read = 0;
   read_marked = 0;
   contiguous = 0;
-  send = send_chain.Absent;
+  send = code.None;
   role = role.A;
   verification = verification.Unverified;
   pending = false;
@@ -159,22 +158,17 @@ filled v l = record {
   expired = put l.expired 0 (flat v.expired);
 }
 
--- ---- what reading leaves: the answer with the struct beside it, and the lists
+-- ---- what reading leaves: the answer, and the lists
 pub record Left : Type 0 where
-  pub answer : ContactRead
+  pub answer : Answer Contact
   pub lists : Lists
 
-abbrev pub leaves : ContactRead → Lists → Left
-leaves r l = record { answer = r; lists = l }
-
--- a refusal is the number alone
-abbrev pub refused_by : ℕ → ContactRead
-refused_by q = record { verdict = verdict.Refused q; contact = zero_contact }
+abbrev pub leaves : code.Result Contact Question → Lists → Left
+leaves r l = record { answer = answers r; lists = l }
 
 abbrev pub opened : Answer value.Contact → Lists → Left
-opened (answer.accepted v) l =
-    cond (long_enough v l) (leaves (record { verdict = verdict.Accepted; contact = contact_of v }) (filled v l)) (leaves (refused_by LISTS) l)
-opened (answer.refused_by q) l = leaves (refused_by q) l
+opened (accepted v) l = cond (long_enough v l) (record { answer = accepted (contact_of v); lists = filled v l }) (record { answer = refused_by LISTS; lists = l })
+opened (refused_by q) l = record { answer = refused_by q; lists = l }
 
 unfoldable pub reads : ℕ → List ℕ → Lists → Left
 reads version row l = opened (read_row (contact version) row) l

@@ -10,22 +10,21 @@ ghost use Rattle.numbers.specs.Lists.{counts, room_for};
 ghost use Rattle.card.specs.Card.{card_of};
 ghost use Rattle.contact_parts.specs.Offsets.{ChainedLists, NumbersLists, chained_from, numbers_from, CardOffsets, card_in, pending_from, send_from};
 ghost use Rattle.contact.specs.Consistent.{chains_refusal, numbers_refusal, refusal_in};
-ghost use Rattle.contact.specs.Check.{contact_from, counts_at, checked, check_refusal, PendingRuns, SendRuns, Filling};
-ghost use Rattle.contact.specs.Contact.{pending_keys_of, send_part_of, contact_of, zero_contact, lists, lists_before, lists_after, filled, Fillable, refused_by, leaves, reads};
+ghost use Rattle.layout.specs.Says.{answers, made};
+ghost use Rattle.contact.specs.Check.{contact_at, contact_from, counts_at, PendingRuns, SendRuns, Filling};
+ghost use Rattle.contact.specs.Contact.{pending_keys_of, send_part_of, contact_of, zero_contact, lists, lists_before, lists_after, filled, Fillable, leaves, reads};
 
 use card::Card;
-use contact_parts::{
-    ChainedAt, ChainedField, KeysAt, KeysField, NumbersAt, NumbersField, PairedAt, PairedField,
-    PendingAt, SendAt,
-};
-use layout::question;
-use rows::{Dir, PairingRole, Verdict, Verification};
+use contact_parts::{ChainedAt, KeysAt, NumbersAt, PairedAt};
+use layout::Question;
+use rows::{Dir, PairingRole, Verification};
 
-// The send chain's numbers; its key stands beside it. Absent until the first Resume.
+// The send chain's numbers; its key stands beside it.
 #[derive(Clone, Copy)]
-pub enum SendChain {
-    Absent,
-    Present { gen_: u8, dir: Dir, idx: u32 },
+pub struct SendChain {
+    pub gen_: u8,
+    pub dir: Dir,
+    pub idx: u32,
 }
 
 // A contact but for the items of its lists, which the caller lends: chains to expired say how many items of each there are.
@@ -43,7 +42,8 @@ pub struct Contact {
     pub peer_read: u32,
     pub read_marked: u32,
     pub contiguous: u32,
-    pub send: SendChain,
+    // none until the first Resume
+    pub send: Option<SendChain>,
     pub role: PairingRole,
     pub verification: Verification,
     pub pending: bool,
@@ -60,13 +60,6 @@ pub struct Contact {
     pub send_key: [u8; 32],
 }
 
-// The contact is all zeros where the verdict is a refusal.
-#[derive(Clone, Copy)]
-pub struct ContactRead {
-    pub verdict: Verdict,
-    pub contact: Contact,
-}
-
 // A contact row's numbers, and where its runs and lists stand in the row.
 #[derive(Clone, Copy)]
 pub struct ContactAt {
@@ -76,159 +69,106 @@ pub struct ContactAt {
     pub numbers: NumbersAt,
 }
 
-#[derive(Clone, Copy)]
-pub enum ContactCheck {
-    Fields(ContactAt),
-    Refused(u8),
-}
-
-impl ContactRead {
-    fn refused(q: u8) -> ContactRead
-        ensures { result ≡ refused_by q }
-    {
-        ContactRead {
-            verdict: Verdict::Refused(q),
-            contact: Contact::zero(),
-        }
-    }
-}
-
-impl ContactCheck {
-    // The question that refused; 0 where none did.
-    pub fn refusal(self) -> u8
-        ensures { result ≡ check_refusal self }
-    {
-        match self {
-            ContactCheck::Refused(q) => q,
-            ContactCheck::Fields(_) => 0,
-        }
-    }
-}
-
 // Questions 54 and 17 to 20, of chains and skipped keys that were read.
-fn chains_consistent(row: &[u8], at: ChainedAt) -> Verdict
+fn chains_consistent(row: &[u8], at: ChainedAt) -> Result<(), Question>
     requires { ChainedLists row.now at }
     ensures { refusal_in result ≡ chains_refusal (chained_from row.now at).chains (chained_from row.now at).skipped }
 {
     let chains = at.chains;
     if rows::MAX_CHAINS < chains.count {
-        return Verdict::Refused(question::CHAINS_COUNT);
+        return Err(Question::ChainsCount);
     }
     let asked = contact_checks::chains_in_row(row, chains.first, chains.count);
     if !asked.one_current {
-        return Verdict::Refused(question::CHAINS_CURRENT);
+        return Err(Question::ChainsCurrent);
     }
     if !asked.gens_distinct {
-        return Verdict::Refused(question::CHAINS_GENS);
+        return Err(Question::ChainsGens);
     }
     let skipped = at.skipped;
     if !contact_checks::skipped_distinct(row, skipped.first, skipped.count) {
-        return Verdict::Refused(question::SKIPPED_KEYS);
+        return Err(Question::SkippedKeys);
     }
     if rows::MAX_SKIPPED < skipped.count {
-        return Verdict::Refused(question::SKIPPED_COUNT);
+        return Err(Question::SkippedCount);
     }
-    Verdict::Accepted
+    Ok(())
 }
 
 // Questions 21 to 24, of numbers that were read.
-fn numbers_consistent(row: &[u8], sent: u32, at: NumbersAt) -> Verdict
+fn numbers_consistent(row: &[u8], sent: u32, at: NumbersAt) -> Result<(), Question>
     requires { NumbersLists row.now at }
     ensures { refusal_in result ≡ numbers_refusal sent at.peer_acked at.contiguous (numbers_from row.now at).above (numbers_from row.now at).unacked (numbers_from row.now at).expired }
 {
     if sent < at.peer_acked {
-        return Verdict::Refused(question::PEER_ACKED);
+        return Err(Question::PeerAcked);
     }
     let unacked = at.unacked;
     if !contact_checks::rising_in_row(row, unacked.first, unacked.count, sent) {
-        return Verdict::Refused(question::UNACKED);
+        return Err(Question::Unacked);
     }
     let above = at.above;
     let from = width::wide(at.contiguous) + 2;
     if !contact_checks::canonical_in_row(row, above.first, above.count, from, u32::MAX) {
-        return Verdict::Refused(question::ABOVE);
+        return Err(Question::Above);
     }
     let expired = at.expired;
     if !contact_checks::canonical_in_row(row, expired.first, expired.count, 1, sent) {
-        return Verdict::Refused(question::EXPIRED);
+        return Err(Question::Expired);
     }
-    Verdict::Accepted
+    Ok(())
 }
 
 // 54 and 17 to 24, of parts that were read.
-fn consistent_in_row(row: &[u8], sent: u32, chained: ChainedAt, numbers: NumbersAt) -> Verdict
+fn consistent_in_row(
+    row: &[u8],
+    sent: u32,
+    chained: ChainedAt,
+    numbers: NumbersAt,
+) -> Result<(), Question>
     requires { ChainedLists row.now chained × NumbersLists row.now numbers }
     ensures { refusal_in result ≡ first (chains_refusal (chained_from row.now chained).chains (chained_from row.now chained).skipped) (numbers_refusal sent numbers.peer_acked numbers.contiguous (numbers_from row.now numbers).above (numbers_from row.now numbers).unacked (numbers_from row.now numbers).expired) }
 {
-    let chains = chains_consistent(row, chained);
-    let Verdict::Accepted = chains else {
-        return chains;
-    };
+    chains_consistent(row, chained)?;
     numbers_consistent(row, sent, numbers)
 }
 
 // The questions of a contact row; nothing is copied.
-pub fn check_contact(version: u32, row: &[u8]) -> ContactCheck
-    ensures { result ≡ checked version (read_row (layouts.contact version) row.now) }
+pub fn check_contact(version: u32, row: &[u8]) -> Result<ContactAt, Question>
+    ensures { answers result ≡ made (contact_at version) (read_row (layouts.contact version) row.now) }
 {
     if version != rows::BLOB_VERSION {
-        return ContactCheck::Refused(question::VERSION);
+        return Err(Question::Version);
     }
-    let paired_field = contact_parts::paired_at(row, 0);
-    let PairedField::Value(paired, at1) = paired_field else {
-        return ContactCheck::Refused(paired_field.refusal());
-    };
-    let keys_field = contact_parts::keys_at(row, at1);
-    let KeysField::Value(keys, at2) = keys_field else {
-        return ContactCheck::Refused(keys_field.refusal());
-    };
-    let chained_field = contact_parts::chained_at(row, at2);
-    let ChainedField::Value(chained, at3) = chained_field else {
-        return ContactCheck::Refused(chained_field.refusal());
-    };
-    let numbers_field = contact_parts::numbers_at(row, at3);
-    let NumbersField::Value(numbers, at4) = numbers_field else {
-        return ContactCheck::Refused(numbers_field.refusal());
-    };
+    let (paired, at1) = contact_parts::paired_at(row, 0)?;
+    let (keys, at2) = contact_parts::keys_at(row, at1)?;
+    let (chained, at3) = contact_parts::chained_at(row, at2)?;
+    let (numbers, at4) = contact_parts::numbers_at(row, at3)?;
     if at4 < row.len() {
-        return ContactCheck::Refused(question::ROW_END);
+        return Err(Question::RowEnd);
     }
-    let Verdict::Refused(q) = consistent_in_row(row, keys.sent_msgno, chained, numbers) else {
-        return ContactCheck::Fields(ContactAt {
-            paired,
-            keys,
-            chained,
-            numbers,
-        });
-    };
-    ContactCheck::Refused(q)
+    consistent_in_row(row, keys.sent_msgno, chained, numbers)?;
+    Ok(ContactAt {
+        paired,
+        keys,
+        chained,
+        numbers,
+    })
 }
 
 // The same questions, where no place is asked for: places that nobody reads are not copied.
-pub fn ask_contact(version: u32, row: &[u8]) -> Verdict
-    ensures { result ≡ verdict_of (read_row (layouts.contact version) row.now) }
+pub fn ask_contact(version: u32, row: &[u8]) -> Result<(), Question>
+    ensures { answers result ≡ verdict_of (read_row (layouts.contact version) row.now) }
 {
     if version != rows::BLOB_VERSION {
-        return Verdict::Refused(question::VERSION);
+        return Err(Question::Version); // as check_contact answers
     }
-    let paired_field = contact_parts::paired_at(row, 0);
-    let PairedField::Value(_paired, behind_paired) = paired_field else {
-        return Verdict::Refused(paired_field.refusal());
-    };
-    let keys_field = contact_parts::keys_at(row, behind_paired);
-    let KeysField::Value(keys, behind_keys) = keys_field else {
-        return Verdict::Refused(keys_field.refusal());
-    };
-    let chained_field = contact_parts::chained_at(row, behind_keys);
-    let ChainedField::Value(chained, behind_chained) = chained_field else {
-        return Verdict::Refused(chained_field.refusal());
-    };
-    let numbers_field = contact_parts::numbers_at(row, behind_chained);
-    let NumbersField::Value(numbers, end) = numbers_field else {
-        return Verdict::Refused(numbers_field.refusal());
-    };
+    let (_paired, behind_paired) = contact_parts::paired_at(row, 0)?;
+    let (keys, behind_keys) = contact_parts::keys_at(row, behind_paired)?;
+    let (chained, behind_chained) = contact_parts::chained_at(row, behind_keys)?;
+    let (numbers, end) = contact_parts::numbers_at(row, behind_chained)?;
     if end < row.len() {
-        return Verdict::Refused(question::ROW_END);
+        return Err(Question::RowEnd);
     }
     consistent_in_row(row, keys.sent_msgno, chained, numbers)
 }
@@ -251,7 +191,7 @@ impl Contact {
             peer_read: 0,
             read_marked: 0,
             contiguous: 0,
-            send: SendChain::Absent,
+            send: None,
             role: PairingRole::A,
             verification: Verification::Unverified,
             pending: false,
@@ -278,13 +218,10 @@ impl Contact {
         above: &mut [u32],
         unacked: &mut [u32],
         expired: &mut [u32],
-    ) -> ContactRead
+    ) -> Result<Contact, Question>
         ensures { leaves result (lists_after chains skipped above unacked expired) ≡ reads version row.now (lists_before chains skipped above unacked expired) }
     {
-        let check = check_contact(version, row);
-        let ContactCheck::Fields(at) = check else {
-            return ContactRead::refused(check.refusal());
-        };
+        let at = check_contact(version, row)?;
         if !long_enough(
             at,
             chains.len(),
@@ -293,13 +230,10 @@ impl Contact {
             unacked.len(),
             expired.len(),
         ) {
-            return ContactRead::refused(question::LISTS);
+            return Err(Question::Lists);
         }
         fill_lists(row, at, chains, skipped, above, unacked, expired);
-        ContactRead {
-            verdict: Verdict::Accepted,
-            contact: contact_from(row, at),
-        }
+        Ok(contact_from(row, at))
     }
 }
 
@@ -316,7 +250,7 @@ struct PendingKeys {
 // The send chain, and its key; 0 where there is none.
 #[derive(Clone, Copy)]
 struct Send {
-    chain: SendChain,
+    chain: Option<SendChain>,
     key: [u8; 32],
 }
 
@@ -335,8 +269,7 @@ fn pending_from(row: &[u8], at: ChainedAt) -> PendingKeys
     requires { PendingRuns row.now at.pending }
     ensures { result ≡ pending_keys_of (pending_from row.now at.pending) }
 {
-    let pending = at.pending;
-    let PendingAt::Present(chain_key_at, msg_seed_at) = pending else {
+    let Some(pending) = at.pending else {
         return PendingKeys {
             present: false,
             chain_key: [0; 32],
@@ -345,8 +278,8 @@ fn pending_from(row: &[u8], at: ChainedAt) -> PendingKeys
     };
     PendingKeys {
         present: true,
-        chain_key: put::copy_32(row, chain_key_at),
-        msg_seed: put::copy_32(row, msg_seed_at),
+        chain_key: put::copy_array(row, pending.chain_key),
+        msg_seed: put::copy_array(row, pending.msg_seed),
     }
 }
 
@@ -354,22 +287,19 @@ fn send_from(row: &[u8], at: ChainedAt) -> Send
     requires { SendRuns row.now at.send }
     ensures { result ≡ send_part_of (send_from row.now at.send) }
 {
-    let send = at.send;
-    let SendAt::Present(its) = send else {
+    let Some(send) = at.send else {
         return Send {
-            chain: SendChain::Absent,
+            chain: None,
             key: [0; 32],
         };
     };
-    let dir = its.dir;
-    let chain = SendChain::Present {
-        gen_: its.gen_,
-        dir,
-        idx: its.idx,
-    };
     Send {
-        chain,
-        key: put::copy_32(row, its.key),
+        chain: Some(SendChain {
+            gen_: send.gen_,
+            dir: send.dir,
+            idx: send.idx,
+        }),
+        key: put::copy_array(row, send.key),
     }
 }
 
@@ -405,13 +335,13 @@ fn contact_from(row: &[u8], at: ContactAt) -> Contact
         verification,
         pending: pending.present,
         peer: peer_from(row, paired),
-        pair_id: put::copy_16(row, at.paired.pair_id),
-        th: put::copy_48(row, at.paired.th),
-        nonce_b: put::copy_16(row, at.paired.nonce_b),
-        door_a_to_b: put::copy_32(row, at.keys.door_a_to_b),
-        door_b_to_a: put::copy_32(row, at.keys.door_b_to_a),
-        route_key: put::copy_32(row, at.keys.route_key),
-        chain_key: put::copy_32(row, at.keys.chain_key),
+        pair_id: put::copy_array(row, at.paired.pair_id),
+        th: put::copy_array(row, at.paired.th),
+        nonce_b: put::copy_array(row, at.paired.nonce_b),
+        door_a_to_b: put::copy_array(row, at.keys.door_a_to_b),
+        door_b_to_a: put::copy_array(row, at.keys.door_b_to_a),
+        route_key: put::copy_array(row, at.keys.route_key),
+        chain_key: put::copy_array(row, at.keys.chain_key),
         pending_chain_key,
         pending_msg_seed,
         send_key,

@@ -5,6 +5,7 @@ use mathlib.Core.List.{List, [], ◌∷◌, map, map-id}
 use mathlib.Core.Path.{◌≡◌, refl, sym, ◌∙◌}
 use native.Mathlib.Omega.{arith}
 use native.Mathlib.Nat.{mul-suc}
+use native.Mathlib.Numerals.{add-one}
 use lib.ListN.{length, take, drop, length-drop}
 use lib.Seq.{drop-drop}
 use Rattle.layout.specs.Read.{Read, value, refused, onto}
@@ -104,3 +105,15 @@ module _ {C : Type 0} (width : List ℕ → ℕ) (cell : List ℕ → C) (row : 
   pub none_left : n ≤ i → cells width cell (n - i) (drop p row) ≡ []
   unfolding stand.cells
   none_left h = let s : n - i ≡ 0 = omega arith in rw s
+
+-- ---- items of one width: the i-th of n stands at first + w * i
+pub record TurnAt {C : Type 0} (w : ℕ) (cell : List ℕ → C) (row : List ℕ) (first n i : ℕ) : Type 0 where
+  pub fits : w ≤ length row - (first + w * i)
+  pub here : cells (λ l. w) cell (n - i) (drop (first + w * i) row) ≡ cell (drop (first + w * i) row) ∷ cells (λ l. w) cell (n - (i + 1)) (drop (first + w * (i + 1)) row)
+  pub rooms : Rooms (λ l. w) (n - (i + 1)) (drop (first + w * (i + 1)) row)
+
+pub turn_at : {C : Type 0} (w : ℕ) (cell : List ℕ → C) (row : List ℕ) (first n i : ℕ) → i < n → Rooms (λ l. w) (n - i) (drop (first + w * i) row) → TurnAt w cell row first n i
+turn_at w cell row first n i h r =
+    let t = turn (λ l. w) cell row n i (first + w * i) h r in
+    let e : first + w * (i + 1) ≡ first + w * i + w = rw (add-one, mul-suc) (omega arith) in
+    record { fits = t.fits; here = rw e t.here; rooms = rw e t.rooms }

@@ -1,6 +1,6 @@
 -- What the items of a contact row's lists show of their bytes.
 -- Assumes nothing.
-use Prim.Native.Nat.{ℕ, ◌+◌, ◌-◌, ◌^◌, ◌≤◌, ◌<◌}
+use Prim.Native.Nat.{ℕ, ◌+◌, ◌*◌, ◌-◌, ◌^◌, ◌≤◌, ◌<◌}
 use mathlib.Core.List.{List, [], ◌∷◌}
 use mathlib.Core.Bool.{Bool, true, false, cond}
 use mathlib.Core.Option.{Option, none, some}
@@ -27,7 +27,7 @@ use Rattle.rows.specs.Checks.{key_of}
 use Rattle.rows.specs.Rows.{dir_of, dir_byte, dir, skipped, range}
 use Rattle.rows.specs.declared.Dir.{Dir}
 use Rattle.contact_checks.specs.Cells.{cells, key_at}
-use Rattle.contact_checks.proofs.Cells.{Shows, Turn}
+use Rattle.contact_checks.proofs.Cells.{Shows, Turn, TurnAt}
 
 -- ---- the first n bytes of l were taken, and mid is left
 pub record Cut (n : ℕ) (l mid : List ℕ) : Type 0 where
@@ -102,6 +102,13 @@ Begin row n i p a b = ranges (n - i) (drop p row) ≡ record { from = a; to = b 
 -- ... once both numbers are read
 pub range-read : {row : List ℕ} {n i p a b : ℕ} → Turn (λ l. 8) range_at row n i p → a ≡ big_endian 4 (drop p row) → b ≡ big_endian 4 (drop (p + 4) row) → Begin row n i p a b
 range-read {row = row} {p = p} t e f = rw (e, f, ← drop-drop 4 p row) t.here
+
+-- the same where the i-th stands at start + 8 * i
+abbrev pub BeginAt : (row : List ℕ) (start n i a b : ℕ) → Type 0
+BeginAt row start n i a b = ranges (n - i) (drop (start + 8 * i) row) ≡ record { from = a; to = b } ∷ ranges (n - (i + 1)) (drop (start + 8 * (i + 1)) row)
+
+pub range-read_at : {row : List ℕ} {start n i a b : ℕ} → TurnAt 8 range_at row start n i → a ≡ big_endian 4 (drop (start + 8 * i) row) → b ≡ big_endian 4 (drop (start + 8 * i + 4) row) → BeginAt row start n i a b
+range-read_at {row = row} {start = start} {i = i} t e f = rw (e, f, ← drop-drop 4 (start + 8 * i) row) t.here
 
 pub range-shows : (l : List ℕ) (r : Range) (rest : List ℕ) → (group range).read l ≡ value r rest → Shows (λ l. 8) range_at (λ r. r) l r rest
 range-shows l r rest e =

@@ -51,14 +51,12 @@ fn one_current(bytes: &[u8], first: usize, count: usize, padded: bool) -> bool
 {
     let mut found: usize = 0;
     let mut p = first;
-    let mut i: usize = 0;
-    while i < count {
+    for _ in 0..count {
         found += current_at(bytes, p);
         if 1 < found {
             return false;
         }
         p = after_chain(bytes, p, padded);
-        i += 1;
     }
     true
 }
@@ -70,15 +68,13 @@ fn gens_distinct(bytes: &[u8], first: usize, count: usize, padded: bool) -> bool
 {
     let mut seen = [false; 256];
     let mut p = first;
-    let mut i: usize = 0;
-    while i < count {
+    for _ in 0..count {
         let g = bytes[p] as usize;
         if seen[g] {
             return false;
         }
         seen[g] = true;
         p = after_chain(bytes, p, padded);
-        i += 1;
     }
     true
 }
@@ -110,7 +106,7 @@ fn key_at(bytes: &[u8], at: usize) -> u64
     requires { at + 46 ≤ length bytes.now }
     ensures { (result ≡ key_number (drop at bytes.now)) × (result < 2 ^ 40) }
 {
-    width::wide_byte(bytes[at]) * 4_294_967_296 + fields::be32(bytes, at + 2)
+    u64::from(bytes[at]) * 4_294_967_296 + fields::be32(bytes, at + 2)
 }
 
 // Whether each key is above the one before it.
@@ -119,16 +115,12 @@ fn keys_rise(bytes: &[u8], first: usize, count: usize) -> bool
     ensures { result ≡ ascending 0 (key_numbers count (drop first bytes.now)) }
 {
     let mut low: u64 = 0;
-    let mut p = first;
-    let mut i: usize = 0;
-    while i < count {
-        let key = key_at(bytes, p);
+    for i in 0..count {
+        let key = key_at(bytes, first + 46 * i);
         if key < low {
             return false;
         }
         low = key + 1;
-        p += 46;
-        i += 1;
     }
     true
 }
@@ -138,7 +130,7 @@ fn is_key(bytes: &[u8], at: usize, key: u64) -> bool
     requires { at + 46 ≤ length bytes.now }
     ensures { result ≡ eqb key (key_number (drop at bytes.now)) }
 {
-    if width::wide_byte(bytes[at + 5]) == key % 256 {
+    if u64::from(bytes[at + 5]) == key % 256 {
         return key == key_at(bytes, at);
     }
     false
@@ -149,14 +141,10 @@ fn comes_again(bytes: &[u8], first: usize, count: usize, key: u64) -> bool
     requires { KeysStand count (drop first bytes.now) }
     ensures { result ≡ any (eqb key) (key_numbers count (drop first bytes.now)) }
 {
-    let mut p = first;
-    let mut i: usize = 0;
-    while i < count {
-        if is_key(bytes, p, key) {
+    for i in 0..count {
+        if is_key(bytes, first + 46 * i, key) {
             return true;
         }
-        p += 46;
-        i += 1;
     }
     false
 }
@@ -166,13 +154,11 @@ fn keys_differ(bytes: &[u8], first: usize, count: usize, bits: &mut [u64]) -> bo
     requires { KeysStand count (drop first bytes.now) }
     ensures { result ≡ distinct eqb (key_numbers count (drop first bytes.now)) }
 {
-    let mut left = count;
-    while 0 < left {
-        left -= 1;
-        let p = first + 46 * left;
+    for i in (0..count).rev() {
+        let p = first + 46 * i;
         let key = key_at(bytes, p);
         if filter::add(bits, filter::mix(key)) {
-            if comes_again(bytes, p + 46, count - left - 1, key) {
+            if comes_again(bytes, p + 46, count - i - 1, key) {
                 return false;
             }
         }
@@ -180,20 +166,12 @@ fn keys_differ(bytes: &[u8], first: usize, count: usize, bits: &mut [u64]) -> bo
     true
 }
 
-// The same with a filter of 512 bytes for few keys, and of 4 KB for many: a larger frame would be touched page by page wherever a contact row is checked.
-fn few_differ(bytes: &[u8], first: usize, count: usize) -> bool
-    requires { KeysStand count (drop first bytes.now) }
+// The same with a filter of at most 512 words.
+fn differ_with<const WORDS: usize>(bytes: &[u8], first: usize, count: usize) -> bool
+    requires { KeysStand count (drop first bytes.now) × (WORDS ≤ 512) }
     ensures { result ≡ distinct eqb (key_numbers count (drop first bytes.now)) }
 {
-    let mut bits: [u64; 64] = [0; 64];
-    keys_differ(bytes, first, count, &mut bits)
-}
-
-fn many_differ(bytes: &[u8], first: usize, count: usize) -> bool
-    requires { KeysStand count (drop first bytes.now) }
-    ensures { result ≡ distinct eqb (key_numbers count (drop first bytes.now)) }
-{
-    let mut bits: [u64; 512] = [0; 512];
+    let mut bits = [0u64; WORDS];
     keys_differ(bytes, first, count, &mut bits)
 }
 
@@ -205,10 +183,11 @@ pub fn skipped_distinct(bytes: &[u8], first: usize, count: usize) -> bool
     if keys_rise(bytes, first, count) {
         return true;
     }
+    // A filter of 512 bytes for few keys, and of 4 KB for many: a larger frame would be touched page by page wherever a contact row is checked.
     if count < FEW {
-        return few_differ(bytes, first, count);
+        return differ_with::<64>(bytes, first, count);
     }
-    many_differ(bytes, first, count)
+    differ_with::<512>(bytes, first, count)
 }
 
 // 22, of numbers of a row.
@@ -217,10 +196,8 @@ pub fn rising_in_row(row: &[u8], first: usize, count: usize, sent: u32) -> bool
     ensures { result ≡ rising 1 sent (items u32 count (drop first row.now)) }
 {
     let mut low: u64 = 1;
-    let mut p = first;
-    let mut i: usize = 0;
-    while i < count {
-        let n = fields::be32(row, p);
+    for i in 0..count {
+        let n = fields::be32(row, first + 4 * i);
         if n < low {
             return false;
         }
@@ -228,8 +205,6 @@ pub fn rising_in_row(row: &[u8], first: usize, count: usize, sent: u32) -> bool
             return false;
         }
         low = n + 1;
-        p += 4;
-        i += 1;
     }
     true
 }
@@ -240,9 +215,8 @@ pub fn canonical_in_row(row: &[u8], first: usize, count: usize, from: u64, high:
     ensures { result ≡ canonical from (items (group range) count (drop first row.now)) && none_above high (items (group range) count (drop first row.now)) }
 {
     let mut low = from;
-    let mut p = first;
-    let mut i: usize = 0;
-    while i < count {
+    for i in 0..count {
+        let p = first + 8 * i;
         let a = fields::be32(row, p);
         let b = fields::be32(row, p + 4);
         if b < a {
@@ -255,8 +229,6 @@ pub fn canonical_in_row(row: &[u8], first: usize, count: usize, from: u64, high:
             return false;
         }
         low = b + 2;
-        p += 8;
-        i += 1;
     }
     true
 }
@@ -267,9 +239,8 @@ pub fn rising_lent(list: &[u32], count: usize, sent: u32) -> bool
     ensures { result ≡ rising 1 sent (take count list.now) }
 {
     let mut low: u64 = 1;
-    let mut i: usize = 0;
-    while i < count {
-        let n = list[i] as u64;
+    for n in &list[..count] {
+        let n = u64::from(*n);
         if n < low {
             return false;
         }
@@ -277,7 +248,6 @@ pub fn rising_lent(list: &[u32], count: usize, sent: u32) -> bool
             return false;
         }
         low = n + 1;
-        i += 1;
     }
     true
 }
@@ -288,10 +258,9 @@ pub fn canonical_lent(list: &[u32], count: usize, from: u64, high: u32) -> bool
     ensures { result ≡ canonical from (pairs count list.now) && none_above high (pairs count list.now) }
 {
     let mut low = from;
-    let mut i: usize = 0;
-    while i < count {
-        let a = list[2 * i] as u64;
-        let b = list[2 * i + 1] as u64;
+    for i in 0..count {
+        let a = u64::from(list[2 * i]);
+        let b = u64::from(list[2 * i + 1]);
         if b < a {
             return false;
         }
@@ -302,7 +271,6 @@ pub fn canonical_lent(list: &[u32], count: usize, from: u64, high: u32) -> bool
             return false;
         }
         low = b + 2;
-        i += 1;
     }
     true
 }

@@ -1,6 +1,7 @@
 -- The bytes of each part of the row, as its fields are stored one behind the other.
 -- Assumes nothing.
 use Prim.Native.Nat.{ℕ, ◌<◌}
+use Rattle.std.specs.Prelude.{None, Some}
 use mathlib.Core.List.{List, [], ◌∷◌, ◌++◌, append-nil, append_assoc}
 use mathlib.Core.Bool.{true, false}
 use mathlib.Core.Option.{none, some}
@@ -13,12 +14,11 @@ use Rattle.layout.specs.Layout as layout
 use Rattle.layout.proofs.Front.{byte-print}
 use Rattle.rows.specs.Values as value
 use Rattle.rows.specs.Rows.{role_byte, verification_byte, dir_byte, pending, send, card}
-use Rattle.rows.specs.declared.Dir.{Dir}
 use Rattle.card.specs.Card as cards
 use Rattle.card.specs.Card.{value_of}
 use Rattle.contact_parts.specs.Parts.{paired, keys, numbers}
 use Rattle.contact.specs.Contact.{Lists}
-use Rattle.contact.specs.declared.SendChain.TheVariants.{Absent, Present}
+use Rattle.contact.specs.declared.SendChain.{SendChain}
 use Rattle.contact.specs.declared.Contact.{Contact}
 use Rattle.contact_image.specs.Row.{paired_of, keys_of, pending_of, send_of, numbers_of, counters, lists_image, SendTyped, ContactTyped}
 
@@ -82,11 +82,11 @@ module _ (c : Contact) where
   pending-some e = rw e (optional-some (group pending) _ (pending-print _))
 
   -- ---- what it sends
-  pub send-none : c.send ≡ Absent → (optional (group send)).print (send_of c.send c.send_key) ≡ 0 ∷ []
+  pub send-none : c.send ≡ None → (optional (group send)).print (send_of c.send c.send_key) ≡ 0 ∷ []
   send-none e = rw e (optional-none (group send))
 
-  pub send-some : {gen idx : ℕ} {dir : Dir} → ContactTyped c → c.send ≡ Present gen dir idx
-      → (optional (group send)).print (send_of c.send c.send_key) ≡ (1 ∷ []) ++ ((gen ∷ []) ++ ((dir_byte dir ∷ []) ++ (bytes_of 4 idx ++ c.send_key)))
+  pub send-some : {s : SendChain} → ContactTyped c → c.send ≡ Some s
+      → (optional (group send)).print (send_of c.send c.send_key) ≡ (1 ∷ []) ++ ((s.gen_ ∷ []) ++ ((dir_byte s.dir ∷ []) ++ (bytes_of 4 s.idx ++ c.send_key)))
   send-some ty e = rw e (optional-some (group send) _ (send-print _ (subst SendTyped e ty.send).0))
 
 -- ---- numbers

@@ -1,6 +1,7 @@
 -- The parts of the value that an opened contact stands for fit their layouts, and what reading them would refuse.
 -- Assumes nothing.
 use Prim.Native.Nat.{ℕ, zero, suc, ◌≤◌}
+use Rattle.std.specs.Prelude as code
 use mathlib.Core.List.{List, [], ◌∷◌}
 use mathlib.Core.Bool.{Bool, true, false, cond}
 use mathlib.Core.Option.{Option, none, some}
@@ -28,7 +29,6 @@ use Rattle.received.specs.Lent.{pairs}
 use Rattle.received.proofs.Pairs.{length_pairs}
 use Rattle.contact.specs.Contact.{Lists}
 use Rattle.contact.specs.declared.SendChain.{SendChain}
-use Rattle.contact.specs.declared.SendChain.TheVariants as send_chain
 use Rattle.contact.specs.declared.Contact.{Contact}
 use Rattle.contact_image.specs.Row.{paired_of, keys_of, pending_of, send_of, numbers_of, SendTyped, ContactTyped, ListsTyped, Words}
 use Rattle.contact_image.proofs.Counts.{AllCounted}
@@ -177,14 +177,14 @@ module _ (c : Contact) (ty : ContactTyped c) where
   pub send-fits : (post : List ℕ) → (optional (group send)).fits (send_of c.send c.send_key) post
   send-fits post = go c.send ty.send
     where
-      go : (s : SendChain) → SendTyped s → (optional (group send)).fits (send_of s c.send_key) post
-      go send_chain.Absent t = (refl, (tt, refl))
-      go (send_chain.Present gen d idx) t = (refl, ((t.0, (dir-fits d, (t.1, (ty.send_key, refl)))), refl))
+      go : (s : code.Option SendChain) → SendTyped s → (optional (group send)).fits (send_of s c.send_key) post
+      go code.None t = (refl, (tt, refl))
+      go (code.Some s) t = (refl, ((t.0, (dir-fits s.dir, (t.1, (ty.send_key, refl)))), refl))
 
   pub send-granted : (optional (group send)).refusal (send_of c.send c.send_key) ≡ none
   unfolding layout.refusal_of
   send-granted = go c.send
     where
-      go : (s : SendChain) → (optional (group send)).refusal (send_of s c.send_key) ≡ none
-      go send_chain.Absent = refl
-      go (send_chain.Present gen d idx) = refl
+      go : (s : code.Option SendChain) → (optional (group send)).refusal (send_of s c.send_key) ≡ none
+      go code.None = refl
+      go (code.Some s) = refl

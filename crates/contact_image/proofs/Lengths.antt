@@ -1,6 +1,7 @@
 -- How many bytes each part of the row has.
 -- Assumes nothing.
 use Prim.Native.Nat.{ℕ, ◌+◌, ◌*◌, ◌≤◌}
+use Rattle.std.specs.Prelude.{None, Some}
 use mathlib.Core.List.{List, [], ◌∷◌}
 use mathlib.Core.Bool.{true, false}
 use mathlib.Core.Path.{◌≡◌, sym, ap, ◌∙◌}
@@ -15,14 +16,13 @@ use Rattle.layout.specs.Layout as layout
 use Rattle.layout.proofs.Front.{length-bytes_of}
 use Rattle.rows.specs.Values.{Range}
 use Rattle.rows.specs.Rows.{pending, send, range}
-use Rattle.rows.specs.declared.Dir.{Dir}
 use Rattle.card.specs.Card as cards
 use Rattle.contact_parts.specs.Parts.{paired, keys, numbers}
 use Rattle.received.specs.Lent.{pairs}
 use Rattle.received.proofs.Pairs.{length_pairs}
 use Rattle.contact_lent.specs.Lent.{chains_bytes}
 use Rattle.contact.specs.Contact.{Lists}
-use Rattle.contact.specs.declared.SendChain.TheVariants.{Absent, Present}
+use Rattle.contact.specs.declared.SendChain.{SendChain}
 use Rattle.contact.specs.declared.Contact.{Contact}
 use Rattle.contact_image.specs.Row as spec
 use Rattle.contact_image.specs.Row.{paired_of, keys_of, pending_of, send_of, numbers_of, chained_image, image, ContactTyped}
@@ -62,10 +62,10 @@ module _ (c : Contact) (ty : ContactTyped c) where
   pub pending-long : c.pending ≡ true → length ((optional (group pending)).print (pending_of c)) ≡ 65
   pending-long e = ap (λ (l : List ℕ). length l) (pending-some c e) ∙ simp length-append (omega (arith, ty.pending_chain_key, ty.pending_msg_seed))
 
-  pub send-absent : c.send ≡ Absent → length ((optional (group send)).print (send_of c.send c.send_key)) ≡ 1
+  pub send-absent : c.send ≡ None → length ((optional (group send)).print (send_of c.send c.send_key)) ≡ 1
   send-absent e = ap (λ (l : List ℕ). length l) (send-none c e)
 
-  pub send-long : {gen idx : ℕ} {dir : Dir} → c.send ≡ Present gen dir idx → length ((optional (group send)).print (send_of c.send c.send_key)) ≡ 39
+  pub send-long : {s : SendChain} → c.send ≡ Some s → length ((optional (group send)).print (send_of c.send c.send_key)) ≡ 39
   send-long e = ap (λ (l : List ℕ). length l) (send-some c ty e) ∙ simp (length-append, length-bytes_of) (omega (arith, ty.send_key))
 
 -- ---- the parts with lists

@@ -16,7 +16,7 @@ use Rattle.contact_lent.specs.Lent.{Granted, chains_of, skipped_of, chains_bytes
 use Rattle.numbers.specs.Lists as lists
 use Rattle.contact.specs.Contact.{Lists, lengths_of, counts_of}
 use Rattle.contact.specs.declared.SendChain.{SendChain}
-use Rattle.contact.specs.declared.SendChain.TheVariants as send_chain
+use Rattle.std.specs.Prelude as code
 use Rattle.contact.specs.declared.Contact.{Contact}
 
 -- ---- 36
@@ -47,9 +47,9 @@ keys_of c = record {
 abbrev pub pending_of : Contact → Option value.Pending
 pending_of c = cond c.pending (some (record { chain_key = c.pending_chain_key; msg_seed = c.pending_msg_seed })) none
 
-abbrev pub send_of : SendChain → List ℕ → Option value.Send
-send_of send_chain.Absent key = none
-send_of (send_chain.Present gen dir idx) key = some (record { gen = gen; dir = dir; idx = idx; key = key })
+abbrev pub send_of : code.Option SendChain → List ℕ → Option value.Send
+send_of code.None key = none
+send_of (code.Some s) key = some (record { gen = s.gen_; dir = s.dir; idx = s.idx; key = key })
 
 abbrev pub numbers_of : Contact → Lists → Numbers
 numbers_of c l = record {
@@ -102,9 +102,9 @@ abbrev pub contact_in : Contact → Lists → value.Contact
 contact_in c l = joined (paired_of c) (keys_of c) (chained_of c l) (numbers_of c l)
 
 -- ---- what the types say
-abbrev pub SendTyped : SendChain → Type 0
-SendTyped send_chain.Absent = Unit {0}
-SendTyped (send_chain.Present gen dir idx) = (gen < 256) × (idx < 256 ^ 4)
+abbrev pub SendTyped : code.Option SendChain → Type 0
+SendTyped code.None = Unit {0}
+SendTyped (code.Some s) = (s.gen_ < 256) × (s.idx < 256 ^ 4)
 
 pub record ContactTyped (c : Contact) : Type 0 where
   pub resume_index : c.resume_index < 256 ^ 8

@@ -5,7 +5,7 @@ ghost use Rattle.std.specs.Prelude.{◌≡◌, true, [], ◌∷◌, ◌++◌, �
 ghost use Rattle.layout.specs.Form.{bytes_of, u32};
 ghost use Rattle.layout.specs.Layout.{print, group, optional, list};
 ghost use Rattle.put.specs.Put.{Wrote};
-ghost use Rattle.rows.specs.Rows.{role_byte, verification_byte, dir_byte, pending, send, chain, skipped, range};
+ghost use Rattle.rows.specs.Rows.{role_byte, verification_byte, pending, send, chain, skipped, range};
 ghost use Rattle.card.specs.Card as cards;
 ghost use Rattle.contact_parts.specs.Parts.{paired, keys, numbers};
 ghost use Rattle.received.specs.Lent.{pairs};
@@ -14,57 +14,20 @@ ghost use Rattle.contact_image.specs.Row.{SendTyped, ContactTyped, paired_of, ke
 ghost use Rattle.contact.specs.Contact.{lists};
 
 use contact::{Contact, SendChain};
-use rows::{Dir, PairingRole, Verification};
 
 // What the types say, as facts.
-fn send_typed(send: SendChain) -> u8
+fn send_typed(send: Option<SendChain>) -> bool
     ensures { SendTyped send }
 {
-    match send {
-        SendChain::Absent => 0,
-        SendChain::Present {
-            gen_,
-            dir: _,
-            idx: _,
-        } => gen_,
-    }
+    send.is_some()
 }
 
 // True; what the type of each field says, as facts.
 pub fn typed(contact: Contact) -> bool
     ensures { (result ≡ true) × ContactTyped contact }
 {
-    let send = contact.send;
-    send_typed(send);
+    send_typed(contact.send);
     true
-}
-
-fn role_byte(role: PairingRole) -> u8
-    ensures { result ≡ role_byte role }
-{
-    match role {
-        PairingRole::A => 0,
-        PairingRole::B => 1,
-    }
-}
-
-fn verification_byte(verification: Verification) -> u8
-    ensures { result ≡ verification_byte verification }
-{
-    match verification {
-        Verification::Unverified => 0,
-        Verification::Verified => 1,
-        Verification::Compromised => 2,
-    }
-}
-
-fn dir_byte(dir: Dir) -> u8
-    ensures { result ≡ dir_byte dir }
-{
-    match dir {
-        Dir::I => 0x49,
-        Dir::R => 0x52,
-    }
 }
 
 // The codes: role, mode and verification.
@@ -72,11 +35,9 @@ fn put_codes(out: &mut [u8], at: usize, contact: Contact) -> usize
     requires { at + 3 ≤ length out.old }
     ensures { (result ≡ at + 3) × Wrote out.old at (role_byte contact.role ∷ 3 ∷ verification_byte contact.verification ∷ []) out.new result }
 {
-    let role = contact.role;
-    let mode_at = put::put_byte(out, at, role_byte(role));
+    let mode_at = put::put_byte(out, at, u8::from(contact.role));
     let verification_at = put::put_byte(out, mode_at, rows::MODE_TOFU);
-    let verification = contact.verification;
-    put::put_byte(out, verification_at, verification_byte(verification))
+    put::put_byte(out, verification_at, u8::from(contact.verification))
 }
 
 // Who the contact is: the codes, the pairing's runs, and the card behind its length.
@@ -87,11 +48,11 @@ fn put_paired(out: &mut [u8], at: usize, contact: Contact) -> usize
     typed(contact);
     let pair_id_at = put_codes(out, at, contact);
     let pair_id = contact.pair_id;
-    let th_at = put::put_16(out, pair_id_at, &pair_id);
+    let th_at = put::put_array(out, pair_id_at, &pair_id);
     let th = contact.th;
     let nonce_b_at = put::put_run(out, th_at, &th, 0, 48);
     let nonce_b = contact.nonce_b;
-    let card_len_at = put::put_16(out, nonce_b_at, &nonce_b);
+    let card_len_at = put::put_array(out, nonce_b_at, &nonce_b);
     put_peer(out, card_len_at, contact)
 }
 
@@ -113,14 +74,14 @@ fn put_keys(out: &mut [u8], at: usize, contact: Contact) -> usize
 {
     typed(contact);
     let door_a_to_b = contact.door_a_to_b;
-    let door_at = put::put_32(out, at, &door_a_to_b);
+    let door_at = put::put_array(out, at, &door_a_to_b);
     let door_b_to_a = contact.door_b_to_a;
-    let route_key_at = put::put_32(out, door_at, &door_b_to_a);
+    let route_key_at = put::put_array(out, door_at, &door_b_to_a);
     let route_key = contact.route_key;
-    let resume_index_at = put::put_32(out, route_key_at, &route_key);
+    let resume_index_at = put::put_array(out, route_key_at, &route_key);
     let chain_key_at = put::put_be(out, resume_index_at, 8, contact.resume_index);
     let chain_key = contact.chain_key;
-    let sent_msgno_at = put::put_32(out, chain_key_at, &chain_key);
+    let sent_msgno_at = put::put_array(out, chain_key_at, &chain_key);
     put::put_be(out, sent_msgno_at, 4, contact.sent_msgno as u64)
 }
 
@@ -133,9 +94,9 @@ fn put_pending(out: &mut [u8], at: usize, contact: Contact) -> usize
     if contact.pending {
         let chain_key_at = put::put_byte(out, at, 1);
         let chain_key = contact.pending_chain_key;
-        let msg_seed_at = put::put_32(out, chain_key_at, &chain_key);
+        let msg_seed_at = put::put_array(out, chain_key_at, &chain_key);
         let msg_seed = contact.pending_msg_seed;
-        return put::put_32(out, msg_seed_at, &msg_seed);
+        return put::put_array(out, msg_seed_at, &msg_seed);
     }
     put::put_byte(out, at, 0)
 }
@@ -147,16 +108,15 @@ fn put_send(out: &mut [u8], at: usize, contact: Contact) -> usize
         × Wrote out.old at ((optional (group send)).print (send_of contact.send contact.send_key)) out.new result }
 {
     typed(contact);
-    let send = contact.send;
-    let SendChain::Present { gen_, dir, idx } = send else {
+    let Some(send) = contact.send else {
         return put::put_byte(out, at, 0);
     };
     let gen_at = put::put_byte(out, at, 1);
-    let dir_at = put::put_byte(out, gen_at, gen_);
-    let idx_at = put::put_byte(out, dir_at, dir_byte(dir));
-    let key_at = put::put_be(out, idx_at, 4, idx as u64);
+    let dir_at = put::put_byte(out, gen_at, send.gen_);
+    let idx_at = put::put_byte(out, dir_at, u8::from(send.dir));
+    let key_at = put::put_be(out, idx_at, 4, u64::from(send.idx));
     let key = contact.send_key;
-    put::put_32(out, key_at, &key)
+    put::put_array(out, key_at, &key)
 }
 
 // The chains behind their count.

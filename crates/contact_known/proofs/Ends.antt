@@ -7,6 +7,8 @@ use mathlib.Core.Option.{Option, none, some}
 use mathlib.Core.Path.{◌≡◌, refl, sym, ap, subst, ◌∙◌}
 use native.Mathlib.Omega.{arith}
 use lib.ListN.{length, take, drop, length-append}
+use Rattle.std.specs.Prelude.{Result, Ok, Err}
+use Rattle.layout.specs.declared.question.Question.{Question}
 use Rattle.layout.specs.Questions.{FIELD, CARD_END}
 use Rattle.layout.specs.Veil.{plain}
 use Rattle.layout.specs.Form.{Form, bytes, flag, u16, u32}
@@ -23,8 +25,7 @@ use Rattle.rows.proofs.Lawful.{chain-lawful, skipped-lawful, range-lawful}
 use Rattle.offsets.specs.Offset.{offset}
 use Rattle.offsets.proofs.Offset.{Stands, stands, stands_read, field-stands, offset-inside, whole, not-past, optional-stands}
 use Rattle.contact_lists.specs.Lists.{list_says, ListedAt}
-use Rattle.contact_lists.specs.declared.ListField.{ListField}
-use Rattle.contact_lists.specs.declared.ListField.TheVariants.{Value, Refused}
+use Rattle.contact_lists.specs.declared.ListAt.{ListAt}
 use Rattle.contact_parts.specs.Parts.{Paired, paired, Chained, chained, Numbers, numbers}
 use Rattle.contact_parts.specs.Offsets.{list_at, list_in, numbers_at}
 use Rattle.contact_parts.proofs.Lawful.{paired-lawful, chained-lawful, numbers-lawful}
@@ -39,6 +40,9 @@ module _ {B : Type 0} {x : Field B} {b : B} {next : ℕ} (read : x ≡ takes b n
 
   pub once : {b' : B} {next' : ℕ} → x ≡ takes b' next' → (b ≡ b') × (next ≡ next')
   once e = let is = sym read ∙ e in (cc, cc)
+
+pub ok_is : {A E : Type 0} {a b : A} → ◌≡◌ {A = Result A E} (Ok a) (Ok b) → a ≡ b
+ok_is e = cc
 
 -- n bytes, up to a place in the row
 run-to : (row : List ℕ) (start n next : ℕ) → start + n ≡ next → next ≤ length row → read_at (bytes plain n) row start ≡ takes (take n (drop start row)) next
@@ -106,10 +110,10 @@ module _ (row : List ℕ) (by : Bytes row) where
         let there : Stands flag (present o) row at = subst (Stands flag (present o) row) (omega arith) its in
         stands_read flag flag-lawful there past
 
-    flag-ends : (o : Option B) → Stands (optional f) o row at → at + length ((optional f).print o) ≤ length row → {r : ℕ} → EndsBehindFlag n row at r → r ≡ at + length ((optional f).print o)
+    flag-ends : (o : Option B) → Stands (optional f) o row at → at + length ((optional f).print o) ≤ length row → {r : Result ℕ Question} → EndsBehindFlag n row at r → r ≡ Ok (at + length ((optional f).print o))
     flag-ends o s inside ends =
         let same = optional-long o s in
-        ends (present o) (at + 1) (flag-read o s (omega (arith, inside))) (subst (λ (m : ℕ). m ≤ length row) same inside) ∙ sym same
+        ends (present o) (at + 1) (flag-read o s (omega (arith, inside))) (subst (λ (m : ℕ). m ≤ length row) same inside) ∙ ap (λ (m : ℕ). Ok m) (sym same)
 
   -- ---- the fields from pending to skipped
   pending-long : Long (group pending) 64
@@ -134,16 +138,19 @@ module _ (row : List ℕ) (by : Bytes row) where
     inside-at i = offset-inside row chained i c its past
 
     -- pending and send
-    module _ (IsSend-at chains-at : ℕ) (pending-ends : EndsBehindFlag 64 row at IsSend-at) (send-ends : EndsBehindFlag 38 row IsSend-at chains-at) where
-      send-there : IsSend-at ≡ at + offset chained 1 c
-      send-there =
-          let there : Stands (optional (group pending)) c.pending row at = subst (Stands (optional (group pending)) c.pending row) (omega arith) (field-stands row chained 0 c its) in
-          flag-ends (group pending) 64 pending-long c.pending there (omega (arith, inside-at 1)) pending-ends ∙ omega arith
+    pub pending-ended : {r : Result ℕ Question} → EndsBehindFlag 64 row at r → r ≡ Ok (at + offset chained 1 c)
+    pending-ended ends =
+        let there : Stands (optional (group pending)) c.pending row at = subst (Stands (optional (group pending)) c.pending row) (omega arith) (field-stands row chained 0 c its) in
+        flag-ends (group pending) 64 pending-long c.pending there (omega (arith, inside-at 1)) ends ∙ ap (λ (n : ℕ). Ok n) (omega arith)
 
+    pub send-ended : {IsSend-at : ℕ} → EndsBehindFlag 64 row at (Ok IsSend-at) → {r : Result ℕ Question} → EndsBehindFlag 38 row IsSend-at r → r ≡ Ok (at + offset chained 2 c)
+    send-ended pending-ends {r} ends =
+        flag-ends (group send) 38 send-long c.send (field-stands row chained 1 c its) (omega (arith, inside-at 2))
+        (subst (λ (n : ℕ). EndsBehindFlag 38 row n r) (ok_is (pending-ended pending-ends)) ends) ∙ ap (λ (n : ℕ). Ok n) (omega arith)
+
+    module _ (IsSend-at chains-at : ℕ) (pending-ends : EndsBehindFlag 64 row at (Ok IsSend-at)) (send-ends : EndsBehindFlag 38 row IsSend-at (Ok chains-at)) where
       chains-there : chains-at ≡ at + offset chained 2 c
-      chains-there =
-          flag-ends (group send) 38 send-long c.send (field-stands row chained 1 c its) (omega (arith, inside-at 2))
-          (subst (λ (n : ℕ). EndsBehindFlag 38 row n chains-at) send-there send-ends) ∙ omega arith
+      chains-there = ok_is (send-ended pending-ends send-ends)
 
       -- chains
       pub chains-read : read_at (list (group chain)) row chains-at ≡ takes c.chains (at + offset chained 3 c)
@@ -206,8 +213,8 @@ module _ (row : List ℕ) (by : Bytes row) where
             let there : Stands (list u32) n.unacked row unacked-at = subst (Stands (list u32) n.unacked row) (sym unacked-there) (field-stands row numbers 5 n those) in
             stands_read (list u32) (list_lawful u32 (number-lawful 4)) there (omega (arith, unacked-there, numbers-inside 5))
 
-        pub unacked-is : (r : ListField) → (list_says u32 row r ≡ read_at (list u32) row unacked-at) × ListedAt u32 row r → r ≡ Value (numbers_at at n).unacked
-        unacked-is (Value l) said =
+        pub unacked-is : (r : Result ListAt Question) → (list_says u32 row r ≡ read_at (list u32) row unacked-at) × ListedAt u32 row r → r ≡ Ok (numbers_at at n).unacked
+        unacked-is (Ok l) said =
             let items : list_in u32 row l ≡ n.unacked = (once (sym said.0) unacked-read).0 in
-            ap Value (list-starts u32 (number-lawful 4) row by unacked-at said refl (omega (arith, unacked-there, numbers-inside 5)) ∙ (λ i. list_at u32 (unacked-there i) (items i)))
-        unacked-is (Refused q) said = absurd (never unacked-read (sym said.0))
+            ap (λ (l : ListAt). Ok l) (list-starts u32 (number-lawful 4) row by unacked-at l said.0 (omega (arith, unacked-there, numbers-inside 5)) said.1 ∙ (λ i. list_at u32 (unacked-there i) (items i)))
+        unacked-is (Err q) said = absurd (never unacked-read (sym said.0))

@@ -4,12 +4,10 @@
 
 ghost use Rattle.layout.specs.Layout.{group};
 ghost use Rattle.contact_parts.specs.Parts.{paired, chained};
-ghost use Rattle.contact_known.specs.Known.{EndsAt, EndsBehindFlag, UnackedAt, Sent};
+ghost use Rattle.contact_known.specs.Known.{EndsAt, EndsBehindFlag, UnackedAt, SentIfKnown, Sent};
 
-use contact_lists::{ListAt, ListField, SKIPPED_BYTES};
-use contact_parts::KeysField;
-use fields::{FlagField, RunField, U16Field};
-use layout::question;
+use contact_lists::{ListAt, SKIPPED_BYTES};
+use layout::Question;
 
 // Where the card's length stands: behind role, mode, verification, pair_id, th and nonce_b.
 const CARD_AT: usize = 83;
@@ -29,94 +27,73 @@ pub struct SentAt {
     pub sent_msgno: u32,
 }
 
-// Of an accepted row this is never answered; any value does.
-fn no_sent() -> SentAt {
-    SentAt {
+// Where the fields up to the card end.
+fn paired_end(row: &[u8]) -> Result<usize, Question>
+    ensures { EndsAt (group paired) row.now 0 result }
+{
+    let (len, start) = fields::u16_at(row, CARD_AT)?;
+    let (_card, end) = fields::run_at(row, start, usize::from(len))?;
+    Ok(end)
+}
+
+// Where n bytes end that stand behind a flag of 1; behind the flag where it is 0.
+fn behind_flag(row: &[u8], at: usize, n: usize) -> Result<usize, Question>
+    ensures { EndsBehindFlag n row.now at result }
+{
+    let (present, start) = fields::flag_at(row, at)?;
+    if !present {
+        return Ok(start);
+    }
+    let (_start, behind) = fields::run_at(row, start, n)?;
+    Ok(behind)
+}
+
+// Where the fields from pending to skipped end.
+fn chained_end(row: &[u8], at: usize) -> Result<usize, Question>
+    ensures { EndsAt (group chained) row.now at result }
+{
+    let send = behind_flag(row, at, PENDING_BYTES)?;
+    let chains_at = behind_flag(row, send, SEND_BYTES)?;
+    let chains = contact_lists::chains_at(row, chains_at)?;
+    let (count, first) = fields::u16_at(row, chains.next)?;
+    let (_skipped, end) = fields::run_at(row, first, SKIPPED_BYTES * usize::from(count))?;
+    Ok(end)
+}
+
+// Where the unacked numbers stand, in a row whose fields from peer_acked on start at a position.
+fn unacked_at(row: &[u8], at: usize) -> Result<ListAt, Question>
+    ensures { UnackedAt row.now at result }
+{
+    let (_numbers, above_at) = fields::run_at(row, at, NUMBERS_BYTES)?;
+    let above = contact_lists::ranges_at(row, above_at)?;
+    contact_lists::numbers_at(row, above.next)
+}
+
+// What a queued row is asked about, as far as the row can be stepped over.
+fn sent_if_known(row: &[u8]) -> Result<SentAt, Question>
+    ensures { SentIfKnown row.now result }
+{
+    let keys_at = paired_end(row)?;
+    let (keys, behind_keys) = contact_parts::keys_at(row, keys_at)?;
+    let numbers_at = chained_end(row, behind_keys)?;
+    let unacked = unacked_at(row, numbers_at)?;
+    Ok(SentAt {
+        unacked,
+        sent_msgno: keys.sent_msgno,
+    })
+}
+
+// The same of a row that some version's questions accept; of any other row nothing is said.
+pub fn sent_in(row: &[u8]) -> SentAt
+    ensures { Sent row.now result }
+{
+    let unknown = SentAt {
         unacked: ListAt {
             first: 0,
             next: 0,
             count: 0,
         },
         sent_msgno: 0,
-    }
-}
-
-// Where the fields up to the card end.
-fn paired_end(row: &[u8]) -> usize
-    ensures { EndsAt (group paired) row.now 0 result }
-{
-    let U16Field::Value(len, start) = fields::u16_at(row, CARD_AT) else {
-        return 0;
     };
-    let RunField::Value(_start, end) = fields::run_at(row, start, len as usize) else {
-        return 0;
-    };
-    end
-}
-
-// Where n bytes end that stand behind a flag of 1; behind the flag where it is 0.
-fn behind_flag(row: &[u8], at: usize, n: usize) -> usize
-    ensures { EndsBehindFlag n row.now at result }
-{
-    let FlagField::Value(present, start) = fields::flag_at(row, at) else {
-        return 0;
-    };
-    if present {
-        let RunField::Value(_start, end) = fields::run_at(row, start, n) else {
-            return 0;
-        };
-        return end;
-    }
-    start
-}
-
-// Where the fields from pending to skipped end.
-fn chained_end(row: &[u8], at: usize) -> usize
-    ensures { EndsAt (group chained) row.now at result }
-{
-    let send = behind_flag(row, at, PENDING_BYTES);
-    let chains_at = behind_flag(row, send, SEND_BYTES);
-    let ListField::Value(chains) = contact_lists::chains_at(row, chains_at) else {
-        return 0;
-    };
-    let U16Field::Value(count, first) = fields::u16_at(row, chains.next) else {
-        return 0;
-    };
-    let RunField::Value(_first, end) = fields::run_at(row, first, SKIPPED_BYTES * (count as usize))
-    else {
-        return 0;
-    };
-    end
-}
-
-// Where the unacked numbers stand, in a row whose fields from peer_acked on start at a position.
-fn unacked_at(row: &[u8], at: usize) -> ListField
-    ensures { UnackedAt row.now at result }
-{
-    let RunField::Value(_start, above_at) = fields::run_at(row, at, NUMBERS_BYTES) else {
-        return ListField::Refused(question::FIELD);
-    };
-    let above_field = contact_lists::ranges_at(row, above_at);
-    let ListField::Value(above) = above_field else {
-        return above_field;
-    };
-    contact_lists::numbers_at(row, above.next)
-}
-
-// What a queued row is asked about, of a row that some version's questions accept.
-pub fn sent_in(row: &[u8]) -> SentAt
-    ensures { Sent row.now result }
-{
-    let keys_at = paired_end(row);
-    let KeysField::Value(keys, behind_keys) = contact_parts::keys_at(row, keys_at) else {
-        return no_sent();
-    };
-    let numbers_at = chained_end(row, behind_keys);
-    let ListField::Value(unacked) = unacked_at(row, numbers_at) else {
-        return no_sent();
-    };
-    SentAt {
-        unacked,
-        sent_msgno: keys.sent_msgno,
-    }
+    sent_if_known(row).unwrap_or(unknown)
 }

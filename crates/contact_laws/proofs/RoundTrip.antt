@@ -1,6 +1,7 @@
 -- The round trips of a contact row, from the contracts of its reader and its writer alone.
 -- Assumes nothing.
 use Prim.Native.Nat.{ℕ, zero, suc, ◌/◌, ◌≤◌}
+use Rattle.std.specs.Prelude.{Ok}
 use mathlib.Core.List.{List, [], ◌∷◌}
 use mathlib.Core.Bool.{Bool, true, false, cond}
 use mathlib.Core.Option.{Option, none, some}
@@ -14,17 +15,15 @@ use Rattle.layout.specs.Form.{Form}
 use Rattle.layout.specs.Layout.{Answer, accepted, refused_by, read_row, parse, refusal_of, group}
 use Rattle.layout.specs.Layout as layout
 use Rattle.layout.specs.RowLaws.{Bytes}
+use Rattle.layout.specs.Says as written
 use Rattle.layout.specs.Write.{stored, writes}
 use Rattle.layout.specs.Write as write
 use Rattle.layout.proofs.Theorems.{accepted≢}
 use Rattle.layout.proofs.Write.{wrote≢refuses}
 use Rattle.rows.specs.Values as values
 use Rattle.rows.specs.Rows.{chain, skipped, contact}
-use Rattle.rows.specs.Answers as written
-use Rattle.rows.specs.declared.Verdict.TheVariants.{Accepted}
-use Rattle.rows.specs.declared.Written.TheVariants.{Length}
 use Rattle.rows.proofs.Proved.{proved}
-use Rattle.rows.proofs.RoundTrip.{Stands, stands, three, rewritten, accepted-not}
+use Rattle.rows.proofs.RoundTrip.{Stands, stands, three, rewritten}
 use Rattle.contact_parts.specs.Parts.{paired, joined}
 use Rattle.contact_lists.specs.Lists.{items_of}
 use Rattle.contact_lists.specs.Places.{read_places, places_of}
@@ -36,7 +35,6 @@ use Rattle.contact.specs.Consistent.{inconsistency}
 use Rattle.contact.specs.Contact as contacts
 use Rattle.contact.specs.Contact.{Lists, Left, contact_of, long_enough, filled, leaves, opened, reads}
 use Rattle.contact.specs.declared.Contact.{Contact}
-use Rattle.contact.specs.declared.ContactRead.{ContactRead}
 use Rattle.contact_image.specs.Row as spec
 use Rattle.contact_image.specs.Row.{counted, paired_of, keys_of, pending_of, send_of, numbers_of, image, writes_contact, contact_in, ContactTyped, ListsTyped}
 use Rattle.contact_image.proofs.Counts.{AllCounted, all-counted}
@@ -44,38 +42,40 @@ use Rattle.contact_image.proofs.Image as images
 use Rattle.contact_laws.specs.Laws.{ContactLaws}
 use Rattle.contact_laws.proofs.Back.{value-back, image-back, counted_back}
 
--- ---- reading: where the answer is Accepted, the row holds a value, and the struct and the lists are its
-record WasRead (version : ℕ) (row : List ℕ) (l left : Lists) (read : ContactRead) : Type 0 where
+-- ---- reading: where the answer is a struct, the row holds a value, and the struct and the lists are its
+record WasRead (version : ℕ) (row : List ℕ) (l left : Lists) (read : Contact) : Type 0 where
   holds : values.Contact
   held : read_row (contact version) row ≡ accepted holds
   enough : long_enough holds l ≡ true
-  struct_is : read.contact ≡ contact_of holds
+  struct_is : read ≡ contact_of holds
   lists-are : left ≡ filled holds l
 
-module _ (version : ℕ) (row : List ℕ) (by : Bytes row) (l left : Lists) (read : ContactRead) (contract : leaves read left ≡ reads version row l) (accept : read.verdict ≡ Accepted) where
+module _ (version : ℕ) (row : List ℕ) (by : Bytes row) (l left : Lists) (read : Contact) (contract : leaves (Ok read) left ≡ reads version row l) where
   was_read : WasRead version row l left read
   unfolding contacts.reads
   was_read = go (read_row (contact version) row) refl contract
     where
-      refuses-not : {q : ℕ} (h : leaves read left ≡ leaves (contacts.refused_by q) l) → ⊥
-      refuses-not {q} h = accepted-not {q = q} (sym accept ∙ ap (λ (x : Left). x.answer.verdict) h)
+      refuses-not : {q : ℕ} → leaves (Ok read) left ≡ record { answer = refused_by q; lists = l } → ⊥
+      refuses-not h = accepted≢ (ap (λ (x : Left). x.answer) h)
 
       long : (v : values.Contact) → read_row (contact version) row ≡ accepted v → (t : Bool) → long_enough v l ≡ t
-          → leaves read left ≡ cond t (leaves (record { verdict = Accepted; contact = contact_of v }) (filled v l)) (leaves (contacts.refused_by LISTS) l) → WasRead version row l left read
-      long v e true t h = record { holds = v; held = e; enough = t; struct_is = ap (λ (x : Left). x.answer.contact) h; lists-are = ap (λ (x : Left). x.lists) h }
+          → leaves (Ok read) left ≡ cond t (record { answer = accepted (contact_of v); lists = filled v l }) (record { answer = refused_by LISTS; lists = l }) → WasRead version row l left read
+      long v e true t h =
+          let same : accepted read ≡ accepted (contact_of v) = ap (λ (x : Left). x.answer) h in
+          record { holds = v; held = e; enough = t; struct_is = cc; lists-are = ap (λ (x : Left). x.lists) h }
       long v e false t h = absurd (refuses-not h)
 
-      go : (a : Answer values.Contact) → read_row (contact version) row ≡ a → leaves read left ≡ opened a l → WasRead version row l left read
+      go : (a : Answer values.Contact) → read_row (contact version) row ≡ a → leaves (Ok read) left ≡ opened a l → WasRead version row l left read
       go (accepted v) e h = long v e (long_enough v l) refl h
       go (refused_by q) e h = absurd (refuses-not h)
 
-  read-value : read_row (contact version) row ≡ accepted (contact_in read.contact left)
+  read-value : read_row (contact version) row ≡ accepted (contact_in read left)
   read-value =
       let v = was_read.holds in
       let fits = ((proved.contact version).laws.read-valid row by v was_read.held).fits in
       was_read.held ∙ ap (λ (x : values.Contact). accepted x) (sym (ap₂ contact_in was_read.struct_is was_read.lists-are ∙ value-back version v fits l was_read.enough))
 
-  read-write : (out : List ℕ) → writes_contact read.contact left out ≡ stored row out
+  read-write : (out : List ℕ) → writes_contact read left out ≡ stored row out
   unfolding spec.writes_contact
   read-write out =
       let v = was_read.holds in
@@ -89,11 +89,11 @@ record WasWritten (c : Contact) (l : Lists) (left : List ℕ) (n : ℕ) : Type 0
   counts : counted c l ≡ true
   row : Stands (contact 3) (image c l) left n
 
-was-written : (c : Contact) (l : Lists) (out left : List ℕ) (n : ℕ) → written.leaves (Length n) left ≡ writes_contact c l out → WasWritten c l left n
+was-written : (c : Contact) (l : Lists) (out left : List ℕ) (n : ℕ) → written.leaves (Ok n) left ≡ writes_contact c l out → WasWritten c l left n
 unfolding spec.writes_contact
 was-written c l out left n contract = go (counted c l) refl contract
   where
-    go : (t : Bool) → counted c l ≡ t → written.leaves (Length n) left ≡ cond t (writes (contact 3) (image c l) out) (record { answer = write.refuses LISTS; out = out }) → WasWritten c l left n
+    go : (t : Bool) → counted c l ≡ t → written.leaves (Ok n) left ≡ cond t (writes (contact 3) (image c l) out) (record { answer = write.refuses LISTS; out = out }) → WasWritten c l left n
     go true e h = record { counts = e; row = stands (contact 3) (image c l) out left h }
     go false e h = absurd (wrote≢refuses (ap (λ (x : write.Left). x.answer) h))
 
@@ -141,14 +141,14 @@ module _ (c : Contact) (l : Lists) (ty : ContactTyped c) (lt : ListsTyped l) whe
     pub image-consistent : inconsistency (contact_in c l) ≡ none
     image-consistent = image-granted.1
 
-  module _ (out left : List ℕ) (n : ℕ) (contract : written.leaves (Length n) left ≡ writes_contact c l out) where
+  module _ (out left : List ℕ) (n : ℕ) (contract : written.leaves (Ok n) left ≡ writes_contact c l out) where
     write-value : read_row (contact 3) (take n left) ≡ accepted (contact_in c l)
     write-value =
         let w = was-written c l out left n contract in
         ap (λ (row : List ℕ). read_row (contact 3) row) w.row.front ∙ image-value (all-counted c l w.counts) w.row.value w.row.read
 
     write_read : (lent : Lists) → long_enough (contact_in c l) lent ≡ true
-        → reads 3 (take n left) lent ≡ leaves (record { verdict = Accepted; contact = contact_of (contact_in c l) }) (filled (contact_in c l) lent)
+        → reads 3 (take n left) lent ≡ leaves (Ok (contact_of (contact_in c l))) (filled (contact_in c l) lent)
     unfolding contacts.reads
     write_read lent enough = ap (λ (a : Answer values.Contact). opened a lent) write-value ∙ rw enough
 

@@ -6,7 +6,7 @@ use mathlib.Core.Path.{◌≡◌, refl, ap, ◌∙◌}
 use native.Mathlib.Omega.{arith}
 use native.Mathlib.Numerals.{add-one}
 use lib.ListN.{length, get_or, take, drop, drop_of_length-le}
-use lib.Seq.{drop-cons, get_or-take, length-take-le}
+use lib.Seq.{drop-cons}
 use Rattle.layout.specs.Read.{Read, value, refused, and_then, onto}
 use Rattle.layout.specs.Form.{u32, read_many, print_many}
 use Rattle.layout.specs.Form as form
@@ -23,20 +23,15 @@ use Rattle.numbers.specs.Ranges as received
 use Rattle.received.specs.Lent.{pairs, flat}
 use Rattle.received.proofs.Pairs.{flat-pairs}
 
--- ---- the first n numbers of a list, of which i are written
-module _ (l : List ℕ) (n i : ℕ) (fits : n ≤ length l) where
-  pub numbers-turn : i < n → print_many u32 (drop i (take n l)) ≡ form.bytes_of 4 (get_or l i 0) ++ print_many u32 (drop (i + 1) (take n l))
+-- ---- numbers of which i are written
+module _ (ns : List ℕ) (i : ℕ) where
+  pub numbers-turn : i < length ns → print_many u32 (drop i ns) ≡ form.bytes_of 4 (get_or ns i 0) ++ print_many u32 (drop (i + 1) ns)
   unfolding form.print_many
-  numbers-turn h =
-      let long : length (take n l) ≡ n = length-take-le n l fits in
-      let e : drop i (take n l) ≡ get_or l i 0 ∷ drop (i + 1) (take n l) = rw (add-one, drop-cons (take n l) i 0 (omega arith), get_or-take n l i 0 h) in
-      rw e
+  numbers-turn h = let e : drop i ns ≡ get_or ns i 0 ∷ drop (i + 1) ns = rw (add-one, drop-cons ns i 0 h) in rw e
 
-  pub numbers-end : n ≤ i → print_many u32 (drop i (take n l)) ≡ []
+  pub numbers-end : length ns ≤ i → print_many u32 (drop i ns) ≡ []
   unfolding form.print_many
-  numbers-end h =
-      let long : length (take n l) ≡ n = length-take-le n l fits in
-      rw (drop_of_length-le (take n l) {i = i} (omega arith))
+  numbers-end h = rw (drop_of_length-le ns {i = i} h)
 
 -- ---- ranges are written as their numbers are
 ranges-print : (rs : List Range) → print_many (group range) rs ≡ print_many u32 (flat rs)

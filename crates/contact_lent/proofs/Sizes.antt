@@ -1,14 +1,14 @@
 -- Sizes of lent places: of one, and of n one after the other.
 -- Assumes nothing.
-use Prim.Native.Nat.{ℕ, suc, ◌+◌, ◌-◌, ◌*◌, ◌≤◌, ◌<◌}
-use mathlib.Core.List.{List, ◌∷◌, ◌++◌}
+use Prim.Native.Nat.{ℕ, zero, suc, ◌+◌, ◌-◌, ◌*◌, ◌≤◌, ◌<◌}
+use mathlib.Core.List.{List, ◌∷◌}
 use mathlib.Core.Bool.{Bool, true, false, cond}
 use mathlib.Core.Option.{Option, none, some}
 use mathlib.Core.Path.{◌≡◌, refl, sym, ap, ◌∙◌}
 use native.Mathlib.Omega.{arith}
 use native.Mathlib.Nat.{mul-zero, mul-suc, sub-zero, add-zero, zero-add}
 use native.Mathlib.Numerals.{add-one}
-use lib.ListN.{length, get_or, take, drop, length-append, length-take}
+use lib.ListN.{length, get_or, take, drop, length-append}
 use lib.Seq.{drop-drop, get_or-drop}
 use Rattle.layout.specs.Questions.{FLAG, CODE}
 use Rattle.layout.specs.Read.{Read, value, refused, and_then, onto}
@@ -19,14 +19,13 @@ use Rattle.layout.specs.Field.{takes, refuses, read_at}
 use Rattle.layout.specs.Write as write
 use Rattle.layout.specs.Write.{Written, wrote}
 use Rattle.layout.specs.RowLaws.{Bytes}
-use Rattle.layout.proofs.Lawful.{Lawful}
-use Rattle.layout.proofs.Front.{bytes_take}
-use Rattle.layout.proofs.At.{bytes_drop, letter-in, letter-no}
+use Rattle.layout.proofs.At.{letter-in, letter-no}
 use Rattle.rows.specs.Rows.{chain, skipped, dir_of}
 use Rattle.rows.specs.declared.Dir.{Dir}
 use Rattle.contact_lists.specs.Places.{read_places}
 use Rattle.contact_lists.specs.Places as places
-use Rattle.contact_lent.specs.Lent.{size_of, chain_size}
+use Rattle.contact_lent.specs.Lent.{size_of, plus, both, sizes, chain_size}
+use Rattle.contact_lent.specs.Lent as lent
 use Rattle.contact_lent.proofs.Offsets.{size_as, place-size}
 use Rattle.contact_lent.proofs.Records.{key_from, read-skipped, skipped-placed, chain_from, read-chain, chain-placed, flag_one}
 
@@ -73,15 +72,6 @@ module _ (l : List ℕ) (by : Bytes l) where
     chain-sized false d e = chain-size ∙ rw (d, e, flag_one (get_or l 42 0) false e)
 
 -- ---- n places
-abbrev plus : ℕ → Written → Written
-plus n (wrote k) = wrote (n + k)
-plus n (write.refuses q) = write.refuses q
-
--- one size behind another
-abbrev both : Written → Written → Written
-both (wrote k) s = plus k s
-both (write.refuses q) s = write.refuses q
-
 plus-plus : (n k : ℕ) (s : Written) → plus n (plus k s) ≡ plus (n + k) s
 plus-plus n k (wrote m) = ap (λ (x : ℕ). wrote x) (omega arith)
 plus-plus n k (write.refuses q) = refl
@@ -91,63 +81,52 @@ plus-zero (wrote k) = rw zero-add
 plus-zero (write.refuses q) = refl
 
 module _ {B : Type 0} (w : ℕ) (f : Form B) where
-  -- a record that is read has no more bytes than its place
-  pub place-most : Lawful f → (l : List ℕ) {k : ℕ} → Bytes l → size_of f (f.read (take w l)) ≡ wrote k → k ≤ w
-  place-most law l {k} by e = go (f.read (take w l)) refl e
+  -- one by one they have the size of what is read of them
+  pub sizes_are : (n : ℕ) (l : List ℕ) → sizes w (λ place. size_of f (f.read (take w place))) n l ≡ size_of (times f n) (read_places w f n l)
+  unfolding lent.sizes places.read_places form.print_many
+  sizes_are zero l = refl
+  sizes_are (suc n) l = rw (sizes_are n (drop w l)) (go (f.read (take w l)) (read_places w f n (drop w l)))
     where
-      go : (x : Read B) → f.read (take w l) ≡ x → size_of f x ≡ wrote k → k ≤ w
-      go (value b rest) r e =
-          let whole : f.print b ++ rest ≡ take w l = law.joins (take w l) b rest (bytes_take w l by) r in
-          let long : length (f.print b ++ rest) ≡ length (take w l) = ap (λ (x : List ℕ). length x) whole in
-          let size : length (f.print b) ≡ k = cc in
-          omega (arith, length-append (f.print b) rest, length-take w l)
-      go (refused q) r e = absurd (let z : ◌≡◌ {A = ℕ} 0 1 = cc in omega arith)
+      go : (x : Read B) (y : Read (List B)) → both (size_of f x) (size_of (times f n) y) ≡ size_of (times f (suc n)) (and_then x (λ b rest. onto (λ bs. b ∷ bs) y))
+      go (value b rest) (value bs rest') = sym (ap (λ (n : ℕ). wrote n) (length-append (f.print b) (form.print_many f bs)))
+      go (value b rest) (refused q) = refl
+      go (refused q) y = refl
 
-  module _ (l : List ℕ) (count : ℕ) where
-    -- the size of the places from the i-th on
-    abbrev left : ℕ → Written
-    left i = size_of (times f (count - i)) (read_places w f (count - i) (drop (w * i) l))
+module _ (w : ℕ) (size : List ℕ → Written) (l : List ℕ) (count : ℕ) where
+  -- the size of the places from the i-th on
+  abbrev left : ℕ → Written
+  left i = sizes w size (count - i) (drop (w * i) l)
 
-    abbrev at : ℕ → Written
-    at i = size_of f (f.read (take w (drop (w * i) l)))
+  -- the i-th, and those behind it
+  left_is : (i : ℕ) → i < count → left i ≡ both (size (drop (w * i) l)) (left (i + 1))
+  unfolding lent.sizes
+  left_is i h =
+      let s : count - i ≡ suc (count - (i + 1)) = omega arith in
+      let n1 : w * i + w ≡ w * (i + 1) = sym (rw add-one (mul-suc w i)) in
+      rw (s, drop-drop w (w * i) l, n1) refl
 
-    -- the i-th, and those behind it
-    left_is : (i : ℕ) → i < count → left i ≡ both (at i) (left (i + 1))
-    unfolding places.read_places form.print_many
-    left_is i h =
-        let s : count - i ≡ suc (count - (i + 1)) = omega arith in
-        let n1 : w * i + w ≡ w * (i + 1) = sym (rw add-one (mul-suc w i)) in
-        rw (s, drop-drop w (w * i) l, n1) (go (f.read (take w (drop (w * i) l))) (read_places w f (count - (i + 1)) (drop (w * (i + 1)) l)))
-      where
-        go : (x : Read B) (y : Read (List B)) → size_of (times f (suc (count - (i + 1)))) (and_then x (λ b rest. onto (λ bs. b ∷ bs) y)) ≡ both (size_of f x) (size_of (times f (count - (i + 1))) y)
-        go (value b rest) (value bs rest') = ap (λ (n : ℕ). wrote n) (length-append (f.print b) (form.print_many f bs))
-        go (value b rest) (refused q) = refl
-        go (refused q) y = refl
+  -- on the way: i places have n bytes
+  pub record Sizing (n i : ℕ) : Type 0 where
+    pub few : n ≤ w * i
+    pub same : plus n (left i) ≡ sizes w size count l
 
-    -- on the way: i places have n bytes
-    pub record Sizing (n i : ℕ) : Type 0 where
-      pub most : i ≤ count
-      pub few : n ≤ w * i
-      pub same : plus n (left i) ≡ size_of (times f count) (read_places w f count l)
+  pub sizing-start : Sizing 0 0
+  sizing-start = record { few = omega arith; same = rw (mul-zero, sub-zero) (plus-zero (sizes w size count l)) }
 
-    pub sizing-start : Sizing 0 0
-    sizing-start = record { most = omega arith; few = omega arith; same = rw (mul-zero, sub-zero) (plus-zero (size_of (times f count) (read_places w f count l))) }
+  pub sizing-turn : {n i k : ℕ} → i < count → Sizing n i → wrote k ≡ size (drop (w * i) l) → k ≤ w → Sizing (n + k) (i + 1)
+  sizing-turn {n} {i} {k} h s e most =
+      let n1 : w * (i + 1) ≡ w * i + w = rw add-one (mul-suc w i) in
+      record {
+        few = omega arith;
+        same = sym (plus-plus n k (left (i + 1))) ∙ sym (ap (λ (x : Written). plus n x) (left_is i h ∙ ap (λ (x : Written). both x (left (i + 1))) (sym e))) ∙ s.same;
+      }
 
-    pub sizing-turn : Lawful f → Bytes l → {n i k : ℕ} → i < count → Sizing n i → at i ≡ wrote k → Sizing (n + k) (i + 1)
-    sizing-turn law by {n} {i} {k} h s e =
-        let n1 : w * (i + 1) ≡ w * i + w = rw add-one (mul-suc w i) in
-        record {
-          most = omega arith;
-          few = omega (arith, place-most law (drop (w * i) l) (bytes_drop (w * i) l by) e);
-          same = sym (plus-plus n k (left (i + 1))) ∙ sym (ap (λ (x : Written). plus n x) (left_is i h ∙ ap (λ (x : Written). both x (left (i + 1))) e)) ∙ s.same;
-        }
+  pub sizing-stop : {n i q : ℕ} → i < count → Sizing n i → write.refuses q ≡ size (drop (w * i) l) → write.refuses q ≡ sizes w size count l
+  sizing-stop {n} {i} h s e = sym (ap (λ (x : Written). plus n x) (left_is i h ∙ ap (λ (x : Written). both x (left (i + 1))) (sym e))) ∙ s.same
 
-    pub sizing-stop : {n i q : ℕ} → i < count → Sizing n i → at i ≡ write.refuses q → write.refuses q ≡ size_of (times f count) (read_places w f count l)
-    sizing-stop {n} {i} h s e = sym (ap (λ (x : Written). plus n x) (left_is i h ∙ ap (λ (x : Written). both x (left (i + 1))) e)) ∙ s.same
-
-    pub sizing-end : {n i : ℕ} → count ≤ i → Sizing n i → wrote n ≡ size_of (times f count) (read_places w f count l)
-    unfolding places.read_places form.print_many
-    sizing-end {n} {i} h s =
-        let z : count - i ≡ 0 = omega arith in
-        let none_left : left i ≡ wrote 0 = rw z in
-        ap (λ (k : ℕ). wrote k) (sym (add-zero n)) ∙ sym (ap (λ (x : Written). plus n x) none_left) ∙ s.same
+  pub sizing-end : {n i : ℕ} → count ≤ i → Sizing n i → wrote n ≡ sizes w size count l
+  unfolding lent.sizes
+  sizing-end {n} {i} h s =
+      let z : count - i ≡ 0 = omega arith in
+      let none_left : left i ≡ wrote 0 = rw z in
+      ap (λ (k : ℕ). wrote k) (sym (add-zero n)) ∙ sym (ap (λ (x : Written). plus n x) none_left) ∙ s.same

@@ -1,6 +1,6 @@
 -- The lists of an opened contact, which a caller lends: chains in places of 51 bytes, skipped keys in places of 46, ranges and numbers flat.
 -- What is said of them before they are filled and written, and the bytes that a row has for them. Assumes nothing.
-use Rattle.std.specs.Prelude.{ℕ, zero, suc, ◌*◌, List, [], ◌++◌, cond, ◌≡◌, length, get_or, take, drop, eqb}
+use Rattle.std.specs.Prelude.{ℕ, zero, suc, ◌+◌, ◌*◌, List, [], ◌++◌, cond, ◌≡◌, length, get_or, take, drop, eqb}
 use Rattle.layout.specs.Read.{Read, value, refused}
 use Rattle.layout.specs.Form.{Form}
 use Rattle.layout.specs.Layout.{group}
@@ -13,6 +13,20 @@ use Rattle.contact_lists.specs.Places.{read_places, places_of}
 abbrev pub size_of : {A : Type 0} → Form A → Read A → Written
 size_of f (value a rest) = wrote (length (f.print a))
 size_of f (refused q) = refuses q
+
+-- one size behind another, or the first refusal
+abbrev pub plus : ℕ → Written → Written
+plus n (wrote k) = wrote (n + k)
+plus n (refuses q) = refuses q
+
+abbrev pub both : Written → Written → Written
+both (wrote k) s = plus k s
+both (refuses q) s = refuses q
+
+-- of the first n places of w bytes, if the place that l starts with has `size l`
+unfoldable pub sizes : ℕ → (List ℕ → Written) → ℕ → List ℕ → Written
+sizes w size zero l = wrote 0
+sizes w size (suc n) l = both (size l) (sizes w size n (drop w l))
 
 module _ {B : Type 0} (w : ℕ) (f : Form B) where
   -- no question refuses a record of the first n places

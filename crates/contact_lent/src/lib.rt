@@ -2,19 +2,19 @@
 // in places of 46 bytes (the row's bytes), ranges and numbers flat. They are filled from a row that was read, sized, and written as a row has them.
 #![tactic(auto)]
 
-ghost use Rattle.std.specs.Prelude.{◌≡◌, ◌+◌, ◌*◌, ◌≤◌, length, take, drop};
+ghost use Rattle.std.specs.Prelude.{◌≡◌, ℕ, ◌+◌, ◌*◌, ◌≤◌, List, IfOk, length, take, drop};
 ghost use Rattle.layout.specs.Form.{u32, times, print_many};
 ghost use Rattle.layout.specs.Layout.{group};
+ghost use Rattle.layout.specs.Says.{written_says};
+ghost use Rattle.layout.specs.Write.{Written};
 ghost use Rattle.rows.specs.Rows.{chain, skipped, range};
-ghost use Rattle.rows.specs.Answers.{written_says};
 ghost use Rattle.put.specs.Put.{put, Wrote};
 ghost use Rattle.contact_lists.specs.Lists.{items, Stands};
 ghost use Rattle.contact_lists.specs.Places.{read_places, print_places};
 ghost use Rattle.received.specs.Lent.{pairs, flat};
-ghost use Rattle.contact_lent.specs.Lent.{size_of, Granted, chains_of, skipped_of, chain_size};
+ghost use Rattle.contact_lent.specs.Lent.{size_of, sizes, Granted, chains_of, skipped_of, chain_size};
 
-use fields::{DirField, FlagField, U32Field};
-use rows::Written;
+use layout::Question;
 
 // The bytes of a place: a chain with superseded_s, and a skipped key.
 pub const CHAIN_PLACE: usize = 51;
@@ -42,13 +42,11 @@ pub fn fill_chains(row: &[u8], first: usize, count: usize, lent: &mut [u8])
     ensures { lent.new ≡ put lent.old 0 (print_places 51 (group chain) (items (group chain) count (drop first row.now))) }
 {
     let mut p = first;
-    let mut i: usize = 0;
-    while i < count {
+    for i in 0..count {
         let n = chain_len(row, p);
         let at = put::put_run(lent, CHAIN_PLACE * i, row, p, n);
         put::put_zeros(lent, at, CHAIN_PLACE - n);
         p += n;
-        i += 1;
     }
 }
 
@@ -66,14 +64,12 @@ pub fn fill_numbers(row: &[u8], first: usize, count: usize, lent: &mut [u32])
     ensures { lent.new ≡ put lent.old 0 (items u32 count (drop first row.now)) }
 {
     let mut p = first;
-    let mut i: usize = 0;
-    while i < count {
-        let U32Field::Value(n, next) = fields::u32_at(row, p) else {
+    for i in 0..count {
+        let Ok((n, next)) = fields::u32_at(row, p) else {
             return;
         };
         lent[i] = n;
         p = next;
-        i += 1;
     }
 }
 
@@ -85,71 +81,78 @@ pub fn fill_ranges(row: &[u8], first: usize, count: usize, lent: &mut [u32])
     fill_numbers(row, first, 2 * count, lent);
 }
 
-// How many bytes a row has for the chain in the place at `at`, or the question that reading it would refuse.
-fn chain_size(lent: &[u8], at: usize) -> Written
-    requires { at + 51 ≤ length lent.now }
-    ensures { written_says result ≡ size_of (group chain) ((group chain).read (take 51 (drop at lent.now))) }
-{
-    let dir = fields::dir_at(lent, at + 1);
-    let DirField::Value(_dir, _next) = dir else {
-        return Written::Refused(dir.refusal());
-    };
-    let flag = fields::flag_at(lent, at + 42);
-    let FlagField::Value(superseded, _next) = flag else {
-        return Written::Refused(flag.refusal());
-    };
-    if superseded {
-        return Written::Length(CHAIN_PLACE);
+// A record in a lent place.
+trait Place {
+    const BYTES: usize;
+
+    ghost BYTES: { ℕ };
+
+    ghost row_size: { List ℕ → Written };
+
+    // How many bytes a row has for the record in the place at `at`, or the question that reading it would refuse.
+    fn size(lent: &[u8], at: usize) -> Result<usize, Question>
+        requires { at + BYTES ≤ length lent.now }
+        ensures { (written_says result ≡ row_size (drop at lent.now)) × IfOk result (λ n. n ≤ BYTES) };
+}
+
+struct Chain;
+
+impl Place for Chain {
+    const BYTES: usize = CHAIN_PLACE;
+
+    ghost BYTES = { 51 };
+
+    ghost row_size = { λ place. size_of (group chain) ((group chain).read (take 51 place)) };
+
+    fn size(lent: &[u8], at: usize) -> Result<usize, Question> {
+        fields::dir_at(lent, at + 1)?;
+        let (superseded, _next) = fields::flag_at(lent, at + 42)?;
+        if superseded {
+            return Ok(CHAIN_PLACE);
+        }
+        Ok(CHAIN_CURRENT)
     }
-    Written::Length(CHAIN_CURRENT)
 }
 
-// The same of the skipped key in the place at `at`.
-fn skipped_key_size(lent: &[u8], at: usize) -> Written
-    requires { at + 46 ≤ length lent.now }
-    ensures { written_says result ≡ size_of (group skipped) ((group skipped).read (take 46 (drop at lent.now))) }
+struct Skipped;
+
+impl Place for Skipped {
+    const BYTES: usize = SKIPPED_PLACE;
+
+    ghost BYTES = { 46 };
+
+    ghost row_size = { λ place. size_of (group skipped) ((group skipped).read (take 46 place)) };
+
+    fn size(lent: &[u8], at: usize) -> Result<usize, Question> {
+        fields::dir_at(lent, at + 1)?;
+        Ok(SKIPPED_PLACE)
+    }
+}
+
+// How many bytes a row has for the records in the first `count` places, or the question that reading them would refuse.
+fn places_size<P: Place>(lent: &[u8], count: usize) -> Result<usize, Question>
+    requires { P.BYTES * count ≤ length lent.now }
+    ensures { written_says result ≡ sizes P.BYTES P.row_size count lent.now }
 {
-    let dir = fields::dir_at(lent, at + 1);
-    let DirField::Value(_dir, _next) = dir else {
-        return Written::Refused(dir.refusal());
-    };
-    Written::Length(SKIPPED_PLACE)
+    let mut n: usize = 0;
+    for i in 0..count {
+        n += P::size(lent, P::BYTES * i)?;
+    }
+    Ok(n)
 }
 
-// How many bytes a row has for the chains in the first `count` places, or the question that reading them would refuse.
-pub fn chains_size(lent: &[u8], count: usize) -> Written
+pub fn chains_size(lent: &[u8], count: usize) -> Result<usize, Question>
     requires { 51 * count ≤ length lent.now }
     ensures { written_says result ≡ size_of (times (group chain) count) (read_places 51 (group chain) count lent.now) }
 {
-    let mut n: usize = 0;
-    let mut i: usize = 0;
-    while i < count {
-        let size = chain_size(lent, CHAIN_PLACE * i);
-        let Written::Length(k) = size else {
-            return size;
-        };
-        n += k;
-        i += 1;
-    }
-    Written::Length(n)
+    places_size::<Chain>(lent, count)
 }
 
-// The same of skipped keys.
-pub fn skipped_size(lent: &[u8], count: usize) -> Written
+pub fn skipped_size(lent: &[u8], count: usize) -> Result<usize, Question>
     requires { 46 * count ≤ length lent.now }
     ensures { written_says result ≡ size_of (times (group skipped) count) (read_places 46 (group skipped) count lent.now) }
 {
-    let mut n: usize = 0;
-    let mut i: usize = 0;
-    while i < count {
-        let size = skipped_key_size(lent, SKIPPED_PLACE * i);
-        let Written::Length(k) = size else {
-            return size;
-        };
-        n += k;
-        i += 1;
-    }
-    Written::Length(n)
+    places_size::<Skipped>(lent, count)
 }
 
 // The chains of the first `count` places, as a row has them; the position behind them.
@@ -158,11 +161,9 @@ pub fn put_chains(out: &mut [u8], at: usize, lent: &[u8], count: usize) -> usize
     ensures { (result ≡ at + length (print_many (group chain) (chains_of count lent.now))) × Wrote out.old at (print_many (group chain) (chains_of count lent.now)) out.new result }
 {
     let mut p = at;
-    let mut i: usize = 0;
-    while i < count {
+    for i in 0..count {
         let n = chain_len(lent, CHAIN_PLACE * i);
         p = put::put_run(out, p, lent, CHAIN_PLACE * i, n);
-        i += 1;
     }
     p
 }
@@ -181,10 +182,8 @@ pub fn put_numbers(out: &mut [u8], at: usize, list: &[u32], count: usize) -> usi
     ensures { (result ≡ at + 4 * count) × Wrote out.old at (print_many u32 (take count list.now)) out.new result }
 {
     let mut p = at;
-    let mut i = 0;
-    while i < count {
-        p = put::put_be(out, p, 4, width::wide(list[i]));
-        i += 1;
+    for n in &list[..count] {
+        p = put::put_be(out, p, 4, u64::from(*n));
     }
     p
 }

@@ -1,2 +1,3 @@
 pub mod Ends
+mod Optional
 pub mod Plain

@@ -1,23 +1,13 @@
 -- What the answers about a contact row's lists say.
 -- Assumes nothing.
-use Rattle.std.specs.Prelude.{ℕ, ◌≤◌, List, [], ◌≡◌, length, drop}
+use Rattle.std.specs.Prelude.{ℕ, ◌≤◌, List, [], ◌≡◌, Result, Ok, Err, length, drop}
 use Rattle.layout.specs.Read.{Read, value, refused}
 use Rattle.layout.specs.Form.{Form, read_many, times}
 use Rattle.layout.specs.Field.{Field, takes, refuses, read_at}
-use Rattle.reader.specs.declared.EndField.{EndField}
-use Rattle.reader.specs.declared.EndField.TheVariants as end
+use Rattle.layout.specs.declared.question.Question.{Question}
+use Rattle.layout.specs.Questions.{number_of}
 use Rattle.reader.specs.Reader.{ended}
-use Rattle.contact_lists.specs.declared.ListField.{ListField}
-use Rattle.contact_lists.specs.declared.ListField.TheVariants as list
-
--- a list of `count` items from `first` on, once its end was found
-abbrev pub found_at : EndField → ℕ → ℕ → ListField
-found_at (end.Value next) first count = list.Value (record { first = first; next = next; count = count })
-found_at (end.Refused q) first count = list.Refused q
-
-abbrev pub list_refusal : ListField → ℕ
-list_refusal (list.Value at) = 0
-list_refusal (list.Refused q) = q
+use Rattle.contact_lists.specs.declared.ListAt.{ListAt}
 
 -- the n items that stand at the front
 module _ {B : Type 0} (f : Form B) where
@@ -28,9 +18,9 @@ module _ {B : Type 0} (f : Form B) where
   unfoldable pub items : ℕ → List ℕ → List B
   items n row = items_of (read_many f n row)
 
-  abbrev pub list_says : List ℕ → ListField → Field (List B)
-  list_says row (list.Value at) = takes (items at.count (drop at.first row)) at.next
-  list_says row (list.Refused q) = refuses q
+  abbrev pub list_says : List ℕ → Result ListAt Question → Field (List B)
+  list_says row (Ok at) = takes (items at.count (drop at.first row)) at.next
+  list_says row (Err q) = refuses (number_of q)
 
   -- `count` items stand from `first` up to `next`
   pub record Listed (row : List ℕ) (first count next : ℕ) : Type 0 where
@@ -42,6 +32,6 @@ module _ {B : Type 0} (f : Form B) where
     pub next : ℕ
     pub so : Listed row first count next
 
-  abbrev pub ListedAt : List ℕ → ListField → Type 0
-  ListedAt row (list.Value at) = Listed row at.first at.count at.next
-  ListedAt row (list.Refused q) = Unit {0}
+  abbrev pub ListedAt : List ℕ → Result ListAt Question → Type 0
+  ListedAt row (Ok at) = Listed row at.first at.count at.next
+  ListedAt row (Err q) = Unit {0}

@@ -9,7 +9,7 @@ use lib.ListN.{length, drop, length-append, length-drop}
 use Rattle.layout.specs.Read.{value}
 use Rattle.layout.specs.Veil.{plain, veiled}
 use Rattle.layout.specs.Form.{Form, u32, print_many, times}
-use Rattle.layout.specs.Field.{Field, read_at, takes, refuses}
+use Rattle.layout.specs.Field.{read_at, takes}
 use Rattle.layout.specs.Field as field
 use Rattle.layout.specs.Layout.{group, optional, list, list_layout}
 use Rattle.layout.specs.Layout as layout
@@ -22,58 +22,16 @@ use Rattle.rows.specs.Rows.{pending, send, chain, skipped, range}
 use Rattle.rows.proofs.Lawful.{chain-lawful, skipped-lawful, range-lawful}
 use Rattle.contact_lists.specs.Lists as lists
 use Rattle.offsets.specs.Offset.{located}
-use Rattle.offsets.proofs.Offset.{Stands, field-stands, offset-inside, run_is, optional-stands, Part, part-found, part-not}
+use Rattle.offsets.proofs.Offset.{Stands, field-stands, offset-inside, run_is, optional-stands, Part, part-found}
 use Rattle.contact_parts.specs.Parts.{Paired, paired, Keys, keys, Chained, chained, Numbers, numbers}
 use Rattle.contact_parts.specs.Offsets.{paired_at, paired_from, CardOffsets, keys_at, keys_from, pending_at, pending_from, send_at, send_from, list_at, list_in, ListIn}
 use Rattle.contact_parts.specs.Offsets.{chained_at, chained_from, ChainedLists, numbers_at, numbers_from, NumbersLists}
-use Rattle.contact_parts.specs.Offsets.{paired_found, keys_found, chained_found, numbers_found}
 use Rattle.contact_parts.specs.declared.PairedAt.{PairedAt}
-use Rattle.contact_parts.specs.declared.PairedField.{PairedField}
-use Rattle.contact_parts.specs.declared.PairedField.TheVariants as paired_field
 use Rattle.contact_parts.specs.declared.KeysAt.{KeysAt}
-use Rattle.contact_parts.specs.declared.KeysField.{KeysField}
-use Rattle.contact_parts.specs.declared.KeysField.TheVariants as keys_field
 use Rattle.contact_parts.specs.declared.ChainedAt.{ChainedAt}
-use Rattle.contact_parts.specs.declared.ChainedField.{ChainedField}
-use Rattle.contact_parts.specs.declared.ChainedField.TheVariants as chained_field
 use Rattle.contact_parts.specs.declared.NumbersAt.{NumbersAt}
-use Rattle.contact_parts.specs.declared.NumbersField.{NumbersField}
-use Rattle.contact_parts.specs.declared.NumbersField.TheVariants as numbers_field
 use Rattle.contact_parts.proofs.Lawful.{paired-lawful, keys-lawful, chained-lawful, numbers-lawful}
 use Rattle.contact_parts.proofs.Card.{card-is, card-inside}
-
--- ---- an answer as a field of places
-abbrev paired_says : PairedField → Field PairedAt
-paired_says (paired_field.Value p next) = takes p next
-paired_says (paired_field.Refused q) = refuses q
-
-paired-says : (at : ℕ) (x : Field Paired) → paired_says (paired_found at x) ≡ located (paired_at at) x
-paired-says at (takes p next) = refl
-paired-says at (refuses q) = refl
-
-abbrev keys_says : KeysField → Field KeysAt
-keys_says (keys_field.Value k next) = takes k next
-keys_says (keys_field.Refused q) = refuses q
-
-keys-says : (at : ℕ) (x : Field Keys) → keys_says (keys_found at x) ≡ located (keys_at at) x
-keys-says at (takes k next) = refl
-keys-says at (refuses q) = refl
-
-abbrev chained_says : ChainedField → Field ChainedAt
-chained_says (chained_field.Value c next) = takes c next
-chained_says (chained_field.Refused q) = refuses q
-
-chained-says : (at : ℕ) (x : Field Chained) → chained_says (chained_found at x) ≡ located (chained_at at) x
-chained-says at (takes c next) = refl
-chained-says at (refuses q) = refl
-
-abbrev numbers_says : NumbersField → Field NumbersAt
-numbers_says (numbers_field.Value n next) = takes n next
-numbers_says (numbers_field.Refused q) = refuses q
-
-numbers-says : (at : ℕ) (x : Field Numbers) → numbers_says (numbers_found at x) ≡ located (numbers_at at) x
-numbers-says at (takes n next) = refl
-numbers-says at (refuses q) = refl
 
 -- ---- the value at its places
 module _ (row : List ℕ) where
@@ -172,44 +130,32 @@ module _ (row : List ℕ) where
       pub paired-inside : CardOffsets row (paired_at from p).card
       paired-inside = card-inside row _ p.card (field-stands row paired 6 p s) (offset-inside row paired 6 p s past)
 
--- ---- what is known once it is known which case an answer is
+-- ---- what a reader's answer tells of the part that it found
 module _ (row : List ℕ) (by : Bytes row) (at : ℕ) where
-  module _ {r : PairedField} (answer : r ≡ paired_found at (read_at (group paired) row at)) where
-    pub paired-part : {p : PairedAt} {next : ℕ} → r ≡ paired_field.Value p next → Part paired row at (paired_from row) (paired_at at) (λ p. CardOffsets row p.card) p next
-    unfolding layout.parse
-    paired-part known =
-        part-found paired row at (paired_from row) (paired_at at) (λ p. CardOffsets row p.card) paired_says (paired_found at) (paired-says at) answer paired-lawful by refl
-        (λ past v s. (paired_is row at past v s, paired-inside row at past v s)) (ap paired_says known)
+  pub paired-part : {p : PairedAt} {next : ℕ} → takes p next ≡ located (paired_at at) (read_at (group paired) row at)
+      → Part paired row at (paired_from row) (paired_at at) (λ p. CardOffsets row p.card) p next
+  unfolding layout.parse
+  paired-part answer =
+      part-found paired row at (paired_from row) (paired_at at) (λ p. CardOffsets row p.card) (λ x. x) (located (paired_at at)) (λ x. refl) answer paired-lawful by refl
+      (λ past v s. (paired_is row at past v s, paired-inside row at past v s)) refl
 
-    pub paired-refused : {q : ℕ} → r ≡ paired_field.Refused q → read_at (group paired) row at ≡ refuses q
-    paired-refused known = part-not paired row at (paired_from row) (paired_at at) (λ p. CardOffsets row p.card) paired_says (paired_found at) (paired-says at) answer (ap paired_says known)
+  pub keys-part : {k : KeysAt} {next : ℕ} → takes k next ≡ located (keys_at at) (read_at (group keys) row at)
+      → Part keys row at (keys_from row) (keys_at at) (λ k. Unit {0}) k next
+  unfolding layout.parse
+  keys-part answer =
+      part-found keys row at (keys_from row) (keys_at at) (λ k. Unit {0}) (λ x. x) (located (keys_at at)) (λ x. refl) answer keys-lawful by refl
+      (λ past v s. (keys-is row at v s, tt)) refl
 
-  module _ {r : KeysField} (answer : r ≡ keys_found at (read_at (group keys) row at)) where
-    pub keys-part : {k : KeysAt} {next : ℕ} → r ≡ keys_field.Value k next → Part keys row at (keys_from row) (keys_at at) (λ k. Unit {0}) k next
-    unfolding layout.parse
-    keys-part known =
-        part-found keys row at (keys_from row) (keys_at at) (λ k. Unit {0}) keys_says (keys_found at) (keys-says at) answer keys-lawful by refl
-        (λ past v s. (keys-is row at v s, tt)) (ap keys_says known)
+  pub chained-part : {c : ChainedAt} {next : ℕ} → takes c next ≡ located (chained_at at) (read_at (group chained) row at)
+      → Part chained row at (chained_from row) (chained_at at) (ChainedLists row) c next
+  unfolding layout.parse
+  chained-part answer =
+      part-found chained row at (chained_from row) (chained_at at) (ChainedLists row) (λ x. x) (located (chained_at at)) (λ x. refl) answer chained-lawful by refl
+      (λ past v s. (chained-is row at past v s, chained-inside row at past v s)) refl
 
-    pub keys-refused : {q : ℕ} → r ≡ keys_field.Refused q → read_at (group keys) row at ≡ refuses q
-    keys-refused known = part-not keys row at (keys_from row) (keys_at at) (λ k. Unit {0}) keys_says (keys_found at) (keys-says at) answer (ap keys_says known)
-
-  module _ {r : ChainedField} (answer : r ≡ chained_found at (read_at (group chained) row at)) where
-    pub chained-part : {c : ChainedAt} {next : ℕ} → r ≡ chained_field.Value c next → Part chained row at (chained_from row) (chained_at at) (ChainedLists row) c next
-    unfolding layout.parse
-    chained-part known =
-        part-found chained row at (chained_from row) (chained_at at) (ChainedLists row) chained_says (chained_found at) (chained-says at) answer chained-lawful by refl
-        (λ past v s. (chained-is row at past v s, chained-inside row at past v s)) (ap chained_says known)
-
-    pub chained_refused : {q : ℕ} → r ≡ chained_field.Refused q → read_at (group chained) row at ≡ refuses q
-    chained_refused known = part-not chained row at (chained_from row) (chained_at at) (ChainedLists row) chained_says (chained_found at) (chained-says at) answer (ap chained_says known)
-
-  module _ {r : NumbersField} (answer : r ≡ numbers_found at (read_at (group numbers) row at)) where
-    pub numbers-part : {n : NumbersAt} {next : ℕ} → r ≡ numbers_field.Value n next → Part numbers row at (numbers_from row) (numbers_at at) (NumbersLists row) n next
-    unfolding layout.parse
-    numbers-part known =
-        part-found numbers row at (numbers_from row) (numbers_at at) (NumbersLists row) numbers_says (numbers_found at) (numbers-says at) answer numbers-lawful by refl
-        (λ past v s. (numbers-is row at past v s, numbers-inside row at past v s)) (ap numbers_says known)
-
-    pub numbers-refused : {q : ℕ} → r ≡ numbers_field.Refused q → read_at (group numbers) row at ≡ refuses q
-    numbers-refused known = part-not numbers row at (numbers_from row) (numbers_at at) (NumbersLists row) numbers_says (numbers_found at) (numbers-says at) answer (ap numbers_says known)
+  pub numbers-part : {n : NumbersAt} {next : ℕ} → takes n next ≡ located (numbers_at at) (read_at (group numbers) row at)
+      → Part numbers row at (numbers_from row) (numbers_at at) (NumbersLists row) n next
+  unfolding layout.parse
+  numbers-part answer =
+      part-found numbers row at (numbers_from row) (numbers_at at) (NumbersLists row) (λ x. x) (located (numbers_at at)) (λ x. refl) answer numbers-lawful by refl
+      (λ past v s. (numbers-is row at past v s, numbers-inside row at past v s)) refl

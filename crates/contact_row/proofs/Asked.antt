@@ -1,6 +1,7 @@
 -- What a writer of contact rows is asked before the output, from the answers about the row's parts.
 -- Assumes nothing.
 use Prim.Native.Nat.{ℕ, zero, suc, ◌*◌, ◌/◌, ◌^◌, ◌≤◌, ◌<◌}
+use Rattle.std.specs.Prelude as code
 use mathlib.Core.List.{List, [], append-nil}
 use mathlib.Core.Bool.{Bool, true, false, cond, ◌&&◌}
 use mathlib.Core.Option.{Option, none, some}
@@ -18,7 +19,6 @@ use Rattle.layout.specs.RowLaws.{RowLaws}
 use Rattle.layout.specs.Write.{wrote, refuses, asked}
 use Rattle.layout.specs.Write as write
 use Rattle.layout.proofs.Write.{wrote≢refuses}
-use Rattle.rows.specs.Values as value
 use Rattle.rows.specs.Rows.{card_row, pending, send, chain, skipped, contact}
 use Rattle.rows.specs.Rows as row
 use Rattle.rows.proofs.Proved.{proved}
@@ -33,7 +33,6 @@ use Rattle.contact.specs.Consistent.{inconsistency}
 use Rattle.contact.specs.Contact.{Lists}
 use Rattle.contact.specs.declared.Contact.{Contact}
 use Rattle.contact.specs.declared.SendChain.{SendChain}
-use Rattle.contact.specs.declared.SendChain.TheVariants.{Absent, Present}
 use Rattle.contact_image.specs.Row as spec
 use Rattle.numbers.specs.Lists.{within}
 use Rattle.contact_image.specs.Row.{counted, paired_of, pending_of, send_of, contact_in, image, asked_contact, ContactTyped, ListsTyped}
@@ -96,8 +95,8 @@ card-few : (c : Contact) → ContactTyped c → length (cards.image c.peer) < 25
 unfolding cards.image layout.print
 card-few c ty = rw (append-nil (print row.card (cards.value_of c.peer))) (card.print-short c.peer ty.peer)
 
-module _ (c : Contact) (ty : ContactTyped c) (l : Lists) (lt : ListsTyped l) where
-  -- question 36, as the code asks it
+-- ---- question 36, as the code asks it
+module _ (c : Contact) (l : Lists) where
   pub counted_is : {t : Bool} → t ≡ (within c.chains (length l.chains / 51) && within c.skipped (length l.skipped / 46) && within c.above (length l.above / 2)
       && within c.unacked (length l.unacked) && within c.expired (length l.expired / 2)) → counted c l ≡ t
   unfolding spec.counted
@@ -107,6 +106,7 @@ module _ (c : Contact) (ty : ContactTyped c) (l : Lists) (lt : ListsTyped l) whe
   unfolding spec.asked_contact
   not-counted e = rw e
 
+module _ (c : Contact) (ty : ContactTyped c) (l : Lists) (lt : ListsTyped l) where
   module _ (counts : counted c l ≡ true) where
     abbrev all : AllCounted c l
     all = all-counted c l counts
@@ -158,9 +158,9 @@ module _ (c : Contact) (ty : ContactTyped c) (l : Lists) (lt : ListsTyped l) whe
           send-size : length ((optional (group send)).print (send_of c.send c.send_key)) ≡ send_size c.send
           send-size = go c.send refl
             where
-              go : (s : SendChain) → c.send ≡ s → length ((optional (group send)).print (send_of c.send c.send_key)) ≡ send_size s
-              go Absent e = send-absent c ty e
-              go (Present gen d idx) e = send-long c ty e
+              go : (s : code.Option SendChain) → c.send ≡ s → length ((optional (group send)).print (send_of c.send c.send_key)) ≡ send_size s
+              go code.None e = send-absent c ty e
+              go (code.Some s) e = send-long c ty e
 
           chain-bytes-are : {n : ℕ} → n ≡ length (print_many (group chain) (chains_of c.chains l.chains)) → length (chains_bytes c.chains l.chains) ≡ n
           chain-bytes-are e = ap (λ (x : List ℕ). length x) (chains-printed c.chains l.chains chains.reads lt.chains all.chains.held).bytes ∙ sym e

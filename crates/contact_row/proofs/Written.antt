@@ -45,7 +45,7 @@ module _ (c : Contact) (ty : ContactTyped c) (l : Lists) (lt : ListsTyped l) whe
 
       counts : (t : Bool) → counted c l ≡ t → Writable c l out
       counts true t = card t (asked card_row (cards.image c.peer)) refl
-      counts false t = absurd (wrote≢refuses (sym e ∙ not-counted c ty l lt t))
+      counts false t = absurd (wrote≢refuses (sym e ∙ not-counted c l t))
 
 -- ---- what is left
 module _ (c : Contact) (l : Lists) (out : List ℕ) where

@@ -1,13 +1,12 @@
 -- How long a contact row is.
 -- Assumes nothing.
-use Rattle.std.specs.Prelude.{ℕ, ◌+◌, ◌*◌, cond}
+use Rattle.std.specs.Prelude.{ℕ, ◌+◌, ◌*◌, Option, Some, None, cond}
 use Rattle.contact.specs.declared.Contact.{Contact}
 use Rattle.contact.specs.declared.SendChain.{SendChain}
-use Rattle.contact.specs.declared.SendChain.TheVariants as send_chain
 
-abbrev pub send_size : SendChain → ℕ
-send_size send_chain.Absent = 1
-send_size (send_chain.Present gen dir idx) = 39
+abbrev pub send_size : Option SendChain → ℕ
+send_size None = 1
+send_size (Some s) = 39
 
 -- of a row whose card, chains and skipped keys have so many bytes
 abbrev pub row_size : Contact → (card chains skipped : ℕ) → ℕ

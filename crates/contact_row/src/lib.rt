@@ -2,8 +2,7 @@
 #![tactic(auto)]
 
 ghost use Rattle.std.specs.Prelude.{◌≡◌, [], ◌+◌, ◌*◌, ◌/◌, ◌^◌, ◌≤◌, ◌<◌, take};
-ghost use Rattle.rows.specs.Answers.{written_says};
-ghost use Rattle.rows.specs.Answers as answers;
+ghost use Rattle.layout.specs.Says.{written_says, leaves};
 ghost use Rattle.received.specs.Lent.{pairs};
 ghost use Rattle.contact_lent.specs.Lent.{chains_of, skipped_of};
 ghost use Rattle.contact.specs.Consistent.{chains_refusal, numbers_refusal, inconsistency, refusal_in};
@@ -13,8 +12,7 @@ ghost use Rattle.contact_image.specs.Row.{ChainsLent, NumbersLent, contact_in, a
 ghost use Rattle.contact_row.specs.Sizes.{send_size, row_size};
 
 use contact::{Contact, SendChain};
-use layout::question;
-use rows::{Verdict, Written};
+use layout::Question;
 
 // The most items that a count of a row says.
 const MAX_COUNT: usize = 65_535;
@@ -23,10 +21,7 @@ const MAX_COUNT: usize = 65_535;
 fn within(count: usize, items: usize) -> bool
     ensures { result ≡ within count items }
 {
-    if count <= items {
-        return count <= MAX_COUNT;
-    }
-    false
+    count <= items && count <= MAX_COUNT
 }
 
 // Question 36, of lists of these lengths.
@@ -40,80 +35,70 @@ fn counts_fit(
 ) -> bool
     ensures { result ≡ counted (counts_of contact) (counts chains skipped above unacked expired) }
 {
-    if !within(contact.chains, chains / contact_lent::CHAIN_PLACE) {
-        return false;
-    }
-    if !within(contact.skipped, skipped / contact_lent::SKIPPED_PLACE) {
-        return false;
-    }
-    if !within(contact.above, above / 2) {
-        return false;
-    }
-    if !within(contact.unacked, unacked) {
-        return false;
-    }
-    within(contact.expired, expired / 2)
+    within(contact.chains, chains / contact_lent::CHAIN_PLACE)
+        && within(contact.skipped, skipped / contact_lent::SKIPPED_PLACE)
+        && within(contact.above, above / 2)
+        && within(contact.unacked, unacked)
+        && within(contact.expired, expired / 2)
 }
 
 // Questions 54 and 17 to 20, of lent chains and skipped keys that no question refused.
-fn chains_consistent(contact: Contact, chains: &[u8], skipped: &[u8]) -> Verdict
+fn chains_consistent(contact: Contact, chains: &[u8], skipped: &[u8]) -> Result<(), Question>
     requires { ChainsLent contact (lists chains.now skipped.now [] [] []) }
     ensures { refusal_in result ≡ chains_refusal (chains_of contact.chains chains.now) (skipped_of contact.skipped skipped.now) }
 {
     if rows::MAX_CHAINS < contact.chains {
-        return Verdict::Refused(question::CHAINS_COUNT);
+        return Err(Question::ChainsCount);
     }
     let asked = contact_checks::chains_lent(chains, contact.chains);
     if !asked.one_current {
-        return Verdict::Refused(question::CHAINS_CURRENT);
+        return Err(Question::ChainsCurrent);
     }
     if !asked.gens_distinct {
-        return Verdict::Refused(question::CHAINS_GENS);
+        return Err(Question::ChainsGens);
     }
     if !contact_checks::skipped_distinct(skipped, 0, contact.skipped) {
-        return Verdict::Refused(question::SKIPPED_KEYS);
+        return Err(Question::SkippedKeys);
     }
     if rows::MAX_SKIPPED < contact.skipped {
-        return Verdict::Refused(question::SKIPPED_COUNT);
+        return Err(Question::SkippedCount);
     }
-    Verdict::Accepted
+    Ok(())
 }
 
 // Questions 21 to 24, of lent numbers.
-fn numbers_consistent(contact: Contact, above: &[u32], unacked: &[u32], expired: &[u32]) -> Verdict
+fn numbers_consistent(
+    contact: Contact,
+    above: &[u32],
+    unacked: &[u32],
+    expired: &[u32],
+) -> Result<(), Question>
     requires { NumbersLent contact (lists [] [] above.now unacked.now expired.now) }
     ensures { refusal_in result ≡ numbers_refusal contact.sent_msgno contact.peer_acked contact.contiguous
         (pairs contact.above above.now) (take contact.unacked unacked.now) (pairs contact.expired expired.now) }
 {
     let sent = contact.sent_msgno;
     if sent < contact.peer_acked {
-        return Verdict::Refused(question::PEER_ACKED);
+        return Err(Question::PeerAcked);
     }
     if !contact_checks::rising_lent(unacked, contact.unacked, sent) {
-        return Verdict::Refused(question::UNACKED);
+        return Err(Question::Unacked);
     }
     let from = width::wide(contact.contiguous) + 2;
     if !contact_checks::canonical_lent(above, contact.above, from, u32::MAX) {
-        return Verdict::Refused(question::ABOVE);
+        return Err(Question::Above);
     }
     if !contact_checks::canonical_lent(expired, contact.expired, 1, sent) {
-        return Verdict::Refused(question::EXPIRED);
+        return Err(Question::Expired);
     }
-    Verdict::Accepted
+    Ok(())
 }
 
 // The bytes of the send chain, and its flag.
-fn send_size(send: SendChain) -> usize
+fn send_size(send: Option<SendChain>) -> usize
     ensures { (result ≡ send_size send) × (result ≤ 39) }
 {
-    match send {
-        SendChain::Absent => 1,
-        SendChain::Present {
-            gen_: _,
-            dir: _,
-            idx: _,
-        } => 39,
-    }
+    if send.is_some() { 39 } else { 1 }
 }
 
 // The row's length, from those of its card, its chains and its skipped keys.
@@ -121,8 +106,7 @@ fn row_size(contact: Contact, card: usize, chains: usize, skipped: usize) -> usi
     requires { (card < 256 ^ 2) × (chains < 2 ^ 32) × (skipped < 2 ^ 32) × (contact.above ≤ 65535) × (contact.unacked ≤ 65535) × (contact.expired ≤ 65535) }
     ensures { result ≡ row_size contact card chains skipped }
 {
-    let send = contact.send;
-    let fixed = 251 + card + chains + skipped + send_size(send);
+    let fixed = 251 + card + chains + skipped + send_size(contact.send);
     let numbers = 8 * contact.above + 4 * contact.unacked + 8 * contact.expired;
     if contact.pending {
         return fixed + 65 + numbers;
@@ -138,14 +122,11 @@ fn consistent_lent(
     above: &[u32],
     unacked: &[u32],
     expired: &[u32],
-) -> Verdict
+) -> Result<(), Question>
     requires { ChainsLent contact (lists chains.now skipped.now [] [] []) × NumbersLent contact (lists [] [] above.now unacked.now expired.now) }
     ensures { refusal_in result ≡ inconsistency (contact_in contact (lists chains.now skipped.now above.now unacked.now expired.now)) }
 {
-    let first = chains_consistent(contact, chains, skipped);
-    let Verdict::Accepted = first else {
-        return first;
-    };
+    chains_consistent(contact, chains, skipped)?;
     numbers_consistent(contact, above, unacked, expired)
 }
 
@@ -157,7 +138,7 @@ pub fn contact_size(
     above: &[u32],
     unacked: &[u32],
     expired: &[u32],
-) -> Written
+) -> Result<usize, Question>
     ensures { written_says result ≡ asked_contact contact (lists chains.now skipped.now above.now unacked.now expired.now) }
 {
     contact_image::typed(contact);
@@ -169,26 +150,13 @@ pub fn contact_size(
         unacked.len(),
         expired.len(),
     ) {
-        return Written::Refused(question::LISTS);
+        return Err(Question::Lists);
     }
-    let peer = contact.peer;
-    let card = card::card_size(peer);
-    let Written::Length(card_len) = card else {
-        return card;
-    };
-    let chain_bytes = contact_lent::chains_size(chains, contact.chains);
-    let Written::Length(chains_len) = chain_bytes else {
-        return chain_bytes;
-    };
-    let skipped_bytes = contact_lent::skipped_size(skipped, contact.skipped);
-    let Written::Length(skipped_len) = skipped_bytes else {
-        return skipped_bytes;
-    };
-    let verdict = consistent_lent(contact, chains, skipped, above, unacked, expired);
-    let Verdict::Refused(q) = verdict else {
-        return Written::Length(row_size(contact, card_len, chains_len, skipped_len));
-    };
-    Written::Refused(q)
+    let card = card::card_size(contact.peer)?;
+    let chain_bytes = contact_lent::chains_size(chains, contact.chains)?;
+    let skipped_bytes = contact_lent::skipped_size(skipped, contact.skipped)?;
+    consistent_lent(contact, chains, skipped, above, unacked, expired)?;
+    Ok(row_size(contact, card, chain_bytes, skipped_bytes))
 }
 
 // Writes the row to the front of the output. A refusal writes nothing.
@@ -200,17 +168,14 @@ pub fn write_contact(
     unacked: &[u32],
     expired: &[u32],
     out: &mut [u8],
-) -> Written
-    ensures { answers.leaves result out.new ≡ writes_contact contact (lists chains.now skipped.now above.now unacked.now expired.now) out.old }
+) -> Result<usize, Question>
+    ensures { leaves result out.new ≡ writes_contact contact (lists chains.now skipped.now above.now unacked.now expired.now) out.old }
 {
     contact_image::typed(contact);
-    let size = contact_size(contact, chains, skipped, above, unacked, expired);
-    let Written::Length(n) = size else {
-        return size;
-    };
+    let n = contact_size(contact, chains, skipped, above, unacked, expired)?;
     if out.len() < n {
-        return Written::Refused(question::OUTPUT);
+        return Err(Question::Output);
     }
     contact_image::put_row(out, contact, chains, skipped, above, unacked, expired);
-    Written::Length(n)
+    Ok(n)
 }

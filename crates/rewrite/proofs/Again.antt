@@ -1,48 +1,49 @@
--- A row read and written again: what the verdict says of the definition, and that what is written is the row.
+-- A row read and written again: what a reader's answer says of the definition, and that what is written is the row.
 -- Assumes nothing.
 use Prim.Native.Nat.{ℕ}
 use mathlib.Core.List.{List}
-use mathlib.Core.Path.{◌≡◌, refl, sym, ap, subst, ◌∙◌}
+use mathlib.Core.Path.{◌≡◌, refl, sym, subst}
 use Rattle.layout.specs.Layout.{Layout, Answer, accepted, refused_by, read_row}
 use Rattle.layout.specs.RowLaws.{Bytes}
+use Rattle.layout.specs.Says.{made}
 use Rattle.layout.specs.Write.{Left, refuses, stored, judged, writes}
 use Rattle.layout.specs.Write as write
+use Rattle.layout.proofs.Theorems.{accepted≢}
 use Rattle.rows.specs.Values as value
 use Rattle.rows.specs.Rows.{device}
-use Rattle.rows.specs.Answers.{verdict_of}
-use Rattle.rows.specs.declared.Verdict.TheVariants.{Accepted, Refused}
 use Rattle.rows.proofs.Proved.{proved}
-use Rattle.rows.proofs.RoundTrip.{three, rewritten, accepted-not}
+use Rattle.rows.proofs.RoundTrip.{three, rewritten}
 use Rattle.device_row.specs.Row as spec
-use Rattle.device_row.specs.Row.{device_read, image}
-use Rattle.device_row.specs.declared.DeviceRead.{DeviceRead}
+use Rattle.device_row.specs.Row.{device_of, image}
+use Rattle.device_row.specs.declared.Device.{Device}
 
-module _ {A : Type 0} (l : Layout A) (row out : List ℕ) where
-  refused-by : (a : Answer A) {q : ℕ} → verdict_of a ≡ Refused q → judged a row out ≡ record { answer = refuses q; out = out }
-  refused-by (accepted v) e = absurd (accepted-not e)
-  refused-by (refused_by p) e = cc
-
-  pub refused-row : {q : ℕ} → verdict_of (read_row l row) ≡ Refused q → record { answer = refuses q; out = out } ≡ writes l row out
+module _ {A B : Type 0} (f : A → B) (l : Layout A) (row out : List ℕ) where
+  pub refused-row : {q : ℕ} → refused_by q ≡ made f (read_row l row) → ◌≡◌ {A = Left} (record { answer = refuses q; out = out }) (writes l row out)
   unfolding write.writes
-  refused-row e = sym (refused-by (read_row l row) e)
-
-  stored-by : (a : Answer A) → verdict_of a ≡ Accepted → judged a row out ≡ stored row out
-  stored-by (accepted v) e = refl
-  stored-by (refused_by p) e = absurd (accepted-not (sym e))
+  refused-row {q} told = go (read_row l row) told
+    where
+      go : (a : Answer A) → refused_by q ≡ made f a → ◌≡◌ {A = Left} (record { answer = refuses q; out = out }) (judged a row out)
+      go (accepted v) e = absurd (accepted≢ (sym e))
+      go (refused_by p) e = cc
 
   -- what a writer left that stores the row
-  pub granted-row : verdict_of (read_row l row) ≡ Accepted → {left : Left} → left ≡ stored row out → left ≡ writes l row out
+  pub granted-row : {b : B} → accepted b ≡ made f (read_row l row) → {left : Left} → left ≡ stored row out → left ≡ writes l row out
   unfolding write.writes
-  granted-row e w = w ∙ sym (stored-by (read_row l row) e)
+  granted-row {b} told {left} w = go (read_row l row) told
+    where
+      go : (a : Answer A) → accepted b ≡ made f a → left ≡ judged a row out
+      go (accepted v) e = w
+      go (refused_by p) e = absurd (accepted≢ e)
 
 -- the law of queued and courier rows, of a device row
-pub device-read-write : (version : ℕ) (row : List ℕ) → Bytes row → (read : DeviceRead) → read ≡ device_read (read_row (device version) row) → read.verdict ≡ Accepted
-    → (out : List ℕ) → writes (device 3) (image read.device) out ≡ stored row out
+pub device-read-write : (version : ℕ) (row : List ℕ) → Bytes row → {read : Device} → accepted read ≡ made device_of (read_row (device version) row)
+    → (out : List ℕ) → writes (device 3) (image read) out ≡ stored row out
 unfolding spec.image
-device-read-write version row by read r accept out = go (read_row (device version) row) refl r
+device-read-write version row by {read} told out = go (read_row (device version) row) refl told
   where
-    go : (a : Answer value.Device) → read_row (device version) row ≡ a → read ≡ device_read a → writes (device 3) (image read.device) out ≡ stored row out
+    go : (a : Answer value.Device) → read_row (device version) row ≡ a → accepted read ≡ made device_of a → writes (device 3) (image read) out ≡ stored row out
     go (accepted v) e h =
         let known : read_row (device 3) row ≡ accepted v = subst (λ (n : ℕ). read_row (device n) row ≡ accepted v) (three _ version row e) e in
-        ap (λ (x : DeviceRead). writes (device 3) (image x.device) out) h ∙ rewritten (device 3) (proved.device 3).laws row by v known out
-    go (refused_by p) e h = absurd (accepted-not {q = p} (sym accept ∙ ap (λ (x : DeviceRead). x.verdict) h))
+        let same : read ≡ device_of v = cc in
+        rw same (rewritten (device 3) (proved.device 3).laws row by v known out)
+    go (refused_by p) e h = absurd (accepted≢ h)

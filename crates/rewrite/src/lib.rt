@@ -5,46 +5,33 @@ ghost use Rattle.std.specs.Prelude.{◌≡◌};
 ghost use Rattle.layout.specs.Layout.{read_row};
 ghost use Rattle.layout.specs.Write.{writes};
 ghost use Rattle.rows.specs.Rows.{device, queued, courier, contact};
-ghost use Rattle.rows.specs.Answers.{written_says, leaves};
+ghost use Rattle.layout.specs.Says.{written_says, leaves};
+ghost use Rattle.layout.specs.Questions.{number_of};
 ghost use Rattle.contact.specs.Contact.{lists, lists_before, lists_after};
 ghost use Rattle.rewrite.specs.Rewrite as spec;
 ghost use Rattle.rewrite.specs.Rewrite.{without_room, rewrites};
 
-use contact::{Contact, ContactCheck};
-use layout::question;
-use rows::{Verdict, Written};
+use contact::Contact;
+use layout::Question;
 
-pub fn rewrite_device(version: u32, row: &[u8], out: &mut [u8]) -> Written
+pub fn rewrite_device(version: u32, row: &[u8], out: &mut [u8]) -> Result<usize, Question>
     ensures { leaves result out.new ≡ writes (device version) row.now out.old }
 {
-    let read = device_row::read_device(version, row);
-    let verdict = read.verdict;
-    if let Verdict::Refused(number) = verdict {
-        return Written::Refused(number);
-    }
-    read.device.row(out)
+    device_row::read_device(version, row)?.row(out)
 }
 
-pub fn rewrite_queued(version: u32, row: &[u8], out: &mut [u8]) -> Written
+pub fn rewrite_queued(version: u32, row: &[u8], out: &mut [u8]) -> Result<usize, Question>
     ensures { leaves result out.new ≡ writes (queued version) row.now out.old }
 {
-    let read = queued_row::read_queued(version, row);
-    let verdict = read.verdict;
-    if let Verdict::Refused(number) = verdict {
-        return Written::Refused(number);
-    }
+    let read = queued_row::read_queued(version, row)?;
     let sealed = sealed::sealed_text(row, read.sealed_at);
     read.queued.row(sealed, out)
 }
 
-pub fn rewrite_courier(version: u32, row: &[u8], out: &mut [u8]) -> Written
+pub fn rewrite_courier(version: u32, row: &[u8], out: &mut [u8]) -> Result<usize, Question>
     ensures { leaves result out.new ≡ writes (courier version) row.now out.old }
 {
-    let read = courier_row::read_courier(version, row);
-    let verdict = read.verdict;
-    if let Verdict::Refused(number) = verdict {
-        return Written::Refused(number);
-    }
+    let read = courier_row::read_courier(version, row)?;
     let sealed = sealed::sealed_text(row, read.sealed_at);
     read.held.row(sealed, out)
 }
@@ -58,14 +45,14 @@ fn without_room(
     above: &[u32],
     unacked: &[u32],
     expired: &[u32],
-) -> u8
-    ensures { result ≡ without_room (read_row (contact version) row.now) (lists chains.now skipped.now above.now unacked.now expired.now) }
+) -> Question
+    ensures { number_of result ≡ without_room (read_row (contact version) row.now) (lists chains.now skipped.now above.now unacked.now expired.now) }
 {
-    let check = contact::check_contact(version, row);
-    let ContactCheck::Fields(at) = check else {
-        return check.refusal();
+    let at = match contact::check_contact(version, row) {
+        Ok(at) => at,
+        Err(refusal) => return refusal,
     };
-    if !contact::long_enough(
+    if contact::long_enough(
         at,
         chains.len(),
         skipped.len(),
@@ -73,9 +60,9 @@ fn without_room(
         unacked.len(),
         expired.len(),
     ) {
-        return question::LISTS;
+        return Question::Output;
     }
-    question::OUTPUT
+    Question::Lists
 }
 
 // Reads a contact row into the lent lists too. Room for the row is asked before the first list is filled.
@@ -88,20 +75,13 @@ pub fn rewrite_contact(
     unacked: &mut [u32],
     expired: &mut [u32],
     out: &mut [u8],
-) -> Written
+) -> Result<usize, Question>
     ensures { spec.leaves (written_says result) (lists_after chains skipped above unacked expired) out.new
         ≡ rewrites version row.now (lists_before chains skipped above unacked expired) out.old }
 {
     if out.len() < row.len() {
-        return Written::Refused(without_room(
-            version, row, chains, skipped, above, unacked, expired,
-        ));
+        return Err(without_room(version, row, chains, skipped, above, unacked, expired));
     }
-    let read = Contact::decode(version, row, chains, skipped, above, unacked, expired);
-    let verdict = read.verdict;
-    if let Verdict::Refused(number) = verdict {
-        return Written::Refused(number);
-    }
-    let contact = read.contact;
+    let contact = Contact::decode(version, row, chains, skipped, above, unacked, expired)?;
     contact_row::write_contact(contact, chains, skipped, above, unacked, expired, out)
 }

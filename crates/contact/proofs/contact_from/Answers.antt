@@ -2,6 +2,7 @@
 use Prim.Native.Nat.{ℕ}
 use mathlib.Core.List.{List}
 use mathlib.Core.Path.{◌≡◌, sym}
+use native.Mathlib.Omega.{arith}
 use lib.ListN.{length}
 use Rattle.layout.specs.Form.{Form, u32}
 use Rattle.layout.specs.Layout.{group}
@@ -19,8 +20,8 @@ use Rattle.contact.proofs.contact_from.Goals as goal
 count : {B : Type 0} (f : Form B) → Lawful f → (row : List ℕ) → Bytes row → (l : ListAt) → ListIn f row l → l.count ≡ length (list_in f row l)
 count f law row by l h = sym (listed-fits f law by h).0
 
-pub copy_32-requires-4 : goal.copy_32-requires-4
-copy_32-requires-4 c = c.requires.chain_key
+pub copy_array-requires-7 : goal.copy_array-requires-7
+copy_array-requires-7 c = (omega arith, c.requires.chain_key)
 
 pub returns : goal.returns
 returns c =
@@ -45,13 +46,13 @@ returns c =
       verification = at.paired.verification;
       pending = (c.pending_from-pending.ensures i).present;
       peer = c.peer_from.ensures i;
-      pair_id = c.copy_16.ensures i;
-      th = c.copy_48.ensures i;
-      nonce_b = c.copy_16-2.ensures i;
-      door_a_to_b = c.copy_32.ensures i;
-      door_b_to_a = c.copy_32-2.ensures i;
-      route_key = c.copy_32-3.ensures i;
-      chain_key = c.copy_32-4.ensures i;
+      pair_id = c.copy_array.ensures i;
+      th = c.copy_array-2.ensures i;
+      nonce_b = c.copy_array-3.ensures i;
+      door_a_to_b = c.copy_array-4.ensures i;
+      door_b_to_a = c.copy_array-5.ensures i;
+      route_key = c.copy_array-6.ensures i;
+      chain_key = c.copy_array-7.ensures i;
       pending_chain_key = (c.pending_from-pending.ensures i).chain_key;
       pending_msg_seed = (c.pending_from-pending.ensures i).msg_seed;
       send_key = (c.send_from-send.ensures i).key;

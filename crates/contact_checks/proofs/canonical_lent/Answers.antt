@@ -1,44 +1,40 @@
 -- `contact_checks::canonical_lent` meets its contract. The invariant: the ranges from the i-th on answer as all of them.
-use Prim.Native.Nat.{◌+◌, ◌*◌}
+use Prim.Native.Nat.{◌+◌}
 use mathlib.Core.List.{◌∷◌}
 use mathlib.Core.Path.{◌≡◌, refl}
-use native.Mathlib.Omega.{arith}
 use lib.ListN.{drop}
-use borrow.Author.Rules.{rules}
 use Rattle.received.specs.Lent.{pairs}
-use Rattle.received.proofs.Pairs.{pair, drop-pairs, drop-pairs-all}
+use Rattle.received.proofs.Pairs.{drop-pairs, drop-pairs-all}
 use Rattle.contact_checks.proofs.Turns.{ordered-turned, ordered-low, ordered-high, ordered-on, ordered_end}
 use Rattle.contact_checks.proofs.canonical_lent.Goals as goal
 
 pub loop-i-init : goal.loop-i-init
-loop-i-init c = (search rules, record { so = refl })
-
-pub overflow_cast-a : goal.overflow_cast-a
-overflow_cast-a c = omega (arith, c.type_inv.list (2 * c.loop-i.i))
-
-pub overflow_cast-b : goal.overflow_cast-b
-overflow_cast-b c = omega (arith, c.type_inv.list (2 * c.loop-i.i + 1))
+loop-i-init c = record { so = refl }
 
 pub returns-then-b-a : goal.returns-then-b-a
 returns-then-b-a c =
-    let here : let a = c.args in drop c.loop-i.i (pairs a.count a.list.now) ≡ pair a.list.now c.loop-i.i ∷ drop (c.loop-i.i + 1) (pairs a.count a.list.now) = drop-pairs c.args.list.now c.args.count c.loop-i.i c.loop-i-test.true c.requires.0 in
-    ordered-turned c.loop-i.invariant.1 here c.if-b-a.true
+    let here : drop c.loop-i.i (pairs c.args.count c.args.list.now) ≡ record { from = c.from-a.result; to = c.from-b.result } ∷ drop (c.loop-i.i + 1) (pairs c.args.count c.args.list.now) =
+    rw (c.from-a.ensures, c.from-b.ensures) (drop-pairs c.args.list.now c.args.count c.loop-i.i c.loop-i-test.true c.requires.0) in
+    ordered-turned c.loop-i.invariant here c.if-b-a.true
 
 pub returns-then-a-low : goal.returns-then-a-low
 returns-then-a-low c =
-    let here : let a = c.args in drop c.loop-i.i (pairs a.count a.list.now) ≡ pair a.list.now c.loop-i.i ∷ drop (c.loop-i.i + 1) (pairs a.count a.list.now) = drop-pairs c.args.list.now c.args.count c.loop-i.i c.loop-i-test.true c.requires.0 in
-    ordered-low c.loop-i.invariant.1 here c.if-b-a.false c.if-a-low.true
+    let here : drop c.loop-i.i (pairs c.args.count c.args.list.now) ≡ record { from = c.from-a.result; to = c.from-b.result } ∷ drop (c.loop-i.i + 1) (pairs c.args.count c.args.list.now) =
+    rw (c.from-a.ensures, c.from-b.ensures) (drop-pairs c.args.list.now c.args.count c.loop-i.i c.loop-i-test.true c.requires.0) in
+    ordered-low c.loop-i.invariant here c.if-b-a.false c.if-a-low.true
 
 pub returns-then-high-b : goal.returns-then-high-b
 returns-then-high-b c =
-    let here : let a = c.args in drop c.loop-i.i (pairs a.count a.list.now) ≡ pair a.list.now c.loop-i.i ∷ drop (c.loop-i.i + 1) (pairs a.count a.list.now) = drop-pairs c.args.list.now c.args.count c.loop-i.i c.loop-i-test.true c.requires.0 in
-    ordered-high c.loop-i.invariant.1 here c.if-b-a.false c.if-a-low.false c.if-high-b.true
+    let here : drop c.loop-i.i (pairs c.args.count c.args.list.now) ≡ record { from = c.from-a.result; to = c.from-b.result } ∷ drop (c.loop-i.i + 1) (pairs c.args.count c.args.list.now) =
+    rw (c.from-a.ensures, c.from-b.ensures) (drop-pairs c.args.list.now c.args.count c.loop-i.i c.loop-i-test.true c.requires.0) in
+    ordered-high c.loop-i.invariant here c.if-b-a.false c.if-a-low.false c.if-high-b.true
 
 pub loop-i-preserved : goal.loop-i-preserved
 loop-i-preserved c =
-    let here : let a = c.args in drop c.loop-i.i (pairs a.count a.list.now) ≡ pair a.list.now c.loop-i.i ∷ drop (c.loop-i.i + 1) (pairs a.count a.list.now) = drop-pairs c.args.list.now c.args.count c.loop-i.i c.loop-i-test.true c.requires.0 in
-    (search rules, ordered-on c.loop-i.invariant.1 here c.if-b-a.false c.if-a-low.false c.if-high-b.false)
+    let here : drop c.loop-i.i (pairs c.args.count c.args.list.now) ≡ record { from = c.from-a.result; to = c.from-b.result } ∷ drop (c.loop-i.i + 1) (pairs c.args.count c.args.list.now) =
+    rw (c.from-a.ensures, c.from-b.ensures) (drop-pairs c.args.list.now c.args.count c.loop-i.i c.loop-i-test.true c.requires.0) in
+    ordered-on c.loop-i.invariant here c.if-b-a.false c.if-a-low.false c.if-high-b.false
 
 pub returns : goal.returns
 returns c =
-    ordered_end c.loop-i.invariant.1 (drop-pairs-all c.args.list.now c.args.count c.loop-i.i c.loop-i-test.false c.requires.0)
+    ordered_end c.loop-i.invariant (drop-pairs-all c.args.list.now c.args.count c.loop-i.i c.loop-i-test.false c.requires.0)

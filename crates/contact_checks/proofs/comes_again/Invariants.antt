@@ -1,5 +1,5 @@
--- `contact_checks::comes_again` meets its contract. The invariant: the keys from the i-th on answer as all of them.
-use Prim.Native.Nat.{◌-◌, ◌≤◌}
+-- `contact_checks::comes_again`: the keys from the i-th on answer as all of them.
+use Prim.Native.Nat.{◌+◌, ◌-◌, ◌*◌}
 use lib.ListN.{drop}
 use lib.Dec.{eqb}
 use Rattle.rows.specs.Checks.{any}
@@ -8,7 +8,4 @@ use Rattle.contact_checks.proofs.Turns.{Among}
 use Rattle.contact_checks.proofs.comes_again.Given as goal
 
 abbrev pub invariant-loop-i : goal.invariant-loop-i
-invariant-loop-i l = (l.i ≤ l.count) × KeysStand (l.count - l.i) (drop l.p l.bytes) × Among l.key (key_numbers (l.count - l.i) (drop l.p l.bytes)) (any (eqb l.key) (key_numbers l.count (drop l.first l.bytes)))
-
-abbrev pub decreases-loop-i : goal.decreases-loop-i
-decreases-loop-i l = l.count - l.i
+invariant-loop-i l = KeysStand (l.count - l.i) (drop (l.first + 46 * l.i) l.bytes) × Among l.key (key_numbers (l.count - l.i) (drop (l.first + 46 * l.i) l.bytes)) (any (eqb l.key) (key_numbers l.count (drop l.first l.bytes)))

@@ -1,4 +1,4 @@
--- `contact_checks::gens_distinct` meets its contract. The invariant: the chains from the i-th on answer as all of them.
+-- `contact_checks::gens_distinct` meets its contract. The invariant: the chains that are left answer as all of them.
 use Prim.Native.Nat.{◌+◌, ◌-◌, ◌≤◌}
 use mathlib.Core.List.{◌∷◌}
 use mathlib.Core.Path.{◌≡◌, refl}
@@ -13,50 +13,49 @@ use Rattle.contact_checks.proofs.Chains.{gen-at, width-least}
 use Rattle.contact_checks.proofs.Cells.{Turn, turn, none_left}
 use Rattle.contact_checks.proofs.gens_distinct.Goals as goal
 
-pub loop-i-init : goal.loop-i-init
-loop-i-init c =
+pub loop-init : goal.loop-init
+loop-init c =
     let a = c.args in
     let part = drop a.first a.bytes.now in
     let by = bytes_drop a.first a.bytes.now (typed a.bytes.now c.type_inv.bytes) in
-    rw sub-zero (omega arith, c.requires, refl, record { so = fresh-distinct 256 (gens a.padded a.count part) (gens-within a.padded a.count part by) })
+    rw sub-zero (c.requires, refl, record { so = fresh-distinct 256 (gens a.padded a.count part) (gens-within a.padded a.count part by) })
 
 pub bounds-bytes-p : goal.bounds-bytes-p
 bounds-bytes-p c =
-    let turned : Turn (chain_width c.args.padded) gen_at c.args.bytes.now c.args.count c.loop-i.i c.loop-i.p = turn (chain_width c.args.padded) gen_at c.args.bytes.now c.args.count c.loop-i.i c.loop-i.p c.loop-i-test.true c.loop-i.invariant.1 in
-    let long : 43 ≤ chain_width c.args.padded (drop c.loop-i.p c.args.bytes.now) = width-least c.args.bytes.now c.loop-i.p c.args.padded in
+    let turned : Turn (chain_width c.args.padded) gen_at c.args.bytes.now c.args.count c.loop.counter c.loop.p = turn (chain_width c.args.padded) gen_at c.args.bytes.now c.args.count c.loop.counter c.loop.p c.loop-test.true c.loop.invariant.0 in
+    let long : 43 ≤ chain_width c.args.padded (drop c.loop.p c.args.bytes.now) = width-least c.args.bytes.now c.loop.p c.args.padded in
     omega (arith, turned.fits, long)
 
 pub overflow_cast-g : goal.overflow_cast-g
-overflow_cast-g c = omega (arith, c.type_inv.bytes c.loop-i.p)
+overflow_cast-g c = omega (arith, c.type_inv.bytes c.loop.p)
 
 pub bounds-seen-g : goal.bounds-seen-g
-bounds-seen-g c = omega (arith, c.type_inv.bytes c.loop-i.p)
+bounds-seen-g c = omega (arith, c.type_inv.bytes c.loop.p)
 
 pub returns-then-seen-g : goal.returns-then-seen-g
 returns-then-seen-g c =
-    let turned : Turn (chain_width c.args.padded) gen_at c.args.bytes.now c.args.count c.loop-i.i c.loop-i.p = turn (chain_width c.args.padded) gen_at c.args.bytes.now c.args.count c.loop-i.i c.loop-i.p c.loop-i-test.true c.loop-i.invariant.1 in
-    let here : gens c.args.padded (c.args.count - c.loop-i.i) (drop c.loop-i.p c.args.bytes.now) ≡ get_or c.args.bytes.now c.loop-i.p 0 ∷ gens c.args.padded (c.args.count - (c.loop-i.i + 1)) (drop (c.loop-i.p + chain_width c.args.padded (drop c.loop-i.p c.args.bytes.now)) c.args.bytes.now) = rw (← gen-at c.args.bytes.now c.loop-i.p) turned.here in
-    unseen-again c.loop-i.invariant.3 here c.if-seen-g.true
+    let turned : Turn (chain_width c.args.padded) gen_at c.args.bytes.now c.args.count c.loop.counter c.loop.p = turn (chain_width c.args.padded) gen_at c.args.bytes.now c.args.count c.loop.counter c.loop.p c.loop-test.true c.loop.invariant.0 in
+    let here : gens c.args.padded (c.args.count - c.loop.counter) (drop c.loop.p c.args.bytes.now) ≡ get_or c.args.bytes.now c.loop.p 0 ∷ gens c.args.padded (c.args.count - (c.loop.counter + 1)) (drop (c.loop.p + chain_width c.args.padded (drop c.loop.p c.args.bytes.now)) c.args.bytes.now) = rw (← gen-at c.args.bytes.now c.loop.p) turned.here in
+    unseen-again c.loop.invariant.2 here c.if-seen-g.true
 
-pub bounds-seen-g-in-loop-i : goal.bounds-seen-g-in-loop-i
-bounds-seen-g-in-loop-i c = omega (arith, c.type_inv.bytes c.loop-i.p)
+pub bounds-seen-g-in-loop : goal.bounds-seen-g-in-loop
+bounds-seen-g-in-loop c = omega (arith, c.type_inv.bytes c.loop.p)
 
 pub after_chain-p-requires : goal.after_chain-p-requires
 after_chain-p-requires c =
-    let turned : Turn (chain_width c.args.padded) gen_at c.args.bytes.now c.args.count c.loop-i.i c.loop-i.p = turn (chain_width c.args.padded) gen_at c.args.bytes.now c.args.count c.loop-i.i c.loop-i.p c.loop-i-test.true c.loop-i.invariant.1 in
-    let long : 43 ≤ chain_width c.args.padded (drop c.loop-i.p c.args.bytes.now) = width-least c.args.bytes.now c.loop-i.p c.args.padded in
+    let turned : Turn (chain_width c.args.padded) gen_at c.args.bytes.now c.args.count c.loop.counter c.loop.p = turn (chain_width c.args.padded) gen_at c.args.bytes.now c.args.count c.loop.counter c.loop.p c.loop-test.true c.loop.invariant.0 in
+    let long : 43 ≤ chain_width c.args.padded (drop c.loop.p c.args.bytes.now) = width-least c.args.bytes.now c.loop.p c.args.padded in
     omega (arith, turned.fits, long)
 
-pub loop-i-preserved : goal.loop-i-preserved
-loop-i-preserved c =
-    let turned : Turn (chain_width c.args.padded) gen_at c.args.bytes.now c.args.count c.loop-i.i c.loop-i.p = turn (chain_width c.args.padded) gen_at c.args.bytes.now c.args.count c.loop-i.i c.loop-i.p c.loop-i-test.true c.loop-i.invariant.1 in
-    let here : gens c.args.padded (c.args.count - c.loop-i.i) (drop c.loop-i.p c.args.bytes.now) ≡ get_or c.args.bytes.now c.loop-i.p 0 ∷ gens c.args.padded (c.args.count - (c.loop-i.i + 1)) (drop (c.loop-i.p + chain_width c.args.padded (drop c.loop-i.p c.args.bytes.now)) c.args.bytes.now) = rw (← gen-at c.args.bytes.now c.loop-i.p) turned.here in (
-      omega arith,
+pub loop-preserved : goal.loop-preserved
+loop-preserved c =
+    let turned : Turn (chain_width c.args.padded) gen_at c.args.bytes.now c.args.count c.loop.counter c.loop.p = turn (chain_width c.args.padded) gen_at c.args.bytes.now c.args.count c.loop.counter c.loop.p c.loop-test.true c.loop.invariant.0 in
+    let here : gens c.args.padded (c.args.count - c.loop.counter) (drop c.loop.p c.args.bytes.now) ≡ get_or c.args.bytes.now c.loop.p 0 ∷ gens c.args.padded (c.args.count - (c.loop.counter + 1)) (drop (c.loop.p + chain_width c.args.padded (drop c.loop.p c.args.bytes.now)) c.args.bytes.now) = rw (← gen-at c.args.bytes.now c.loop.p) turned.here in (
       rw c.after_chain-p.ensures turned.rooms,
-      simp length-set c.loop-i.invariant.2,
-      rw c.after_chain-p.ensures (unseen-on c.loop-i.invariant.3 here c.if-seen-g.false),
+      simp length-set c.loop.invariant.1,
+      rw c.after_chain-p.ensures (unseen-on c.loop.invariant.2 here c.if-seen-g.false),
     )
 
 pub returns : goal.returns
 returns c =
-    unseen-end c.loop-i.invariant.3 (none_left (chain_width c.args.padded) gen_at c.args.bytes.now c.args.count c.loop-i.i c.loop-i.p c.loop-i-test.false)
+    unseen-end c.loop.invariant.2 (none_left (chain_width c.args.padded) gen_at c.args.bytes.now c.args.count c.loop.counter c.loop.p c.loop-test.false)

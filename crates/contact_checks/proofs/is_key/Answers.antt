@@ -1,4 +1,4 @@
--- `contact_checks::is_place` meets its contract: keys whose last bytes differ are not the same.
+-- `contact_checks::is_key` meets its contract: keys whose last bytes differ are not the same.
 use Prim.Native.Nat.{ℕ, ◌+◌, ◌%◌, ◌<◌}
 use mathlib.Core.List.{List}
 use mathlib.Core.Path.{◌≡◌, sym, ap, ◌∙◌}
@@ -16,8 +16,8 @@ last : (l : List ℕ) (at d : ℕ) → d ≡ get_or l (at + 5) 0 → d < 256 →
 unfolding form.big_endian
 last l at d e small = simp get_or-drop (omega arith)
 
-pub returns-then-wide_byte-key : goal.returns-then-wide_byte-key
-returns-then-wide_byte-key c = ap (eqb c.args.key) c.key_at.ensures.0
+pub returns-then-from-key : goal.returns-then-from-key
+returns-then-from-key c = ap (eqb c.args.key) c.key_at.ensures.0
 
 pub returns : goal.returns
 returns c =
@@ -25,4 +25,4 @@ returns c =
     let at = c.args.at in
     sym
     (ne_eqb c.args.key (key_number (drop at l)) (λ same.
-    c.if-wide_byte-key.false (last l at c.wide_byte.result c.wide_byte.ensures.0 c.wide_byte.ensures.1 ∙ ap (λ (n : ℕ). n % 256) (sym same))))
+    c.if-from-key.false (last l at c.from.result c.from.ensures (omega (arith, c.from.ensures, c.type_inv.bytes (at + 5))) ∙ ap (λ (n : ℕ). n % 256) (sym same))))

@@ -1,4 +1,4 @@
--- `contact_checks::one_current` meets its contract. The invariant: the chains from the i-th on answer as all of them.
+-- `contact_checks::one_current` meets its contract. The invariant: the chains that are left answer as all of them.
 use Prim.Native.Nat.{◌≤◌}
 use mathlib.Core.Path.{refl}
 use native.Mathlib.Omega.{arith}
@@ -10,35 +10,34 @@ use Rattle.contact_checks.proofs.Chains.{width-least}
 use Rattle.contact_checks.proofs.Cells.{Turn, turn, none_left}
 use Rattle.contact_checks.proofs.one_current.Goals as goal
 
-pub loop-i-init : goal.loop-i-init
-loop-i-init c = rw sub-zero (omega arith, c.requires, omega arith, record { so = refl })
+pub loop-init : goal.loop-init
+loop-init c = rw sub-zero (c.requires, omega arith, record { so = refl })
 
 pub current_at-found-requires : goal.current_at-found-requires
 current_at-found-requires c =
-    let turned : Turn (chain_width c.args.padded) superseded_at c.args.bytes.now c.args.count c.loop-i.i c.loop-i.p = turn (chain_width c.args.padded) superseded_at c.args.bytes.now c.args.count c.loop-i.i c.loop-i.p c.loop-i-test.true c.loop-i.invariant.1 in
-    let long : 43 ≤ chain_width c.args.padded (drop c.loop-i.p c.args.bytes.now) = width-least c.args.bytes.now c.loop-i.p c.args.padded in
+    let turned : Turn (chain_width c.args.padded) superseded_at c.args.bytes.now c.args.count c.loop.counter c.loop.p = turn (chain_width c.args.padded) superseded_at c.args.bytes.now c.args.count c.loop.counter c.loop.p c.loop-test.true c.loop.invariant.0 in
+    let long : 43 ≤ chain_width c.args.padded (drop c.loop.p c.args.bytes.now) = width-least c.args.bytes.now c.loop.p c.args.padded in
     omega (arith, turned.fits, long)
 
 pub returns-then-found-gt1 : goal.returns-then-found-gt1
 returns-then-found-gt1 c =
-    let turned : Turn (chain_width c.args.padded) superseded_at c.args.bytes.now c.args.count c.loop-i.i c.loop-i.p = turn (chain_width c.args.padded) superseded_at c.args.bytes.now c.args.count c.loop-i.i c.loop-i.p c.loop-i-test.true c.loop-i.invariant.1 in
-    currents-two c.loop-i.invariant.3 turned.here c.current_at-found.ensures.0 c.if-found-gt1.true
+    let turned : Turn (chain_width c.args.padded) superseded_at c.args.bytes.now c.args.count c.loop.counter c.loop.p = turn (chain_width c.args.padded) superseded_at c.args.bytes.now c.args.count c.loop.counter c.loop.p c.loop-test.true c.loop.invariant.0 in
+    currents-two c.loop.invariant.2 turned.here c.current_at-found.ensures.0 c.if-found-gt1.true
 
 pub after_chain-p-requires : goal.after_chain-p-requires
 after_chain-p-requires c =
-    let turned : Turn (chain_width c.args.padded) superseded_at c.args.bytes.now c.args.count c.loop-i.i c.loop-i.p = turn (chain_width c.args.padded) superseded_at c.args.bytes.now c.args.count c.loop-i.i c.loop-i.p c.loop-i-test.true c.loop-i.invariant.1 in
-    let long : 43 ≤ chain_width c.args.padded (drop c.loop-i.p c.args.bytes.now) = width-least c.args.bytes.now c.loop-i.p c.args.padded in
+    let turned : Turn (chain_width c.args.padded) superseded_at c.args.bytes.now c.args.count c.loop.counter c.loop.p = turn (chain_width c.args.padded) superseded_at c.args.bytes.now c.args.count c.loop.counter c.loop.p c.loop-test.true c.loop.invariant.0 in
+    let long : 43 ≤ chain_width c.args.padded (drop c.loop.p c.args.bytes.now) = width-least c.args.bytes.now c.loop.p c.args.padded in
     omega (arith, turned.fits, long)
 
-pub loop-i-preserved : goal.loop-i-preserved
-loop-i-preserved c =
-    let turned : Turn (chain_width c.args.padded) superseded_at c.args.bytes.now c.args.count c.loop-i.i c.loop-i.p = turn (chain_width c.args.padded) superseded_at c.args.bytes.now c.args.count c.loop-i.i c.loop-i.p c.loop-i-test.true c.loop-i.invariant.1 in (
-      omega arith,
+pub loop-preserved : goal.loop-preserved
+loop-preserved c =
+    let turned : Turn (chain_width c.args.padded) superseded_at c.args.bytes.now c.args.count c.loop.counter c.loop.p = turn (chain_width c.args.padded) superseded_at c.args.bytes.now c.args.count c.loop.counter c.loop.p c.loop-test.true c.loop.invariant.0 in (
       rw c.after_chain-p.ensures turned.rooms,
       omega arith,
-      rw c.after_chain-p.ensures (currents-on c.loop-i.invariant.3 turned.here c.current_at-found.ensures.0),
+      rw c.after_chain-p.ensures (currents-on c.loop.invariant.2 turned.here c.current_at-found.ensures.0),
     )
 
 pub returns : goal.returns
 returns c =
-    currents-end c.loop-i.invariant.3 c.loop-i.invariant.2 (none_left (chain_width c.args.padded) superseded_at c.args.bytes.now c.args.count c.loop-i.i c.loop-i.p c.loop-i-test.false)
+    currents-end c.loop.invariant.2 c.loop.invariant.1 (none_left (chain_width c.args.padded) superseded_at c.args.bytes.now c.args.count c.loop.counter c.loop.p c.loop-test.false)

@@ -1,5 +1,5 @@
--- `contact_checks::rising_in_row` meets its contract. The invariant: the numbers from the i-th on answer as all of them.
-use Prim.Native.Nat.{ℕ, ◌-◌, ◌≤◌}
+-- `contact_checks::rising_in_row`: the numbers from the i-th on answer as all of them.
+use Prim.Native.Nat.{ℕ, ◌+◌, ◌-◌, ◌*◌}
 use mathlib.Core.List.{List}
 use lib.ListN.{drop}
 use Rattle.layout.specs.Form.{big_endian, u32}
@@ -13,7 +13,4 @@ abbrev pub numbers : ℕ → List ℕ → List ℕ
 numbers = cells (λ l. 4) (big_endian 4)
 
 abbrev pub invariant-loop-i : goal.invariant-loop-i
-invariant-loop-i l = (l.i ≤ l.count) × Rooms (λ l. 4) (l.count - l.i) (drop l.p l.row) × Rises l.low l.sent (numbers (l.count - l.i) (drop l.p l.row)) (rising 1 l.sent (items u32 l.count (drop l.first l.row)))
-
-abbrev pub decreases-loop-i : goal.decreases-loop-i
-decreases-loop-i l = l.count - l.i
+invariant-loop-i l = Rooms (λ l. 4) (l.count - l.i) (drop (l.first + 4 * l.i) l.row) × Rises l.low l.sent (numbers (l.count - l.i) (drop (l.first + 4 * l.i) l.row)) (rising 1 l.sent (items u32 l.count (drop l.first l.row)))

@@ -2,6 +2,7 @@
 use Prim.Native.Nat.{ℕ}
 use mathlib.Core.List.{List}
 use mathlib.Core.Path.{◌≡◌, sym, ap, ◌∙◌}
+use native.Mathlib.Omega.{arith}
 use lib.ListN.{drop}
 use lib.Dec.{eqb}
 use Rattle.layout.specs.Layout.{group}
@@ -29,11 +30,11 @@ returns-then-keys_rise c =
     sym (ap (distinct same_key) keys.are ∙ distinct-number c.args.count part (bytes_drop c.args.first row (typed row c.type_inv.bytes))) in
     sym (ascending-distinct 0 (key_numbers c.args.count part) (sym c.keys_rise.ensures ∙ c.if-keys_rise.true)) ∙ asked
 
-pub few_differ-requires : goal.few_differ-requires
-few_differ-requires c =
+pub differ_with-requires : goal.differ_with-requires
+differ_with-requires c =
     let part : List ℕ = drop c.args.first c.args.bytes.now in
     let keys : Many (λ l. 46) key_at key_of c.args.count part (items (group skipped) c.args.count part) = let a = c.args in standing (λ l. 46) key_at key_of (group skipped) skipped-shows a.bytes.now a.first a.count c.requires in
-    keys.rooms
+    (keys.rooms, omega arith)
 
 pub returns-then-count-lt-FEW : goal.returns-then-count-lt-FEW
 returns-then-count-lt-FEW c =
@@ -41,13 +42,13 @@ returns-then-count-lt-FEW c =
     let keys : Many (λ l. 46) key_at key_of c.args.count part (items (group skipped) c.args.count part) = let a = c.args in standing (λ l. 46) key_at key_of (group skipped) skipped-shows a.bytes.now a.first a.count c.requires in
     let asked : distinct eqb (key_numbers c.args.count part) ≡ keys_distinct (items (group skipped) c.args.count part) = let row = c.args.bytes.now in
     sym (ap (distinct same_key) keys.are ∙ distinct-number c.args.count part (bytes_drop c.args.first row (typed row c.type_inv.bytes))) in
-    c.few_differ.ensures ∙ asked
+    c.differ_with.ensures ∙ asked
 
-pub many_differ-requires : goal.many_differ-requires
-many_differ-requires c =
+pub differ_with-requires-2 : goal.differ_with-requires-2
+differ_with-requires-2 c =
     let part : List ℕ = drop c.args.first c.args.bytes.now in
     let keys : Many (λ l. 46) key_at key_of c.args.count part (items (group skipped) c.args.count part) = let a = c.args in standing (λ l. 46) key_at key_of (group skipped) skipped-shows a.bytes.now a.first a.count c.requires in
-    keys.rooms
+    (keys.rooms, omega arith)
 
 pub returns : goal.returns
 returns c =
@@ -55,4 +56,4 @@ returns c =
     let keys : Many (λ l. 46) key_at key_of c.args.count part (items (group skipped) c.args.count part) = let a = c.args in standing (λ l. 46) key_at key_of (group skipped) skipped-shows a.bytes.now a.first a.count c.requires in
     let asked : distinct eqb (key_numbers c.args.count part) ≡ keys_distinct (items (group skipped) c.args.count part) = let row = c.args.bytes.now in
     sym (ap (distinct same_key) keys.are ∙ distinct-number c.args.count part (bytes_drop c.args.first row (typed row c.type_inv.bytes))) in
-    c.many_differ.ensures ∙ asked
+    c.differ_with-2.ensures ∙ asked

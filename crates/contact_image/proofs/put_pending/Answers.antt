@@ -14,19 +14,19 @@ put_byte-chain_key_at-requires c =
     let fit : c.args.at + 65 ≤ length c.args.out.now = omega (arith, pending-long c.args.contact c.typed.ensures.1 c.if-contact.true, c.requires) in
     omega (arith, fit)
 
-pub put_32-msg_seed_at-requires : goal.put_32-msg_seed_at-requires
-put_32-msg_seed_at-requires c =
+pub put_array-msg_seed_at-requires : goal.put_array-msg_seed_at-requires
+put_array-msg_seed_at-requires c =
     let fit : c.args.at + 65 ≤ length c.args.out.now = omega (arith, pending-long c.args.contact c.typed.ensures.1 c.if-contact.true, c.requires) in
-    room 32 (stored c.put_byte-chain_key_at.ensures) (omega (arith, fit))
+    (omega arith, room 32 (stored c.put_byte-chain_key_at.ensures) (omega (arith, fit)))
 
-pub put_32-requires : goal.put_32-requires
-put_32-requires c =
+pub put_array-requires : goal.put_array-requires
+put_array-requires c =
     let fit : c.args.at + 65 ≤ length c.args.out.now = omega (arith, pending-long c.args.contact c.typed.ensures.1 c.if-contact.true, c.requires) in
-    room 32 (stored c.put_byte-chain_key_at.ensures on stored c.put_32-msg_seed_at.ensures) fit
+    (omega arith, room 32 (stored c.put_byte-chain_key_at.ensures on stored c.put_array-msg_seed_at.ensures) fit)
 
 pub returns-then-contact : goal.returns-then-contact
 returns-then-contact c =
-    wrote_as (pending-some c.args.contact c.if-contact.true) (c.put_byte-chain_key_at.ensures.1 then (c.put_32-msg_seed_at.ensures.1 then c.put_32.ensures.1))
+    wrote_as (pending-some c.args.contact c.if-contact.true) (c.put_byte-chain_key_at.ensures.1 then (c.put_array-msg_seed_at.ensures.1 then c.put_array.ensures.1))
 
 pub put_byte-requires : goal.put_byte-requires
 put_byte-requires c = omega (arith, pending-absent c.args.contact c.typed.ensures.1 c.if-contact.false, c.requires)

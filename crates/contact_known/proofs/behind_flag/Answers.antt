@@ -1,28 +1,19 @@
 -- `contact_known::behind_flag` meets its contract.
-use mathlib.Core.Path.{◌≡◌}
-use Rattle.layout.specs.Form.{flag}
-use Rattle.layout.specs.Field.{takes, read_at}
-use Rattle.layout.proofs.At.{learn}
-use Rattle.fields.specs.Says.{run_says, flag_says}
+use Rattle.std.proofs.Common.{Ok}
+use mathlib.Core.Path.{sym, ap}
 use Rattle.contact_known.proofs.Ends.{never, once, flagged-run, flagged-none}
 use Rattle.contact_known.proofs.behind_flag.Goals as goal
 
-pub returns-in_default : goal.returns-in_default
-returns-in_default c = λ t next read inside. absurd (never read (learn flag_says c.flag_at.ensures c.in_default.is))
+pub returns-in_err-present : goal.returns-in_err-present
+returns-in_err-present c = λ t next read inside. absurd (never read (sym c.in_err-present.ensures))
 
-pub returns-in_default-run_at : goal.returns-in_default-run_at
-returns-in_default-run_at c =
-    let said : read_at flag c.args.row.now c.args.at ≡ takes c.in-Value.present c.in-Value.start = learn flag_says c.flag_at.ensures c.in-Value.is in
-    λ t next read inside.
-    absurd (never (flagged-run c.args.row.now c.args.at c.args.n said read c.if-present.true inside) (learn (run_says _ c.args.row.now) c.run_at.ensures.0 c.in_default-run_at.is))
+pub returns-then-not-present : goal.returns-then-not-present
+returns-then-not-present c = λ t next read inside. ap (λ n. Ok n) (flagged-none c.args.row.now c.args.at c.args.n (sym c.in_ok-present.ensures) read c.if-not-present.true)
 
-pub returns-then-present : goal.returns-then-present
-returns-then-present c =
-    let said : read_at flag c.args.row.now c.args.at ≡ takes c.in-Value.present c.in-Value.start = learn flag_says c.flag_at.ensures c.in-Value.is in
-    λ t next read inside.
-    (once (learn (run_says _ c.args.row.now) c.run_at.ensures.0 c.in-Value-run_at.is) (flagged-run c.args.row.now c.args.at c.args.n said read c.if-present.true inside)).1
+pub returns-in_err-_start : goal.returns-in_err-_start
+returns-in_err-_start c = λ t next read inside.
+    absurd (never (flagged-run c.args.row.now c.args.at c.args.n (sym c.in_ok-present.ensures) read c.if-not-present.false inside) (sym c.in_err-_start.ensures.0))
 
 pub returns : goal.returns
-returns c =
-    let said : read_at flag c.args.row.now c.args.at ≡ takes c.in-Value.present c.in-Value.start = learn flag_says c.flag_at.ensures c.in-Value.is in
-    λ t next read inside. flagged-none c.args.row.now c.args.at c.args.n said read c.if-present.false
+returns c = λ t next read inside.
+    ap (λ n. Ok n) (once (sym c.in_ok-_start.ensures.0) (flagged-run c.args.row.now c.args.at c.args.n (sym c.in_ok-present.ensures) read c.if-not-present.false inside)).1

@@ -1,23 +1,21 @@
 -- `contact_known::paired_end` meets its contract: the card's length stands where it does in every row that was read, and the card ends where that says.
-use Rattle.layout.specs.RowLaws.{Bytes}
-use Rattle.layout.proofs.At.{learn, typed}
-use Rattle.fields.specs.Says.{run_says, u16_says}
+use Rattle.std.proofs.Common.{rules, ◌≡◌, Ok}
+use mathlib.Core.Path.{sym, ap}
+use Rattle.layout.proofs.At.{typed}
 use Rattle.contact_known.proofs.Ends.{never, once, card-counted, card-run}
 use Rattle.contact_known.proofs.paired_end.Goals as goal
 
-pub returns-in_default : goal.returns-in_default
-returns-in_default c =
-    let by : Bytes c.args.row.now = typed c.args.row.now c.type_inv.row in
-    λ p next read. absurd (never (card-counted c.args.row.now by read) (learn u16_says c.u16_at.ensures c.in_default.is))
+pub returns-in_err-len : goal.returns-in_err-len
+returns-in_err-len c = λ p next read. absurd (never (card-counted c.args.row.now (typed _ c.type_inv.row) read) (sym c.in_err-len.ensures))
 
-pub returns-in_default-run_at : goal.returns-in_default-run_at
-returns-in_default-run_at c =
-    let by : Bytes c.args.row.now = typed c.args.row.now c.type_inv.row in
-    λ p next read.
-    absurd (never (card-run c.args.row.now by read (learn u16_says c.u16_at.ensures c.in-Value.is)) (learn (run_says _ c.args.row.now) c.run_at.ensures.0 c.in_default-run_at.is))
+pub returns-in_err-_card : goal.returns-in_err-_card
+returns-in_err-_card c =
+    let same : c.from.result ≡ c.in_ok-len.len = search rules in
+    let cut = c.in_err-_card.ensures.0 in
+    λ p next read. absurd (never (card-run c.args.row.now (typed _ c.type_inv.row) read (sym c.in_ok-len.ensures)) (sym (rw same at cut)))
 
 pub returns : goal.returns
 returns c =
-    let by : Bytes c.args.row.now = typed c.args.row.now c.type_inv.row in
-    λ p next read.
-    (once (learn (run_says _ c.args.row.now) c.run_at.ensures.0 c.in-Value-run_at.is) (card-run c.args.row.now by read (learn u16_says c.u16_at.ensures c.in-Value.is))).1
+    let same : c.from.result ≡ c.in_ok-len.len = search rules in
+    let run = c.in_ok-_card.ensures.0 in
+    λ p next read. ap (λ n. Ok n) (once (sym (rw same at run)) (card-run c.args.row.now (typed _ c.type_inv.row) read (sym c.in_ok-len.ensures))).1

@@ -1,5 +1,5 @@
 -- `contact_lent::fill_numbers` meets its contract. The invariant (`Filling`): i numbers are copied, and the next one stands in the row at p.
-use Prim.Native.Nat.{ℕ, ◌-◌}
+use Prim.Native.Nat.{ℕ}
 use mathlib.Core.List.{List, [], ◌∷◌}
 use Rattle.layout.specs.Form.{u32}
 use Rattle.contact_lent.proofs.Fill.{Filling}
@@ -10,6 +10,3 @@ one n = n ∷ []
 
 abbrev pub invariant-loop-i : goal.invariant-loop-i
 invariant-loop-i l = Filling u32 l.row one l.first l.count l.initial.lent l.lent l.p l.i l.i
-
-abbrev pub decreases-loop-i : goal.decreases-loop-i
-decreases-loop-i l = l.count - l.i

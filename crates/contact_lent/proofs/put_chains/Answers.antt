@@ -18,7 +18,7 @@ use Rattle.contact_lent.proofs.Records.{chains-row}
 use Rattle.contact_lent.proofs.put_chains.Goals as goal
 
 pub loop-i-init : goal.loop-i-init
-loop-i-init c = (search rules, rw sub-zero (writing_start _ _ _))
+loop-i-init c = rw sub-zero (writing_start _ _ _)
 
 pub put_run-p-requires : goal.put_run-p-requires
 put_run-p-requires c =
@@ -29,16 +29,16 @@ put_run-p-requires c =
     let place = drop (51 * c.loop-i.i) a.lent.now in
     let long : length (take (chain_size place) place) ≡ chain_size place = length-take-le (chain_size place) place (rw length-drop (omega (arith, c.chain_len-n.ensures.0))) in
     let turn = bytes-turn 51 chain_size a.lent.now a.count c.loop-i.i c.loop-i-test.true in
-    (omega (arith, simp (turn, length-append, long) at c.loop-i.invariant.1.room, c.chain_len-n.ensures.0, ap (λ (x : List ℕ). length x) written), search rules)
+    (omega (arith, simp (turn, length-append, long) at c.loop-i.invariant.room, c.chain_len-n.ensures.0, ap (λ (x : List ℕ). length x) written), search rules)
 
 pub loop-i-preserved : goal.loop-i-preserved
 loop-i-preserved c =
     let a = c.args in
     let turn = bytes-turn 51 chain_size a.lent.now a.count c.loop-i.i c.loop-i-test.true in
-    (search rules, writing_step _ (rw turn at c.loop-i.invariant.1) (rw c.chain_len-n.ensures.0 at c.put_run-p.ensures.1))
+    writing_step _ (rw turn at c.loop-i.invariant) (rw c.chain_len-n.ensures.0 at c.put_run-p.ensures.1)
 
 pub shape_of-out : goal.shape_of-out
-shape_of-out c = c.loop-i.invariant.1.same
+shape_of-out c = c.loop-i.invariant.same
 
 pub returns : goal.returns
 returns c =
@@ -46,6 +46,6 @@ returns c =
     let pre = c.requires in
     chains-row a.count a.lent.now (typed a.lent.now c.type_inv.lent) pre.0 pre.1 in
     let a = c.args in
-    let done = writing-done (rw (bytes-end 51 chain_size a.lent.now a.count c.loop-i.i c.loop-i-test.false) at c.loop-i.invariant.1) in
+    let done = writing-done (rw (bytes-end 51 chain_size a.lent.now a.count c.loop-i.i c.loop-i-test.false) at c.loop-i.invariant) in
     let wrote = rw written at done in
     (wrote.next-is, wrote)

@@ -1,23 +1,12 @@
--- `contact_lists::ranges_at` meets its contract: the count, and then the bytes of so many items.
-use mathlib.Core.Path.{sym, ◌∙◌}
-use Rattle.layout.specs.Form.{u16, times}
+-- `contact_lists::ranges_at` meets its contract: the items end where a run of all their bytes does.
+use Rattle.layout.specs.Form.{times}
 use Rattle.layout.specs.Layout.{group}
-use Rattle.layout.proofs.Front.{number-lawful}
-use Rattle.layout.specs.RowLaws.{Bytes}
-use Rattle.layout.proofs.At.{Took, took, learn, typed}
+use Rattle.layout.proofs.At.{typed}
 use Rattle.rows.specs.Rows.{range}
 use Rattle.rows.proofs.Lawful.{range-lawful}
-use Rattle.fields.specs.Says.{u16_says}
-use Rattle.contact_lists.proofs.Ends.{listed, unlisted}
+use Rattle.contact_lists.proofs.Ends.{listed}
 use Rattle.contact_lists.proofs.Plain.{run_end, ranges-run}
 use Rattle.contact_lists.proofs.ranges_at.Goals as goal
 
-pub returns-in_default : goal.returns-in_default
-returns-in_default c = (sym (unlisted (group range) _ _ (learn u16_says c.u16_at.ensures c.in_default.is)), tt)
-
 pub returns : goal.returns
-returns c =
-    let by : Bytes c.args.row.now = typed c.args.row.now c.type_inv.row in
-    let count-took : Took u16 c.args.row.now c.args.at c.in-Value.count c.in-Value.first = took _ _ u16 (number-lawful 2) by (learn u16_says c.u16_at.ensures c.in-Value.is) in
-    listed (group range) range-lawful c.args.row.now by _ _ _ count-took c.plain_end.result c.found.result
-    (c.plain_end.ensures ∙ run_end (times (group range) c.in-Value.count) (ranges-run c.in-Value.count) _ _) c.found.ensures
+returns c = listed (group range) range-lawful c.args.row.now (typed _ c.type_inv.row) c.args.at _ (λ n first h. run_end (times (group range) n) (ranges-run n) _ _) c.plain_at.result c.plain_at.ensures

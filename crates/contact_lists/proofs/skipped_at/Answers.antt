@@ -1,27 +1,10 @@
--- `contact_lists::skipped_at` meets its contract: the count, and then so many items.
-use mathlib.Core.Path.{sym}
-use Rattle.layout.specs.Form.{u16}
+-- `contact_lists::skipped_at` meets its contract: the items, one after the other, end where the list does.
 use Rattle.layout.specs.Layout.{group}
-use Rattle.layout.proofs.Front.{number-lawful}
-use Rattle.layout.specs.RowLaws.{Bytes}
-use Rattle.layout.proofs.At.{Took, took, learn, typed}
+use Rattle.layout.proofs.At.{typed}
 use Rattle.rows.specs.Rows.{skipped}
 use Rattle.rows.proofs.Lawful.{skipped-lawful}
-use Rattle.fields.specs.Says.{u16_says}
-use Rattle.contact_lists.proofs.Ends.{listed, unlisted}
+use Rattle.contact_lists.proofs.Ends.{listed, items_end}
 use Rattle.contact_lists.proofs.skipped_at.Goals as goal
 
-pub returns-in_default : goal.returns-in_default
-returns-in_default c = (sym (unlisted (group skipped) _ _ (learn u16_says c.u16_at.ensures c.in_default.is)), tt)
-
-pub skipped_ends-requires : goal.skipped_ends-requires
-skipped_ends-requires c =
-    let by : Bytes c.args.row.now = typed c.args.row.now c.type_inv.row in
-    let count-took : Took u16 c.args.row.now c.args.at c.in-Value.count c.in-Value.first = took _ _ u16 (number-lawful 2) by (learn u16_says c.u16_at.ensures c.in-Value.is) in
-    count-took.inside
-
 pub returns : goal.returns
-returns c =
-    let by : Bytes c.args.row.now = typed c.args.row.now c.type_inv.row in
-    let count-took : Took u16 c.args.row.now c.args.at c.in-Value.count c.in-Value.first = took _ _ u16 (number-lawful 2) by (learn u16_says c.u16_at.ensures c.in-Value.is) in
-    listed (group skipped) skipped-lawful c.args.row.now by _ _ _ count-took c.skipped_ends.result c.found.result c.skipped_ends.ensures c.found.ensures
+returns c = listed (group skipped) skipped-lawful c.args.row.now (typed _ c.type_inv.row) c.args.at _ (λ n first h. items_end (group skipped) c.args.row.now skipped-lawful (typed _ c.type_inv.row) n first h) c.items_at.result c.items_at.ensures

@@ -1,32 +1,23 @@
--- `contact_parts::keys_at` meets its contract: one step of the layout for each field.
+-- `contact_parts::keys_at` meets its contract: along the layout, and each field at its place.
 -- Assumes nothing.
-use Prim.Native.Nat.{ℕ, ◌+◌, ◌≤◌}
-use mathlib.Core.List.{List}
-use mathlib.Core.Path.{◌≡◌, sym, ap, ◌∙◌}
-use native.Mathlib.Omega.{arith}
-use lib.ListN.{length, take, drop}
-use Rattle.layout.specs.Veil.{veiled}
-use Rattle.layout.specs.Form.{bytes, u32, u64}
-use Rattle.layout.specs.Read.{value}
-use Rattle.layout.specs.Layout.{parse, group}
-use Rattle.layout.specs.Field.{takes, read_at}
+use Rattle.std.proofs.Common.{rules, ◌≡◌, ◌+◌, ℕ, List, take, drop, Err, arith}
+use mathlib.Core.Path.{sym}
+use Rattle.layout.specs.Veil.{plain, veiled}
 use Rattle.layout.specs.RowLaws.{Bytes}
-use Rattle.layout.proofs.Front.{number-lawful}
-use Rattle.layout.proofs.At.{learn, Took, typed, took, took-next, refused-at, takes_at, refuses-at}
-use Rattle.layout.proofs.Steps.{Reached, start, field-yes, field-no, done-yes}
-use Rattle.fields.specs.Says.{u32_says, u64_says}
-use Rattle.fields.proofs.Runs.{run-took, run_short}
+use Rattle.layout.proofs.At.{typed, took, took-next}
+use Rattle.layout.proofs.Along.{Fields}
+use Rattle.layout.proofs.Walk.{start, goes, stops, runs, cut, all}
 use Rattle.offsets.specs.Offset.{offset}
-use Rattle.offsets.proofs.Runs.{Run, run-starts}
+use Rattle.offsets.proofs.Runs.{run-starts}
+use Rattle.contact_parts.proofs.Walked.{refuses_here, stands_here}
+use Rattle.layout.specs.Form.{bytes, u64}
+use Rattle.layout.proofs.Front.{bytes-lawful, number-lawful}
 use Rattle.contact_parts.specs.Parts.{Keys, keys}
-use Rattle.contact_parts.specs.Offsets.{keys_at, keys_found}
-use Rattle.contact_parts.specs.declared.KeysAt.{KeysAt}
-use Rattle.contact_parts.specs.declared.KeysField.TheVariants.{Value}
+use Rattle.contact_parts.specs.Offsets.{keys_at}
 use Rattle.contact_parts.proofs.keys_at.Goals as goal
 
-granted : (row : List ℕ) (from : ℕ) {v : Keys} {next : ℕ} {place : KeysAt} → parse keys (drop from row) ≡ value v (drop next row) → next ≤ length row
-    → place ≡ keys_at from v → Value place next ≡ keys_found from (read_at (group keys) row from)
-granted row from {next = next} all inside is = ap (λ (place : KeysAt). Value place next) is ∙ sym (ap (keys_found from) (takes_at row from (group keys) all inside))
+keys-fields : Fields keys
+keys-fields = (bytes-lawful veiled 32, λ a. (bytes-lawful veiled 32, λ b. (bytes-lawful veiled 32, λ r. (number-lawful 8, λ i. (bytes-lawful veiled 32, λ k. (number-lawful 4, λ s. tt))))))
 
 its-places : (from : ℕ) (v : Keys)
     → {door-a-to-b-at : ℕ} → door-a-to-b-at ≡ from + offset keys 0 v
@@ -36,96 +27,57 @@ its-places : (from : ℕ) (v : Keys)
     → record { resume_index = v.resume_index; door_a_to_b = door-a-to-b-at; door_b_to_a = door-b-to-a-at; route_key = route-key-at; chain_key = chain-key-at; sent_msgno = v.sent_msgno } ≡ keys_at from v
 its-places from v door-a-to-b-at door-b-to-a-at route-key-at chain-key-at = λ i. record { resume_index = v.resume_index; door_a_to_b = door-a-to-b-at i; door_b_to_a = door-b-to-a-at i; route_key = route-key-at i; chain_key = chain-key-at i; sent_msgno = v.sent_msgno }
 
-pub returns-in_default : goal.returns-in_default
-returns-in_default c =
-    let r0 : (Reached keys c.args.row.now c.args.at) = start in
-    let stop = field-no r0.so (run_short _ _ veiled 32 c.run_at.ensures.0 c.in_default.is) in
-    (sym (ap (keys_found c.args.at) (refuses-at c.args.row.now c.args.at (group keys) stop)))
+pub returns-in_err-door_a_to_b : goal.returns-in_err-door_a_to_b
+returns-in_err-door_a_to_b c =
+    let told : c.from_residual.result ≡ Err c.in_err-door_a_to_b.field-0.0 = search rules in
+    rw told (refuses_here keys keys-fields c.args.row.now (typed _ c.type_inv.row) c.args.at tt (keys_at _) (cut veiled 32 (start keys c.args.row.now c.args.at) c.in_err-door_a_to_b.ensures.0))
 
-pub returns-in_default-run_at : goal.returns-in_default-run_at
-returns-in_default-run_at c =
-    let r0 : (Reached keys c.args.row.now c.args.at) = start in
-    let by : Bytes c.args.row.now = typed c.args.row.now c.type_inv.row in
-    let r1 : (Reached keys c.args.row.now c.args.at) = field-yes r0.so (run-took _ _ veiled 32 c.run_at.ensures.0 by c.in-Value.is) in
-    let stop = field-no r1.so (run_short _ _ veiled 32 c.run_at-2.ensures.0 c.in_default-run_at.is) in
-    (sym (ap (keys_found c.args.at) (refuses-at c.args.row.now c.args.at (group keys) stop)))
+pub returns-in_err-door_b_to_a : goal.returns-in_err-door_b_to_a
+returns-in_err-door_b_to_a c =
+    let told : c.from_residual-in_err-door_b_to_a.result ≡ Err c.in_err-door_b_to_a.field-0.0 = search rules in
+    rw told (refuses_here keys keys-fields c.args.row.now (typed _ c.type_inv.row) c.args.at tt (keys_at _) (cut veiled 32 (runs veiled 32 (start keys c.args.row.now c.args.at) c.in_ok-door_a_to_b.ensures.0) c.in_err-door_b_to_a.ensures.0))
 
-pub returns-in_default-run_at-2 : goal.returns-in_default-run_at-2
-returns-in_default-run_at-2 c =
-    let r0 : (Reached keys c.args.row.now c.args.at) = start in
-    let by : Bytes c.args.row.now = typed c.args.row.now c.type_inv.row in
-    let r1 : (Reached keys c.args.row.now c.args.at) = field-yes r0.so (run-took _ _ veiled 32 c.run_at.ensures.0 by c.in-Value.is) in
-    let r2 : (Reached keys c.args.row.now c.args.at) = field-yes r1.so (run-took _ _ veiled 32 c.run_at-2.ensures.0 by c.in-Value-run_at.is) in
-    let stop = field-no r2.so (run_short _ _ veiled 32 c.run_at-3.ensures.0 c.in_default-run_at-2.is) in
-    (sym (ap (keys_found c.args.at) (refuses-at c.args.row.now c.args.at (group keys) stop)))
+pub returns-in_err-route_key : goal.returns-in_err-route_key
+returns-in_err-route_key c =
+    let told : c.from_residual-in_err-route_key.result ≡ Err c.in_err-route_key.field-0.0 = search rules in
+    rw told (refuses_here keys keys-fields c.args.row.now (typed _ c.type_inv.row) c.args.at tt (keys_at _) (cut veiled 32 (runs veiled 32 (runs veiled 32 (start keys c.args.row.now c.args.at) c.in_ok-door_a_to_b.ensures.0) c.in_ok-door_b_to_a.ensures.0) c.in_err-route_key.ensures.0))
 
-pub returns-in_default-u64_at : goal.returns-in_default-u64_at
-returns-in_default-u64_at c =
-    let r0 : (Reached keys c.args.row.now c.args.at) = start in
-    let by : Bytes c.args.row.now = typed c.args.row.now c.type_inv.row in
-    let r1 : (Reached keys c.args.row.now c.args.at) = field-yes r0.so (run-took _ _ veiled 32 c.run_at.ensures.0 by c.in-Value.is) in
-    let r2 : (Reached keys c.args.row.now c.args.at) = field-yes r1.so (run-took _ _ veiled 32 c.run_at-2.ensures.0 by c.in-Value-run_at.is) in
-    let route-key-took : Took (bytes veiled 32) c.args.row.now r2.here (take 32 (drop c.in-Value-run_at-2.route_key c.args.row.now)) c.in-Value-run_at-2.at3 = run-took _ _ veiled 32 c.run_at-3.ensures.0 by c.in-Value-run_at-2.is in
-    let r3 : (Reached keys c.args.row.now c.args.at) = field-yes r2.so route-key-took in
-    let stop = field-no r3.so (refused-at _ _ u64 (learn u64_says c.u64_at.ensures c.in_default-u64_at.is)) in
-    (sym (ap (keys_found c.args.at) (refuses-at c.args.row.now c.args.at (group keys) stop)))
+pub returns-in_err-resume_index : goal.returns-in_err-resume_index
+returns-in_err-resume_index c =
+    let told : c.from_residual-in_err-resume_index.result ≡ Err c.in_err-resume_index.field-0.0 = search rules in
+    rw told (refuses_here keys keys-fields c.args.row.now (typed _ c.type_inv.row) c.args.at tt (keys_at _) (stops (runs veiled 32 (runs veiled 32 (runs veiled 32 (start keys c.args.row.now c.args.at) c.in_ok-door_a_to_b.ensures.0) c.in_ok-door_b_to_a.ensures.0) c.in_ok-route_key.ensures.0) c.in_err-resume_index.ensures))
 
-pub returns-in_default-run_at-3 : goal.returns-in_default-run_at-3
-returns-in_default-run_at-3 c =
-    let r0 : (Reached keys c.args.row.now c.args.at) = start in
-    let by : Bytes c.args.row.now = typed c.args.row.now c.type_inv.row in
-    let r1 : (Reached keys c.args.row.now c.args.at) = field-yes r0.so (run-took _ _ veiled 32 c.run_at.ensures.0 by c.in-Value.is) in
-    let r2 : (Reached keys c.args.row.now c.args.at) = field-yes r1.so (run-took _ _ veiled 32 c.run_at-2.ensures.0 by c.in-Value-run_at.is) in
-    let route-key-took : Took (bytes veiled 32) c.args.row.now r2.here (take 32 (drop c.in-Value-run_at-2.route_key c.args.row.now)) c.in-Value-run_at-2.at3 = run-took _ _ veiled 32 c.run_at-3.ensures.0 by c.in-Value-run_at-2.is in
-    let r3 : (Reached keys c.args.row.now c.args.at) = field-yes r2.so route-key-took in
-    let resume-index-read : read_at u64 c.args.row.now r3.here ≡ takes c.in-Value-u64_at.resume_index c.in-Value-u64_at.at4 = learn u64_says c.u64_at.ensures c.in-Value-u64_at.is in
-    let r4 : (Reached keys c.args.row.now c.args.at) = field-yes r3.so (took _ _ u64 (number-lawful 8) by resume-index-read) in
-    let stop = field-no r4.so (run_short _ _ veiled 32 c.run_at-4.ensures.0 c.in_default-run_at-3.is) in
-    (sym (ap (keys_found c.args.at) (refuses-at c.args.row.now c.args.at (group keys) stop)))
+pub returns-in_err-chain_key : goal.returns-in_err-chain_key
+returns-in_err-chain_key c =
+    let told : c.from_residual-in_err-chain_key.result ≡ Err c.in_err-chain_key.field-0.0 = search rules in
+    rw told (refuses_here keys keys-fields c.args.row.now (typed _ c.type_inv.row) c.args.at tt (keys_at _) (cut veiled 32 (goes (runs veiled 32 (runs veiled 32 (runs veiled 32 (start keys c.args.row.now c.args.at) c.in_ok-door_a_to_b.ensures.0) c.in_ok-door_b_to_a.ensures.0) c.in_ok-route_key.ensures.0) c.in_ok-resume_index.ensures) c.in_err-chain_key.ensures.0))
 
-pub returns-in_default-u32_at : goal.returns-in_default-u32_at
-returns-in_default-u32_at c =
-    let r0 : (Reached keys c.args.row.now c.args.at) = start in
-    let by : Bytes c.args.row.now = typed c.args.row.now c.type_inv.row in
-    let r1 : (Reached keys c.args.row.now c.args.at) = field-yes r0.so (run-took _ _ veiled 32 c.run_at.ensures.0 by c.in-Value.is) in
-    let r2 : (Reached keys c.args.row.now c.args.at) = field-yes r1.so (run-took _ _ veiled 32 c.run_at-2.ensures.0 by c.in-Value-run_at.is) in
-    let route-key-took : Took (bytes veiled 32) c.args.row.now r2.here (take 32 (drop c.in-Value-run_at-2.route_key c.args.row.now)) c.in-Value-run_at-2.at3 = run-took _ _ veiled 32 c.run_at-3.ensures.0 by c.in-Value-run_at-2.is in
-    let r3 : (Reached keys c.args.row.now c.args.at) = field-yes r2.so route-key-took in
-    let resume-index-read : read_at u64 c.args.row.now r3.here ≡ takes c.in-Value-u64_at.resume_index c.in-Value-u64_at.at4 = learn u64_says c.u64_at.ensures c.in-Value-u64_at.is in
-    let r4 : (Reached keys c.args.row.now c.args.at) = field-yes r3.so (took _ _ u64 (number-lawful 8) by resume-index-read) in
-    let r5 : (Reached keys c.args.row.now c.args.at) = field-yes r4.so (run-took _ _ veiled 32 c.run_at-4.ensures.0 by c.in-Value-run_at-3.is) in
-    let stop = field-no r5.so (refused-at _ _ u32 (learn u32_says c.u32_at.ensures c.in_default-u32_at.is)) in
-    (sym (ap (keys_found c.args.at) (refuses-at c.args.row.now c.args.at (group keys) stop)))
+pub returns-in_err-sent_msgno : goal.returns-in_err-sent_msgno
+returns-in_err-sent_msgno c =
+    let told : c.from_residual-in_err-sent_msgno.result ≡ Err c.in_err-sent_msgno.field-0.0 = search rules in
+    rw told (refuses_here keys keys-fields c.args.row.now (typed _ c.type_inv.row) c.args.at tt (keys_at _) (stops (runs veiled 32 (goes (runs veiled 32 (runs veiled 32 (runs veiled 32 (start keys c.args.row.now c.args.at) c.in_ok-door_a_to_b.ensures.0) c.in_ok-door_b_to_a.ensures.0) c.in_ok-route_key.ensures.0) c.in_ok-resume_index.ensures) c.in_ok-chain_key.ensures.0) c.in_err-sent_msgno.ensures))
 
 pub returns : goal.returns
 returns c =
-    let r0 : (Reached keys c.args.row.now c.args.at) = start in
-    let by : Bytes c.args.row.now = typed c.args.row.now c.type_inv.row in
-    let r1 : (Reached keys c.args.row.now c.args.at) = field-yes r0.so (run-took _ _ veiled 32 c.run_at.ensures.0 by c.in-Value.is) in
-    let r2 : (Reached keys c.args.row.now c.args.at) = field-yes r1.so (run-took _ _ veiled 32 c.run_at-2.ensures.0 by c.in-Value-run_at.is) in
-    let route-key-took : Took (bytes veiled 32) c.args.row.now r2.here (take 32 (drop c.in-Value-run_at-2.route_key c.args.row.now)) c.in-Value-run_at-2.at3 = run-took _ _ veiled 32 c.run_at-3.ensures.0 by c.in-Value-run_at-2.is in
-    let r3 : (Reached keys c.args.row.now c.args.at) = field-yes r2.so route-key-took in
-    let resume-index-read : read_at u64 c.args.row.now r3.here ≡ takes c.in-Value-u64_at.resume_index c.in-Value-u64_at.at4 = learn u64_says c.u64_at.ensures c.in-Value-u64_at.is in
-    let r4 : (Reached keys c.args.row.now c.args.at) = field-yes r3.so (took _ _ u64 (number-lawful 8) by resume-index-read) in
-    let r5 : (Reached keys c.args.row.now c.args.at) = field-yes r4.so (run-took _ _ veiled 32 c.run_at-4.ensures.0 by c.in-Value-run_at-3.is) in
-    let sent-msgno-took : Took u32 c.args.row.now r5.here c.in-Value-u32_at.sent_msgno c.in-Value-u32_at.at6 = took _ _ u32 (number-lawful 4) by (learn u32_says c.u32_at.ensures c.in-Value-u32_at.is) in
-    let r6 : (Reached keys c.args.row.now c.args.at) = field-yes r5.so sent-msgno-took in
-    let door-a-to-b-run : Run c.args.at (take 32 (drop c.in-Value.door_a_to_b c.args.row.now)) c.in-Value.door_a_to_b c.in-Value.at1 = run-starts _ _ 32 by (omega arith) c.run_at.ensures c.in-Value.is in
-    let door-b-to-a-run : Run r1.here (take 32 (drop c.in-Value-run_at.door_b_to_a c.args.row.now)) c.in-Value-run_at.door_b_to_a c.in-Value-run_at.at2 = run-starts _ _ 32 by (omega arith) c.run_at-2.ensures c.in-Value-run_at.is in
-    let route-key-run : Run r2.here (take 32 (drop c.in-Value-run_at-2.route_key c.args.row.now)) c.in-Value-run_at-2.route_key c.in-Value-run_at-2.at3 = run-starts _ _ 32 by (omega arith) c.run_at-3.ensures c.in-Value-run_at-2.is in
-    let resume-index-next : c.in-Value-u64_at.at4 ≡ r3.here + length (u64.print c.in-Value-u64_at.resume_index) = took-next _ _ u64 (number-lawful 8) by resume-index-read route-key-took.inside in
-    let chain-key-run : Run r4.here (take 32 (drop c.in-Value-run_at-3.chain_key c.args.row.now)) c.in-Value-run_at-3.chain_key c.in-Value-run_at-3.at5 = run-starts _ _ 32 by (omega arith) c.run_at-4.ensures c.in-Value-run_at-3.is in
+    let row : List ℕ = c.args.row.now in
+    let by : Bytes row = typed row c.type_inv.row in
+    let door_a_to_b-run = run-starts row _ 32 by (omega arith) c.in_ok-door_a_to_b.ensures.0 c.in_ok-door_a_to_b.ensures.1 in
+    let door_b_to_a-run = run-starts row _ 32 by (omega arith) c.in_ok-door_b_to_a.ensures.0 c.in_ok-door_b_to_a.ensures.1 in
+    let route_key-run = run-starts row _ 32 by (omega arith) c.in_ok-route_key.ensures.0 c.in_ok-route_key.ensures.1 in
+    let route-key-took = took row _ (bytes plain 32) (bytes-lawful plain 32) by (sym c.in_ok-route_key.ensures.0) in
+    let resume-index-next = took-next _ _ u64 (number-lawful 8) by (sym c.in_ok-resume_index.ensures) route-key-took.inside in
+    let chain_key-run = run-starts row _ 32 by (omega arith) c.in_ok-chain_key.ensures.0 c.in_ok-chain_key.ensures.1 in
     let its : Keys = record {
-      door_a_to_b = take 32 (drop c.in-Value.door_a_to_b c.args.row.now);
-      door_b_to_a = take 32 (drop c.in-Value-run_at.door_b_to_a c.args.row.now);
-      route_key = take 32 (drop c.in-Value-run_at-2.route_key c.args.row.now);
-      resume_index = c.in-Value-u64_at.resume_index;
-      chain_key = take 32 (drop c.in-Value-run_at-3.chain_key c.args.row.now);
-      sent_msgno = c.in-Value-u32_at.sent_msgno;
+      door_a_to_b = take 32 (drop c.in_ok-door_a_to_b.door_a_to_b row);
+      door_b_to_a = take 32 (drop c.in_ok-door_b_to_a.door_b_to_a row);
+      route_key = take 32 (drop c.in_ok-route_key.route_key row);
+      resume_index = c.in_ok-resume_index.resume_index;
+      chain_key = take 32 (drop c.in_ok-chain_key.chain_key row);
+      sent_msgno = c.in_ok-sent_msgno.sent_msgno;
     } in
-    granted c.args.row.now c.args.at {v = its} (done-yes r6.so) sent-msgno-took.inside
+    stands_here keys keys-fields c.args.row.now (typed _ c.type_inv.row) c.args.at tt (keys_at _) {v = its} (all (goes (runs veiled 32 (goes (runs veiled 32 (runs veiled 32 (runs veiled 32 (start keys c.args.row.now c.args.at) c.in_ok-door_a_to_b.ensures.0) c.in_ok-door_b_to_a.ensures.0) c.in_ok-route_key.ensures.0) c.in_ok-resume_index.ensures) c.in_ok-chain_key.ensures.0) c.in_ok-sent_msgno.ensures))
     (its-places c.args.at its
-    (omega (arith, door-a-to-b-run.starts))
-    (omega (arith, door-a-to-b-run.ends, door-b-to-a-run.starts))
-    (omega (arith, door-a-to-b-run.ends, door-b-to-a-run.ends, route-key-run.starts))
-    (omega (arith, door-a-to-b-run.ends, door-b-to-a-run.ends, route-key-run.ends, resume-index-next, chain-key-run.starts)))
+    (omega (arith, door_a_to_b-run.starts))
+    (omega (arith, door_a_to_b-run.ends, door_b_to_a-run.starts))
+    (omega (arith, door_a_to_b-run.ends, door_b_to_a-run.ends, route_key-run.starts))
+    (omega (arith, door_a_to_b-run.ends, door_b_to_a-run.ends, route_key-run.ends, resume-index-next, chain_key-run.starts)))

@@ -1,57 +1,22 @@
 -- `contact_parts::send_at` meets its contract: the flag, and then the field or nothing.
 -- Assumes nothing.
-use Prim.Native.Nat.{ℕ, ◌+◌}
-use mathlib.Core.Bool.{Bool, true, false}
-use mathlib.Core.Option.{some}
-use mathlib.Core.Path.{◌≡◌, refl, ap, subst, ◌∙◌}
-use native.Mathlib.Omega.{arith}
-use Rattle.layout.specs.Form.{flag}
-use Rattle.layout.specs.Layout.{group, optional_layout, optional}
-use Rattle.layout.specs.Field.{takes, read_at}
-use Rattle.layout.specs.RowLaws.{Bytes}
-use Rattle.layout.proofs.Front.{flag-lawful}
-use Rattle.layout.proofs.At.{learn, Took, typed, took, refused-at}
-use Rattle.layout.proofs.Steps.{optional-some, optional-none, optional-no-flag, optional-no}
+use Rattle.std.proofs.Common.{rules, ◌≡◌, Err}
+use Rattle.layout.specs.Layout.{group}
+use Rattle.layout.proofs.At.{typed}
 use Rattle.rows.specs.Rows.{send}
 use Rattle.rows.proofs.Lawful.{send-lawful}
-use Rattle.fields.specs.Says.{flag_says, flag_refusal}
-use Rattle.offsets.specs.Offset.{offset}
-use Rattle.offsets.proofs.Offset.{flag-next, locates, locates-not, located-at, located-not}
-use Rattle.contact_parts.specs.Offsets.{send_chain_at, send_at, send_chain_says, send_chain_refusal}
-use Rattle.contact_parts.specs.declared.SendAt.TheVariants.{Present}
+use Rattle.contact_parts.specs.Offsets.{send_chain_at}
+use Rattle.contact_parts.proofs.Walked.{no-flag, absent, not_read, there}
 use Rattle.contact_parts.proofs.send_at.Goals as goal
 
-pub returns-in_default : goal.returns-in_default
-returns-in_default c =
-    let stop = optional-no-flag (group send) c.args.row.now c.args.at (refused-at _ _ flag (learn flag_says c.flag_at-flag.ensures c.in_default.is)) in
-    rw (c.refusal.ensures ∙ ap flag_refusal c.in_default.is) (locates-not _ _ (optional (group send)) (send_at _) stop)
+pub returns-in_err-present : goal.returns-in_err-present
+returns-in_err-present c = let told : c.from_residual.result ≡ Err c.in_err-present.field-0.0 = search rules in rw told (no-flag (group send) send-lawful send_chain_at c.args.row.now (typed _ c.type_inv.row) c.args.at c.in_err-present.ensures)
 
-pub returns-in_default-chain : goal.returns-in_default-chain
-returns-in_default-chain c =
-    let by : Bytes c.args.row.now = typed c.args.row.now c.type_inv.row in
-    let flag-read : read_at flag c.args.row.now c.args.at ≡ takes c.in-Value.present c.in-Value.at1 = learn flag_says c.flag_at-flag.ensures c.in-Value.is in
-    let flag-took : Took flag c.args.row.now c.args.at c.in-Value.present c.in-Value.at1 = took _ _ flag flag-lawful by flag-read in
-    let set : Took flag c.args.row.now c.args.at true c.in-Value.at1 = subst (λ (t : Bool). Took flag c.args.row.now c.args.at t c.in-Value.at1) c.if-present.true flag-took in
-    let stop = optional-no (group send) c.args.row.now c.args.at set (refused-at _ _ (group send) (located-not (send_chain_at _) _ (learn send_chain_says c.send_chain_at-chain.ensures c.in_default-chain.is))) in
-    rw (c.refusal-in_default-chain.ensures ∙ ap send_chain_refusal c.in_default-chain.is) (locates-not _ _ (optional (group send)) (send_at _) stop)
+pub returns-then-not-present : goal.returns-then-not-present
+returns-then-not-present c = absent (group send) send-lawful send_chain_at c.args.row.now (typed _ c.type_inv.row) c.args.at c.in_ok-present.ensures c.if-not-present.true
 
-pub returns-then-present : goal.returns-then-present
-returns-then-present c =
-    let by : Bytes c.args.row.now = typed c.args.row.now c.type_inv.row in
-    let flag-read : read_at flag c.args.row.now c.args.at ≡ takes c.in-Value.present c.in-Value.at1 = learn flag_says c.flag_at-flag.ensures c.in-Value.is in
-    let flag-took : Took flag c.args.row.now c.args.at c.in-Value.present c.in-Value.at1 = took _ _ flag flag-lawful by flag-read in
-    let set : Took flag c.args.row.now c.args.at true c.in-Value.at1 = subst (λ (t : Bool). Took flag c.args.row.now c.args.at t c.in-Value.at1) c.if-present.true flag-took in
-    let its = located-at (send_chain_at _) _ (learn send_chain_says c.send_chain_at-chain.ensures c.in-Value-chain.is) in
-    let o = optional-some (group send) c.args.row.now c.args.at set (took _ _ (group send) send-lawful by its.read) in
-    let behind : c.in-Value.at1 ≡ c.args.at + offset (optional_layout (group send)) 1 (some its.value) = omega (arith, flag-next c.args.row.now c.args.at by flag-read) in
-    locates _ _ (optional (group send)) (send_at _) o.reads o.inside
-    (ap Present (its.place ∙ ap (λ (n : ℕ). send_chain_at n its.value) behind))
+pub returns-in_err-its : goal.returns-in_err-its
+returns-in_err-its c = let told : c.from_residual-in_err-its.result ≡ Err c.in_err-its.field-0.0 = search rules in rw told (not_read (group send) send-lawful send_chain_at c.args.row.now (typed _ c.type_inv.row) c.args.at c.in_ok-present.ensures c.if-not-present.false c.in_err-its.ensures)
 
 pub returns : goal.returns
-returns c =
-    let by : Bytes c.args.row.now = typed c.args.row.now c.type_inv.row in
-    let flag-read : read_at flag c.args.row.now c.args.at ≡ takes c.in-Value.present c.in-Value.at1 = learn flag_says c.flag_at-flag.ensures c.in-Value.is in
-    let flag-took : Took flag c.args.row.now c.args.at c.in-Value.present c.in-Value.at1 = took _ _ flag flag-lawful by flag-read in
-    let clear : Took flag c.args.row.now c.args.at false c.in-Value.at1 = subst (λ (t : Bool). Took flag c.args.row.now c.args.at t c.in-Value.at1) c.if-present.false flag-took in
-    let o = optional-none (group send) c.args.row.now c.args.at clear in
-    locates _ _ (optional (group send)) (send_at _) o.reads o.inside refl
+returns c = there (group send) send-lawful send_chain_at c.args.row.now (typed _ c.type_inv.row) c.args.at c.in_ok-present.ensures c.if-not-present.false c.in_ok-its.ensures

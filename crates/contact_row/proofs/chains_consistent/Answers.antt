@@ -25,10 +25,6 @@ returns-then-contact-gt-MAX_CHAINS c =
     let many-chains : length chains ≡ c.args.contact.chains = (chains-printed c.args.contact.chains c.args.chains.now c.requires.chains_granted.reads chains-bytes c.requires.chains).count in
     rw (many-chains, lt-leb _ _ c.if-contact-gt-MAX_CHAINS.true)
 
-pub chains_lent-asked-requires : goal.chains_lent-asked-requires
-chains_lent-asked-requires c =
-    let p = c.requires in record { room = p.chains; records = _; rest = _; so = p.chains_granted.reads }
-
 pub returns-then-not-asked : goal.returns-then-not-asked
 returns-then-not-asked c =
     let chains-bytes : Bytes c.args.chains.now = typed c.args.chains.now c.type_inv.chains in

@@ -5,7 +5,7 @@ use mathlib.Core.Bool.{true, false, ◌&&◌}
 use mathlib.Core.Path.{◌≡◌, sym, ap, ◌∙◌}
 use native.Mathlib.Omega.{arith}
 use lib.ListN.{get_or, take}
-use borrow.Author.Tests.{le-leb, lt-leb}
+use borrow.Author.Tests.{le-leb}
 use Rattle.rows.specs.Values.{Range}
 use Rattle.rows.specs.Checks.{acked_sent, rising, canonical, none_above}
 use Rattle.received.specs.Lent.{pairs}
@@ -13,24 +13,6 @@ use Rattle.contact_checks.proofs.Callers.{canonical-lent}
 use Rattle.contact_row.proofs.numbers_consistent.Goals as goal
 
 -- ---- what is asked
-pub returns-then-sent-contact : goal.returns-then-sent-contact
-returns-then-sent-contact c =
-    rw (lt-leb _ _ c.if-sent-contact.true)
-
-pub rising_lent-requires : goal.rising_lent-requires
-rising_lent-requires c =
-    c.requires.unacked
-
-pub returns-then-not-rising_lent : goal.returns-then-not-rising_lent
-returns-then-not-rising_lent c =
-    let acked : acked_sent c.args.contact.peer_acked c.args.contact.sent_msgno ≡ true = le-leb _ _ c.if-sent-contact.false in
-    let no-22 : rising 1 c.args.contact.sent_msgno (take c.args.contact.unacked c.args.unacked.now) ≡ false = sym c.rising_lent.ensures ∙ c.if-not-rising_lent.true in
-    rw (acked, no-22)
-
-pub canonical_lent-requires : goal.canonical_lent-requires
-canonical_lent-requires c =
-    (c.requires.above, omega (arith, c.wide-from.ensures.1))
-
 pub returns-then-not-canonical_lent : goal.returns-then-not-canonical_lent
 returns-then-not-canonical_lent c =
     let acked : acked_sent c.args.contact.peer_acked c.args.contact.sent_msgno ≡ true = le-leb _ _ c.if-sent-contact.false in
@@ -41,10 +23,6 @@ returns-then-not-canonical_lent c =
     ap (λ (n : ℕ). canonical (n + 2) ranges) (sym c.wide-from.ensures.0)
     ∙ sym (canonical-lent c.args.contact.above (c.wide-from.result + 2) c.args.above.now words) ∙ sym c.canonical_lent.ensures ∙ c.if-not-canonical_lent.true in
     rw (acked, yes-22, no-23)
-
-pub canonical_lent-requires-2 : goal.canonical_lent-requires-2
-canonical_lent-requires-2 c =
-    (c.requires.expired, omega arith)
 
 pub returns-then-not-canonical_lent-2 : goal.returns-then-not-canonical_lent-2
 returns-then-not-canonical_lent-2 c =

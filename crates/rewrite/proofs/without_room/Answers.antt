@@ -1,48 +1,33 @@
 -- `rewrite::without_room` meets its contract: what the check answered, then 36 by the counts that it found.
--- Assumes nothing.
-use mathlib.Core.Bool.{Bool, cond}
-use mathlib.Core.Path.{◌≡◌, sym, ap, subst, ◌∙◌}
-use Rattle.layout.specs.Questions.{LISTS, OUTPUT}
-use Rattle.layout.specs.Layout.{Answer, accepted, read_row}
-use Rattle.layout.specs.RowLaws.{Bytes}
-use Rattle.layout.proofs.At.{learn, typed}
-use Rattle.rows.specs.Values as value
+use Rattle.std.proofs.Common.{◌≡◌}
+use mathlib.Core.Path.{refl, sym, ◌∙◌}
+use Rattle.layout.specs.Layout.{accepted, read_row}
+use Rattle.layout.proofs.At.{typed}
 use Rattle.rows.specs.Rows.{contact}
-use Rattle.contact.specs.Check.{contact_from, Offsets, check_refusal}
-use Rattle.contact.specs.Contact.{Lists, lists, long_enough}
-use Rattle.contact.proofs.Placed.{check_says, Placed, check-says, check-placed}
+use Rattle.contact.specs.Check.{contact_from}
+use Rattle.contact.specs.Contact.{lists, long_enough}
+use Rattle.contact.proofs.Placed.{placed, unplaced}
 use Rattle.contact.proofs.Read.{counts-are}
-use Rattle.rewrite.specs.Rewrite.{without_room}
 use Rattle.rewrite.proofs.without_room.Goals as goal
+use Rattle.rewrite.proofs.without_room.Goals.{After-long_enough}
 
-pub returns-in_default : goal.returns-in_default
-returns-in_default c =
-    let lent : Lists = lists c.args.chains.now c.args.skipped.now c.args.above.now c.args.unacked.now c.args.expired.now in
-    let by : Bytes c.args.row.now = typed c.args.row.now c.type_inv.row in
-    let says : check_says c.args.row.now c.check_contact-check.result ≡ read_row (contact c.args.version) c.args.row.now = check-says c.args.row.now by c.args.version c.check_contact-check.ensures in
-    let told = c.in_default.is in
-    c.refusal.ensures
-    ∙ ap check_refusal told
-    ∙ ap (λ (a : Answer value.Contact). without_room a lent) (sym (learn (check_says c.args.row.now) says told))
+-- 36 is asked of the row's counts
+enough : (c : After-long_enough) → (read_row (contact c.args.version) c.args.row.now ≡ accepted (contact_from c.args.row.now c.in-Ok.at))
+    × (long_enough (contact_from c.args.row.now c.in-Ok.at) (lists c.args.chains.now c.args.skipped.now c.args.above.now c.args.unacked.now c.args.expired.now) ≡ c.long_enough.result)
+enough c =
+    let by = typed c.args.row.now c.type_inv.row in
+    let its = placed c.args.row.now by c.args.version (rw c.in-Ok.is at c.check_contact.ensures) in
+    (its.0, counts-are c.args.row.now by c.in-Ok.at its.1 _ ∙ sym c.long_enough.ensures)
 
-pub returns-then-not-long_enough : goal.returns-then-not-long_enough
-returns-then-not-long_enough c =
-    let by : Bytes c.args.row.now = typed c.args.row.now c.type_inv.row in
-    let lent : Lists = lists c.args.chains.now c.args.skipped.now c.args.above.now c.args.unacked.now c.args.expired.now in
-    let enough : long_enough (contact_from c.args.row.now c.in-Fields.at) lent ≡ c.long_enough.result = let places : Offsets c.args.row.now c.in-Fields.at = subst (Placed c.args.row.now) c.in-Fields.is (check-placed c.args.row.now by c.args.version c.check_contact-check.ensures) in
-    counts-are c.args.row.now by c.in-Fields.at places lent ∙ sym c.long_enough.ensures in
-    let says : check_says c.args.row.now c.check_contact-check.result ≡ read_row (contact c.args.version) c.args.row.now = check-says c.args.row.now by c.args.version c.check_contact-check.ensures in
-    let read : read_row (contact c.args.version) c.args.row.now ≡ accepted (contact_from c.args.row.now c.in-Fields.at) = learn (check_says c.args.row.now) says c.in-Fields.is in
-    (ap (λ (t : Bool). cond t OUTPUT LISTS) (sym (enough ∙ c.if-not-long_enough.true))
-    ∙ ap (λ (a : Answer value.Contact). without_room a lent) (sym read))
+pub returns-in-Err : goal.returns-in-Err
+returns-in-Err c = rw (unplaced c.args.row.now (typed c.args.row.now c.type_inv.row) c.args.version (rw c.in-Err.is at c.check_contact.ensures)) refl
+
+pub returns-then-long_enough : goal.returns-then-long_enough
+returns-then-long_enough c =
+    let k = enough (goal.at.returns-then-long_enough c).After-long_enough in
+    rw (k.0, k.1, c.if-long_enough.true) refl
 
 pub returns : goal.returns
 returns c =
-    let by : Bytes c.args.row.now = typed c.args.row.now c.type_inv.row in
-    let lent : Lists = lists c.args.chains.now c.args.skipped.now c.args.above.now c.args.unacked.now c.args.expired.now in
-    let enough : long_enough (contact_from c.args.row.now c.in-Fields.at) lent ≡ c.long_enough.result = let places : Offsets c.args.row.now c.in-Fields.at = subst (Placed c.args.row.now) c.in-Fields.is (check-placed c.args.row.now by c.args.version c.check_contact-check.ensures) in
-    counts-are c.args.row.now by c.in-Fields.at places lent ∙ sym c.long_enough.ensures in
-    let says : check_says c.args.row.now c.check_contact-check.result ≡ read_row (contact c.args.version) c.args.row.now = check-says c.args.row.now by c.args.version c.check_contact-check.ensures in
-    let read : read_row (contact c.args.version) c.args.row.now ≡ accepted (contact_from c.args.row.now c.in-Fields.at) = learn (check_says c.args.row.now) says c.in-Fields.is in
-    (ap (λ (t : Bool). cond t OUTPUT LISTS) (sym (enough ∙ c.if-not-long_enough.false))
-    ∙ ap (λ (a : Answer value.Contact). without_room a lent) (sym read))
+    let k = enough (goal.at.returns c).After-long_enough in
+    rw (k.0, k.1, c.if-long_enough.false) refl
