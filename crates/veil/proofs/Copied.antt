@@ -9,42 +9,40 @@ use Rattle.layout.specs.Questions.{OUTPUT}
 use Rattle.layout.specs.Veil.{veil}
 use Rattle.layout.specs.Layout.{Layout, Answer, accepted, refused_by, read_row, hidden_row, mask_of, print, blank_of}
 use Rattle.layout.specs.RowLaws.{Bytes, Alike}
-use Rattle.layout.specs.Write.{wrote, stored, judged, writes}
+use Rattle.layout.specs.Says.{made}
+use Rattle.layout.specs.Write.{Left, wrote, refuses, stored, judged, writes}
 use Rattle.layout.specs.Write as write
 use Rattle.layout.proofs.Hide.{length-hide}
+use Rattle.layout.proofs.Theorems.{accepted≢}
 use Rattle.layout.proofs.Write.{stored_short, stored_row}
-use Rattle.rows.specs.Answers.{verdict_of, leaves}
 use Rattle.rows.specs.Proved.{Row}
-use Rattle.rows.specs.declared.Verdict.{Verdict}
-use Rattle.rows.specs.declared.Verdict.TheVariants.{Accepted, Refused}
-use Rattle.rows.specs.declared.Written.TheVariants as written
 use Rattle.put.specs.Put.{Wrote}
 use Rattle.put.proofs.Put.{put_front}
-use Rattle.rows.proofs.RoundTrip.{accepted-not}
-use Rattle.veil.specs.Veil.{veils, refusal_in}
+use Rattle.veil.specs.Veil.{veils}
 
--- what a reader accepted
-pub record Granted {A : Type 0} (a : Answer A) : Type 0 where
+-- what a reader accepted, and what it made of it
+pub record Granted {A B : Type 0} (f : A → B) (a : Answer A) (b : B) : Type 0 where
   pub value : A
   pub is : a ≡ accepted value
+  pub made-is : b ≡ f value
 
--- ---- a reader's verdict
-module _ {A : Type 0} (l : Layout A) (row : List ℕ) {verdict : Verdict} (read : verdict ≡ verdict_of (read_row l row)) where
-  pub granted : verdict ≡ Accepted → Granted (read_row l row)
-  granted told = go (read_row l row) (sym read ∙ told)
+-- ---- a reader's answer
+module _ {A B : Type 0} (f : A → B) (l : Layout A) (row : List ℕ) where
+  pub granted : {b : B} → accepted b ≡ made f (read_row l row) → Granted f (read_row l row) b
+  granted {b} told = go (read_row l row) told
     where
-      go : (a : Answer A) → verdict_of a ≡ Accepted → Granted a
-      go (accepted v) e = record { value = v; is = refl }
-      go (refused_by q) e = absurd (accepted-not (sym e))
+      go : (a : Answer A) → accepted b ≡ made f a → Granted f a b
+      go (accepted v) e = record { value = v; is = refl; made-is = cc }
+      go (refused_by q) e = absurd (accepted≢ e)
 
   -- the row's own refusal
-  pub not-copied : {q r : ℕ} → verdict ≡ Refused q → r ≡ refusal_in verdict → (out : List ℕ) → leaves (written.Refused r) out ≡ veils l row out
+  pub not-copied : {q : ℕ} → refused_by q ≡ made f (read_row l row) → (out : List ℕ) → ◌≡◌ {A = Left} (record { answer = refuses q; out = out }) (veils l row out)
   unfolding veils
-  not-copied {q} {r} told is out = go (read_row l row) (sym read ∙ told)
+  not-copied {q} told out = go (read_row l row) told
     where
-      go : (a : Answer A) → verdict_of a ≡ Refused q → leaves (written.Refused r) out ≡ judged a (hidden_row l veil row) out
-      go (accepted v) e = absurd (accepted-not e)
-      go (refused_by p) e = let same : p ≡ q = cc in rw (is, told, same)
+      go : (a : Answer A) → refused_by q ≡ made f a → ◌≡◌ {A = Left} (record { answer = refuses q; out = out }) (judged a (hidden_row l veil row) out)
+      go (accepted v) e = absurd (accepted≢ (sym e))
+      go (refused_by p) e = let same : q ≡ p = cc in rw same refl
 
 -- ---- the copy
 module _ {A : Type 0} (l : Layout A) (row out : List ℕ) where
@@ -65,19 +63,15 @@ module _ {A : Type 0} (l : Layout A) (row out : List ℕ) where
 
 -- ---- a copy that is stored as it is made
 module _ {A : Type 0} (l : Layout A) (row out : List ℕ) where
-  pub copy-refused : {q : ℕ} → read_row l row ≡ refused_by q → leaves (written.Refused q) out ≡ veils l row out
-  unfolding veils
-  copy-refused e = rw e
-
   module _ {v : A} (e : read_row l row ≡ accepted v) where
     long : length (hidden_row l veil row) ≡ length row
     long = length-hide (mask_of l veil row) row
 
-    pub copy-short : length out < length row → leaves (written.Refused OUTPUT) out ≡ veils l row out
+    pub copy-short : length out < length row → ◌≡◌ {A = Left} (record { answer = refuses OUTPUT; out = out }) (veils l row out)
     unfolding veils
     copy-short h = rw e (sym (stored_short (hidden_row l veil row) out (omega (arith, long))))
 
-    pub copy_stored : {m : List ℕ} {p : ℕ} → length row ≤ length out → Wrote out 0 (hidden_row l veil row) m p → leaves (written.Length (length row)) m ≡ veils l row out
+    pub copy_stored : {m : List ℕ} {p : ℕ} → length row ≤ length out → Wrote out 0 (hidden_row l veil row) m p → ◌≡◌ {A = Left} (record { answer = wrote (length row); out = m }) (veils l row out)
     unfolding veils
     copy_stored {m} h w =
         let room : length (hidden_row l veil row) ≤ length out = omega (arith, long) in

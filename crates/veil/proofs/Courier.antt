@@ -14,17 +14,17 @@ use Rattle.layout.specs.Veil.{veil, zeros}
 use Rattle.layout.specs.Layout.{accepted, read_row, print, blank_of, fits_of, refusal_of}
 use Rattle.layout.specs.Layout as layout
 use Rattle.layout.specs.RowLaws.{Bytes, Valid}
+use Rattle.layout.specs.Says.{made}
 use Rattle.layout.specs.Write.{writes}
 use Rattle.layout.proofs.Front.{none≢some}
 use Rattle.rows.specs.Values as value
 use Rattle.rows.specs.Checks.{sealed_carried, not_zero}
 use Rattle.rows.specs.Rows.{courier}
-use Rattle.rows.specs.declared.Verdict.TheVariants.{Accepted}
 use Rattle.rows.proofs.Proved.{proved}
 use Rattle.sealed.proofs.Buckets.{carried-few}
 use Rattle.rows.proofs.RoundTrip.{three}
 use Rattle.courier_row.specs.Row as spec
-use Rattle.courier_row.specs.Row.{held_of, text_of, decoded, value_of, image}
+use Rattle.courier_row.specs.Row.{held_of, text_of, read_of, value_of, image}
 use Rattle.courier_row.specs.declared.Held.{Held}
 use Rattle.courier_row.specs.declared.HeldRead.{HeldRead}
 use Rattle.courier_row.proofs.RoundTrip.{sealed-last}
@@ -55,12 +55,9 @@ sealed-few (inl x) h = carried-few (length x.sealed) (no-refusal (not_zero x.exp
 sealed-few (inr t) h = omega arith
 
 -- ---- what was read
-module _ (version : ℕ) (row : List ℕ) (by : Bytes row) {read : HeldRead} (is : read ≡ decoded row (read_row (courier version) row)) (told : read.verdict ≡ Accepted) where
-  yes : Granted (read_row (courier version) row)
-  yes = granted (courier version) row (ap (λ (x : HeldRead). x.verdict) is) told
-
-  whole : read ≡ decoded row (accepted yes.value)
-  whole = is ∙ ap (decoded row) yes.is
+module _ (version : ℕ) (row : List ℕ) (by : Bytes row) {read : HeldRead} (told : accepted read ≡ made (read_of row) (read_row (courier version) row)) where
+  yes : Granted (read_of row) (read_row (courier version) row) read
+  yes = granted (read_of row) (courier version) row told
 
   known : read_row (courier 3) row ≡ accepted yes.value
   known = subst (λ (n : ℕ). read_row (courier n) row ≡ accepted yes.value) (three _ version row yes.is) yes.is
@@ -72,12 +69,12 @@ module _ (version : ℕ) (row : List ℕ) (by : Bytes row) {read : HeldRead} (is
   last = sealed-last 3 yes.value row ((proved.courier 3).laws.read-print row by yes.value known)
 
   pub courier-tail : Tail row read.sealed_at
-  courier-tail = subst (Tail row) (sym (ap (λ (x : HeldRead). x.sealed_at) whole)) (tail row (text_of yes.value) last (sealed-few yes.value valid.granted))
+  courier-tail = subst (Tail row) (sym (ap (λ (x : HeldRead). x.sealed_at) yes.made-is)) (tail row (text_of yes.value) last (sealed-few yes.value valid.granted))
 
   pub courier-copied : (out : List ℕ) → writes (courier 3) (image (blanked read.held) (zeros (length row - read.sealed_at))) out ≡ veils (courier version) row out
   unfolding spec.image
   courier-copied out =
-      ap (λ (x : HeldRead). writes (courier 3) (image (blanked x.held) (zeros (length row - x.sealed_at))) out) whole
+      ap (λ (x : HeldRead). writes (courier 3) (image (blanked x.held) (zeros (length row - x.sealed_at))) out) yes.made-is
       ∙ ap (λ (n : ℕ). writes (courier 3) (image (blanked (held_of yes.value)) (zeros n)) out) (long row (text_of yes.value) last)
       ∙ ap (λ (x : value.Courier). writes (courier 3) (print (courier 3) x) out) (value-is yes.value valid.fits)
       ∙ copied (courier 3) row out (proved.courier 3) by known

@@ -8,16 +8,15 @@ use Rattle.layout.specs.Veil.{veil, zeros}
 use Rattle.layout.specs.Layout.{accepted, read_row, print, blank_of}
 use Rattle.layout.specs.Layout as layout
 use Rattle.layout.specs.RowLaws.{Bytes}
+use Rattle.layout.specs.Says.{made}
 use Rattle.layout.specs.Write.{writes}
 use Rattle.rows.specs.Values as value
 use Rattle.rows.specs.Rows.{device}
-use Rattle.rows.specs.declared.Verdict.TheVariants.{Accepted}
 use Rattle.rows.proofs.Proved.{proved}
 use Rattle.rows.proofs.RoundTrip.{three}
 use Rattle.device_row.specs.Row as spec
-use Rattle.device_row.specs.Row.{device_of, device_read, value_of, image}
+use Rattle.device_row.specs.Row.{device_of, value_of, image}
 use Rattle.device_row.specs.declared.Device.{Device}
-use Rattle.device_row.specs.declared.DeviceRead.{DeviceRead}
 use Rattle.veil.specs.Veil.{veils}
 use Rattle.veil.proofs.Copied.{granted, copied}
 
@@ -29,15 +28,15 @@ value-is : (v : value.Device) → length v.beacon_key ≡ 32 → value_of (unkey
 unfolding layout.blank_of
 value-is v long = rw long
 
-module _ (version : ℕ) (row : List ℕ) (by : Bytes row) {read : DeviceRead} (is : read ≡ device_read (read_row (device version) row)) (told : read.verdict ≡ Accepted) where
-  pub device-copied : (out : List ℕ) → writes (device 3) (image (unkeyed read.device)) out ≡ veils (device version) row out
+module _ (version : ℕ) (row : List ℕ) (by : Bytes row) {read : Device} (told : accepted read ≡ made device_of (read_row (device version) row)) where
+  pub device-copied : (out : List ℕ) → writes (device 3) (image (unkeyed read)) out ≡ veils (device version) row out
   unfolding spec.image
   device-copied out =
-      let yes = granted (device version) row (ap (λ (x : DeviceRead). x.verdict) is) told in
+      let yes = granted device_of (device version) row told in
       let v = yes.value in
       let known = three _ version row yes.is in
       let long = ((proved.device version).laws.read-valid row by v yes.is).fits.1.0 in
-      ap (λ (x : DeviceRead). writes (device 3) (image (unkeyed x.device)) out) (is ∙ ap device_read yes.is)
+      ap (λ (x : Device). writes (device 3) (image (unkeyed x)) out) yes.made-is
       ∙ ap (λ (x : value.Device). writes (device 3) (print (device 3) x) out) (value-is v long)
       ∙ copied (device 3) row out (proved.device 3) by (subst (λ (n : ℕ). read_row (device n) row ≡ accepted v) known yes.is)
       ∙ rw known

@@ -9,10 +9,10 @@ use Rattle.layout.specs.Veil.{veil, zeros}
 use Rattle.layout.specs.Layout.{accepted, read_row, print, blank_of, refusal_of, group, optional}
 use Rattle.layout.specs.Layout as layout
 use Rattle.layout.specs.RowLaws.{Bytes, Valid}
+use Rattle.layout.specs.Says.{made}
 use Rattle.layout.specs.Write.{writes}
 use Rattle.rows.specs.Values as value
 use Rattle.rows.specs.Rows.{own_envelope, queued}
-use Rattle.rows.specs.declared.Verdict.TheVariants.{Accepted}
 use Rattle.rows.proofs.Proved.{proved}
 use Rattle.sealed.proofs.Buckets.{queued-few}
 use Rattle.rows.proofs.RoundTrip.{three}
@@ -45,12 +45,9 @@ sealed-few : (v : value.Queued) → refusal_of (queued 3) v ≡ none → length 
 sealed-few v h = queued-few (length v.sealed) ((proved.meets.queued 3 v).0 h).1.sealed
 
 -- ---- what was read
-module _ (version : ℕ) (row : List ℕ) (by : Bytes row) {read : QueuedRead} (is : read ≡ decoded row (read_row (queued version) row)) (told : read.verdict ≡ Accepted) where
-  yes : Granted (read_row (queued version) row)
-  yes = granted (queued version) row (ap (λ (x : QueuedRead). x.verdict) is) told
-
-  whole : read ≡ decoded row (accepted yes.value)
-  whole = is ∙ ap (decoded row) yes.is
+module _ (version : ℕ) (row : List ℕ) (by : Bytes row) {read : QueuedRead} (told : accepted read ≡ made (decoded row) (read_row (queued version) row)) where
+  yes : Granted (decoded row) (read_row (queued version) row) read
+  yes = granted (decoded row) (queued version) row told
 
   known : read_row (queued 3) row ≡ accepted yes.value
   known = subst (λ (n : ℕ). read_row (queued n) row ≡ accepted yes.value) (three _ version row yes.is) yes.is
@@ -62,12 +59,12 @@ module _ (version : ℕ) (row : List ℕ) (by : Bytes row) {read : QueuedRead} (
   last = sealed-last 3 yes.value row ((proved.queued 3).laws.read-print row by yes.value known)
 
   pub queued-tail : Tail row read.sealed_at
-  queued-tail = subst (Tail row) (sym (ap (λ (x : QueuedRead). x.sealed_at) whole)) (tail row yes.value.sealed last (sealed-few yes.value valid.granted))
+  queued-tail = subst (Tail row) (sym (ap (λ (x : QueuedRead). x.sealed_at) yes.made-is)) (tail row yes.value.sealed last (sealed-few yes.value valid.granted))
 
   pub queued-copied : (out : List ℕ) → writes (queued 3) (image (blanked read.queued) (zeros (length row - read.sealed_at))) out ≡ veils (queued version) row out
   unfolding spec.image
   queued-copied out =
-      ap (λ (x : QueuedRead). writes (queued 3) (image (blanked x.queued) (zeros (length row - x.sealed_at))) out) whole
+      ap (λ (x : QueuedRead). writes (queued 3) (image (blanked x.queued) (zeros (length row - x.sealed_at))) out) yes.made-is
       ∙ ap (λ (n : ℕ). writes (queued 3) (image (blanked (queued_of yes.value)) (zeros n)) out) (long row yes.value.sealed last)
       ∙ ap (λ (x : value.Queued). writes (queued 3) (print (queued 3) x) out) (value-is yes.value _ valid.fits.1.0)
       ∙ copied (queued 3) row out (proved.queued 3) by known

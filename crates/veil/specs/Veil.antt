@@ -6,8 +6,6 @@ use Rattle.layout.specs.Veil.{veil}
 use Rattle.layout.specs.Layout.{Layout, read_row, hidden_row}
 use Rattle.layout.specs.Write.{Left, refuses, judged}
 use Rattle.rows.specs.Rows.{device, contact, queued, courier}
-use Rattle.rows.specs.declared.Verdict.{Verdict}
-use Rattle.rows.specs.declared.Verdict.TheVariants as verdict
 
 -- the row's own questions are asked first, then the output; a refusal changes nothing
 unfoldable pub veils : {A : Type 0} → Layout A → List ℕ → List ℕ → Left
@@ -20,7 +18,3 @@ veil_of kind version row out =
     (cond (eqb kind 1) (veils (contact version) row out)
     (cond (eqb kind 2) (veils (queued version) row out)
     (cond (eqb kind 3) (veils (courier version) row out) (record { answer = refuses CODE; out = out }))))
-
-abbrev pub refusal_in : Verdict → ℕ
-refusal_in verdict.Accepted = 0
-refusal_in (verdict.Refused q) = q

@@ -4,49 +4,28 @@
 
 ghost use Rattle.std.specs.Prelude.{◌≡◌};
 ghost use Rattle.rows.specs.Rows as layouts;
-ghost use Rattle.rows.specs.Answers.{leaves};
-ghost use Rattle.veil.specs.Veil.{veils, veil_of, refusal_in};
+ghost use Rattle.layout.specs.Says.{leaves};
+ghost use Rattle.veil.specs.Veil.{veils, veil_of};
 
-use contact::ContactCheck;
-use layout::question;
-use rows::{Verdict, Written};
+use layout::Question;
 
 // The longest sealed text.
 const SEALED_MAX: usize = 4064;
 
-// The question that refused; 0 where none did.
-fn refusal(verdict: Verdict) -> u8
-    ensures { result ≡ refusal_in verdict }
-{
-    match verdict {
-        Verdict::Refused(q) => q,
-        Verdict::Accepted => 0,
-    }
-}
-
 // Veiled: the beacon key.
-fn veil_device(version: u32, row: &[u8], out: &mut [u8]) -> Written
+fn veil_device(version: u32, row: &[u8], out: &mut [u8]) -> Result<usize, Question>
     ensures { leaves result out.new ≡ veils (layouts.device version) row.now out.old }
 {
-    let read = device_row::read_device(version, row);
-    let verdict = read.verdict;
-    let Verdict::Accepted = verdict else {
-        return Written::Refused(refusal(verdict));
-    };
-    let mut device = read.device;
+    let mut device = device_row::read_device(version, row)?;
     device.beacon_key = [0; 32];
     device.row(out)
 }
 
 // Veiled: s of the own envelope, and the sealed text.
-fn veil_queued(version: u32, row: &[u8], out: &mut [u8]) -> Written
+fn veil_queued(version: u32, row: &[u8], out: &mut [u8]) -> Result<usize, Question>
     ensures { leaves result out.new ≡ veils (layouts.queued version) row.now out.old }
 {
-    let read = queued_row::read_queued(version, row);
-    let verdict = read.verdict;
-    let Verdict::Accepted = verdict else {
-        return Written::Refused(refusal(verdict));
-    };
+    let read = queued_row::read_queued(version, row)?;
     let mut queued = read.queued;
     queued.s = [0; 16];
     let zeros = [0u8; SEALED_MAX];
@@ -55,14 +34,10 @@ fn veil_queued(version: u32, row: &[u8], out: &mut [u8]) -> Written
 }
 
 // Veiled: the sealed text of what is carried; s of a tombstone.
-fn veil_courier(version: u32, row: &[u8], out: &mut [u8]) -> Written
+fn veil_courier(version: u32, row: &[u8], out: &mut [u8]) -> Result<usize, Question>
     ensures { leaves result out.new ≡ veils (layouts.courier version) row.now out.old }
 {
-    let read = courier_row::read_courier(version, row);
-    let verdict = read.verdict;
-    let Verdict::Accepted = verdict else {
-        return Written::Refused(refusal(verdict));
-    };
+    let read = courier_row::read_courier(version, row)?;
     let mut held = read.held;
     held.s = [0; 16];
     let zeros = [0u8; SEALED_MAX];
@@ -71,29 +46,23 @@ fn veil_courier(version: u32, row: &[u8], out: &mut [u8]) -> Written
 }
 
 // Veiled: the card's beacon key, the doors, the route key, and the keys of chains, pending and skipped. The card's 1184-byte key is not.
-fn veil_contact(version: u32, row: &[u8], out: &mut [u8]) -> Written
+fn veil_contact(version: u32, row: &[u8], out: &mut [u8]) -> Result<usize, Question>
     ensures { leaves result out.new ≡ veils (layouts.contact version) row.now out.old }
 {
-    let check = contact::check_contact(version, row);
-    let ContactCheck::Fields(at) = check else {
-        return Written::Refused(check.refusal());
-    };
+    let at = contact::check_contact(version, row)?;
     let n = row.len();
     if out.len() < n {
-        return Written::Refused(question::OUTPUT);
+        return Err(Question::Output);
     }
-    let paired = at.paired;
-    let keys_at = veil_contact::veil_paired(out, 0, row, paired);
-    let keys = at.keys;
-    let chained_at = veil_contact::veil_keys(out, keys_at, keys);
-    let chained = at.chained;
-    let numbers_at = veil_contact::veil_chained(out, chained_at, row, chained);
+    let keys_at = veil_contact::veil_paired(out, 0, row, at.paired);
+    let chained_at = veil_contact::veil_keys(out, keys_at, at.keys);
+    let numbers_at = veil_contact::veil_chained(out, chained_at, row, at.chained);
     put::put_run(out, numbers_at, row, numbers_at, n - numbers_at);
-    Written::Length(n)
+    Ok(n)
 }
 
 // A row of the kind 0 device, 1 contact, 2 queued or 3 courier. Another kind is refused before all else.
-pub fn veil(kind: u32, version: u32, row: &[u8], out: &mut [u8]) -> Written
+pub fn veil(kind: u32, version: u32, row: &[u8], out: &mut [u8]) -> Result<usize, Question>
     ensures { leaves result out.new ≡ veil_of kind version row.now out.old }
 {
     match kind {
@@ -101,6 +70,6 @@ pub fn veil(kind: u32, version: u32, row: &[u8], out: &mut [u8]) -> Written
         1 => veil_contact(version, row, out),
         2 => veil_queued(version, row, out),
         3 => veil_courier(version, row, out),
-        _ => Written::Refused(question::CODE),
+        _ => Err(Question::Code),
     }
 }

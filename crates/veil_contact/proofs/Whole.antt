@@ -7,6 +7,7 @@ use mathlib.Core.Path.{◌≡◌, refl, sym, ap, ◌∙◌}
 use native.Mathlib.Omega.{arith}
 use lib.ListN.{length, drop, length-append, length-drop}
 use lib.Seq.{drop_at, take_all}
+use Rattle.std.specs.Prelude as code
 use Rattle.layout.specs.Questions.{CARD_END}
 use Rattle.layout.specs.Veil.{veil, zeros}
 use Rattle.layout.specs.Form.{u32, u64}
@@ -24,9 +25,7 @@ use Rattle.contact_parts.specs.Offsets.{run, paired_from, keys_from, pending_fro
 use Rattle.contact_parts.specs.declared.PairedAt.{PairedAt}
 use Rattle.contact_parts.specs.declared.KeysAt.{KeysAt}
 use Rattle.contact_parts.specs.declared.PendingAt.{PendingAt}
-use Rattle.contact_parts.specs.declared.PendingAt.TheVariants as pending_at
-use Rattle.contact_parts.specs.declared.SendAt.{SendAt}
-use Rattle.contact_parts.specs.declared.SendAt.TheVariants as send_at
+use Rattle.contact_parts.specs.declared.SendChainAt.{SendChainAt}
 use Rattle.contact_parts.specs.declared.ChainedAt.{ChainedAt}
 use Rattle.contact_parts.specs.declared.NumbersAt.{NumbersAt}
 use Rattle.veil_contact.specs.Veiled.{Stands, veiled_keys, veiled_pending, veiled_send, veiled_chained}
@@ -51,15 +50,15 @@ contact-print version v =
     ((list (group range)).print v.above) ((list u32).print v.unacked) ((list (group range)).print v.expired)
 
 -- ---- the parts' blanked values
-pending-blank : (row : List ℕ) (p : PendingAt) (post : List ℕ) → (optional (group pending)).fits (pending_from row p) post → (optional (group pending)).blank veil (pending_from row p) ≡ veiled_pending p
+pending-blank : (row : List ℕ) (p : code.Option PendingAt) (post : List ℕ) → (optional (group pending)).fits (pending_from row p) post → (optional (group pending)).blank veil (pending_from row p) ≡ veiled_pending p
 unfolding layout.blank_of
-pending-blank row pending_at.Absent post h = refl
-pending-blank row (pending_at.Present a b) post h = λ i. some (record { chain_key = zeros (h.1.0.0 i); msg_seed = zeros (h.1.0.1.0 i) })
+pending-blank row code.None post h = refl
+pending-blank row (code.Some p) post h = λ i. some (record { chain_key = zeros (h.1.0.0 i); msg_seed = zeros (h.1.0.1.0 i) })
 
-send-blank : (row : List ℕ) (s : SendAt) (post : List ℕ) → (optional (group send)).fits (send_from row s) post → (optional (group send)).blank veil (send_from row s) ≡ veiled_send s
+send-blank : (row : List ℕ) (s : code.Option SendChainAt) (post : List ℕ) → (optional (group send)).fits (send_from row s) post → (optional (group send)).blank veil (send_from row s) ≡ veiled_send s
 unfolding layout.blank_of
-send-blank row send_at.Absent post h = refl
-send-blank row (send_at.Present s) post h = λ i. some (record { gen = s.gen_; dir = s.dir; idx = s.idx; key = zeros (h.1.0.1.1.1.0 i) })
+send-blank row code.None post h = refl
+send-blank row (code.Some s) post h = λ i. some (record { gen = s.gen_; dir = s.dir; idx = s.idx; key = zeros (h.1.0.1.1.1.0 i) })
 
 numbers-blank : (n : Numbers) → blank_of numbers veil n ≡ n
 unfolding layout.blank_of

@@ -14,9 +14,8 @@ use Rattle.contact_parts.specs.Parts.{Keys, Chained}
 use Rattle.contact_parts.specs.Offsets.{run, list_in}
 use Rattle.contact_parts.specs.declared.KeysAt.{KeysAt}
 use Rattle.contact_parts.specs.declared.PendingAt.{PendingAt}
-use Rattle.contact_parts.specs.declared.PendingAt.TheVariants as pending_at
-use Rattle.contact_parts.specs.declared.SendAt.{SendAt}
-use Rattle.contact_parts.specs.declared.SendAt.TheVariants as send_at
+use Rattle.contact_parts.specs.declared.SendChainAt.{SendChainAt}
+use Rattle.std.specs.Prelude as code
 use Rattle.contact_parts.specs.declared.ChainedAt.{ChainedAt}
 
 -- bytes of a row around a key of 32 bytes: `head` of them before it and `tail` of them after it
@@ -56,13 +55,13 @@ veiled_keys k = record {
   sent_msgno = k.sent_msgno;
 }
 
-abbrev pub veiled_pending : PendingAt → Option value.Pending
-veiled_pending pending_at.Absent = none
-veiled_pending (pending_at.Present chain_key msg_seed) = some (record { chain_key = zeros 32; msg_seed = zeros 32 })
+abbrev pub veiled_pending : code.Option PendingAt → Option value.Pending
+veiled_pending code.None = none
+veiled_pending (code.Some p) = some (record { chain_key = zeros 32; msg_seed = zeros 32 })
 
-abbrev pub veiled_send : SendAt → Option value.Send
-veiled_send send_at.Absent = none
-veiled_send (send_at.Present s) = some (record { gen = s.gen_; dir = s.dir; idx = s.idx; key = zeros 32 })
+abbrev pub veiled_send : code.Option SendChainAt → Option value.Send
+veiled_send code.None = none
+veiled_send (code.Some s) = some (record { gen = s.gen_; dir = s.dir; idx = s.idx; key = zeros 32 })
 
 abbrev pub veiled_chained : List ℕ → ChainedAt → Chained
 veiled_chained row c = record {

@@ -4,7 +4,7 @@
 ghost use Rattle.std.specs.Prelude.{◌≡◌, ◌+◌, ◌≤◌, ◌<◌, length};
 ghost use Rattle.layout.specs.Veil.{veil};
 ghost use Rattle.layout.specs.Layout.{print, blank_of, group, optional_layout};
-ghost use Rattle.rows.specs.Rows.{dir_byte, pending, send, chain, skipped};
+ghost use Rattle.rows.specs.Rows.{pending, send, chain, skipped};
 ghost use Rattle.put.specs.Put.{Wrote};
 ghost use Rattle.contact_parts.specs.Parts.{paired, keys, chained};
 ghost use Rattle.contact_parts.specs.Offsets.{paired_from, CardOffsets, list_in, ListIn, ChainedLists};
@@ -12,8 +12,7 @@ ghost use Rattle.veil_contact.specs.Veiled.{around_key, Stands, card_tail, veile
 
 use card::CardAt;
 use contact_lists::ListAt;
-use contact_parts::{ChainedAt, KeysAt, PairedAt, PendingAt, SendAt};
-use rows::Dir;
+use contact_parts::{ChainedAt, KeysAt, PairedAt, PendingAt, SendChainAt};
 
 const KEY_LEN: usize = 32;
 
@@ -64,44 +63,30 @@ pub fn veil_keys(out: &mut [u8], at: usize, k: KeysAt) -> usize
 }
 
 // The flag, and both keys of a Resume that awaits its confirmation, all 0.
-fn veil_pending(out: &mut [u8], at: usize, p: PendingAt) -> usize
+fn veil_pending(out: &mut [u8], at: usize, p: Option<PendingAt>) -> usize
     requires { at + length (print (optional_layout (group pending)) (veiled_pending p)) ≤ length out.old }
     ensures { (result ≡ at + length (print (optional_layout (group pending)) (veiled_pending p))) × Wrote out.old at (print (optional_layout (group pending)) (veiled_pending p)) out.new result }
 {
-    match p {
-        PendingAt::Absent => put::put_byte(out, at, 0),
-        PendingAt::Present(_, _) => {
-            let chain_key_at = put::put_byte(out, at, 1);
-            put::put_zeros(out, chain_key_at, 2 * KEY_LEN)
-        }
+    if p.is_none() {
+        return put::put_byte(out, at, 0);
     }
-}
-
-fn dir_byte(dir: Dir) -> u8
-    ensures { result ≡ dir_byte dir }
-{
-    match dir {
-        Dir::I => b'I',
-        Dir::R => b'R',
-    }
+    let chain_key_at = put::put_byte(out, at, 1);
+    put::put_zeros(out, chain_key_at, 2 * KEY_LEN)
 }
 
 // The flag, and the send chain's numbers before its key, which is 0.
-fn veil_send(out: &mut [u8], at: usize, s: SendAt) -> usize
+fn veil_send(out: &mut [u8], at: usize, s: Option<SendChainAt>) -> usize
     requires { at + length (print (optional_layout (group send)) (veiled_send s)) ≤ length out.old }
     ensures { (result ≡ at + length (print (optional_layout (group send)) (veiled_send s))) × Wrote out.old at (print (optional_layout (group send)) (veiled_send s)) out.new result }
 {
-    match s {
-        SendAt::Absent => put::put_byte(out, at, 0),
-        SendAt::Present(its) => {
-            let gen_at = put::put_byte(out, at, 1);
-            let dir_at = put::put_be(out, gen_at, 1, its.gen_ as u64);
-            let dir = its.dir;
-            let idx_at = put::put_byte(out, dir_at, dir_byte(dir));
-            let key_at = put::put_be(out, idx_at, 4, its.idx as u64);
-            put::put_zeros(out, key_at, KEY_LEN)
-        }
-    }
+    let Some(its) = s else {
+        return put::put_byte(out, at, 0);
+    };
+    let gen_at = put::put_byte(out, at, 1);
+    let dir_at = put::put_byte(out, gen_at, its.gen_);
+    let idx_at = put::put_byte(out, dir_at, u8::from(its.dir));
+    let key_at = put::put_be(out, idx_at, 4, u64::from(its.idx));
+    put::put_zeros(out, key_at, KEY_LEN)
 }
 
 // How many bytes stand from a chain's flag on: the flag, and superseded_s if it is 1.
@@ -120,15 +105,12 @@ fn veil_each_chain(out: &mut [u8], at: usize, row: &[u8], l: ListAt) -> usize
     requires { ListIn (group chain) row.now l × (at + length (veiled_many (group chain) (list_in (group chain) row.now l)) ≤ length out.old) }
     ensures { (result ≡ at + length (veiled_many (group chain) (list_in (group chain) row.now l))) × Wrote out.old at (veiled_many (group chain) (list_in (group chain) row.now l)) out.new result }
 {
-    let count = l.count;
     let mut p = l.first;
     let mut q = at;
-    let mut i: usize = 0;
-    while i < count {
+    for _ in 0..l.count {
         let tail = flag_len(row, p + 42);
         q = veil_key(out, q, row, p, 10, tail);
-        p = p + 42 + tail;
-        i += 1;
+        p += 42 + tail;
     }
     q
 }
@@ -138,14 +120,11 @@ fn veil_each_skipped(out: &mut [u8], at: usize, row: &[u8], l: ListAt) -> usize
     requires { ListIn (group skipped) row.now l × (at + length (veiled_many (group skipped) (list_in (group skipped) row.now l)) ≤ length out.old) }
     ensures { (result ≡ at + length (veiled_many (group skipped) (list_in (group skipped) row.now l))) × Wrote out.old at (veiled_many (group skipped) (list_in (group skipped) row.now l)) out.new result }
 {
-    let count = l.count;
     let mut p = l.first;
     let mut q = at;
-    let mut i: usize = 0;
-    while i < count {
+    for _ in 0..l.count {
         q = veil_key(out, q, row, p, 6, 8);
-        p = p + 46;
-        i += 1;
+        p += 46;
     }
     q
 }
@@ -173,12 +152,8 @@ pub fn veil_chained(out: &mut [u8], at: usize, row: &[u8], c: ChainedAt) -> usiz
     requires { ChainedLists row.now c × (at + length (print chained (veiled_chained row.now c)) ≤ length out.old) }
     ensures { (result ≡ at + length (print chained (veiled_chained row.now c))) × Wrote out.old at (print chained (veiled_chained row.now c)) out.new result }
 {
-    let pending = c.pending;
-    let send_at = veil_pending(out, at, pending);
-    let send = c.send;
-    let chains_at = veil_send(out, send_at, send);
-    let chains = c.chains;
-    let skipped_at = veil_chains(out, chains_at, row, chains);
-    let skipped = c.skipped;
-    veil_skipped(out, skipped_at, row, skipped)
+    let send_at = veil_pending(out, at, c.pending);
+    let chains_at = veil_send(out, send_at, c.send);
+    let skipped_at = veil_chains(out, chains_at, row, c.chains);
+    veil_skipped(out, skipped_at, row, c.skipped)
 }

@@ -1,5 +1,4 @@
--- `veil_contact::veil_each_skipped` meets its contract. The invariant: the keys that are left stand in the row at p, and stored from q on give the whole. The measure is how many are left.
-use Prim.Native.Nat.{◌-◌}
+-- `veil_contact::veil_each_skipped` meets its contract. The invariant: the keys that are left stand in the row at p, and stored from q on give the whole.
 use lib.ListN.{drop}
 use Rattle.layout.specs.Layout.{group}
 use Rattle.rows.specs.Rows.{skipped}
@@ -8,8 +7,5 @@ use Rattle.veil_contact.specs.Veiled.{veiled_many}
 use Rattle.veil_contact.proofs.Items.{Copying}
 use Rattle.veil_contact.proofs.veil_each_skipped.Given as goal
 
-abbrev pub invariant-loop-i : goal.invariant-loop-i
-invariant-loop-i l = Copying (group skipped) l.initial.out l.at (veiled_many (group skipped) (items (group skipped) l.count (drop l.initial.p l.row))) l.row l.count l.out l.q l.p l.i
-
-abbrev pub decreases-loop-i : goal.decreases-loop-i
-decreases-loop-i l = l.count - l.i
+abbrev pub invariant-loop : goal.invariant-loop
+invariant-loop l = Copying (group skipped) l.initial.out l.at (veiled_many (group skipped) (items (group skipped) l.end (drop l.initial.p l.row))) l.row l.end l.out l.q l.p l.counter
