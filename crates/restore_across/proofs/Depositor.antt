@@ -12,7 +12,6 @@ use Rattle.layout.specs.Questions.{CODE}
 use Rattle.layout.specs.Read.{Read, value, refused}
 use Rattle.layout.specs.Form.{u8, u64, either}
 use Rattle.layout.specs.Field.{takes, refuses, read_at}
-use Rattle.layout.specs.Field as field
 use Rattle.layout.specs.Layout.{group, parse, answer}
 use Rattle.layout.specs.RowLaws.{Bytes}
 use Rattle.layout.proofs.Front.{number-lawful}

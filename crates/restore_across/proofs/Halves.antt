@@ -1,24 +1,15 @@
--- The search by halves in numbers that rise, and numbers that stand in a row, four bytes each.
+-- The search by halves in numbers that rise.
 -- Assumes nothing.
-use Prim.Native.Nat.{ℕ, zero, suc, ◌+◌, ◌*◌, ◌≤◌, ◌<◌}
+use Prim.Native.Nat.{ℕ, zero, suc, ◌+◌, ◌≤◌, ◌<◌}
 use mathlib.Core.List.{List, [], ◌∷◌}
 use mathlib.Core.Bool.{Bool, true, false, ◌&&◌, ◌||◌}
-use mathlib.Core.Path.{◌≡◌, refl, sym, ap, ◌∙◌}
+use mathlib.Core.Path.{◌≡◌, refl}
 use native.Mathlib.Omega.{arith}
 use native.Mathlib.Decide.{dec_le}
-use lib.ListN.{length, get_or, drop, length-drop}
-use lib.Seq.{drop-drop}
+use lib.ListN.{length, get_or}
 use lib.Dec.{T, leb, eqb, leb→le}
 use borrow.Author.Tests.{eq-eqb, ne_eqb}
-use Rattle.layout.specs.Form.{big_endian, u32}
-use Rattle.layout.specs.Field.{takes, refuses, read_at}
-use Rattle.layout.proofs.At.{number_in}
 use Rattle.rows.specs.Checks.{any, rising}
-use Rattle.contact_lists.specs.Lists.{items, Stands}
-use Rattle.contact_checks.specs.Cells.{cells, Rooms, rooms-more}
-use Rattle.contact_checks.specs.Cells as stand
-use Rattle.contact_checks.proofs.Cells.{Many, standing, all_shown}
-use Rattle.contact_checks.proofs.Fields.{number-shows}
 use Rattle.store.proofs.Tests.{both}
 
 -- ---- a number among others, by their places
@@ -49,7 +40,7 @@ least lo hi (x ∷ xs) r (suc k) h =
     let next = least (x + 1) hi xs t.1 k (omega arith) in
     omega arith
 
-in_order : (lo hi : ℕ) (xs : List ℕ) → T (rising lo hi xs) → (j k : ℕ) → j < k → k < length xs → get_or xs j 0 < get_or xs k 0
+pub in_order : (lo hi : ℕ) (xs : List ℕ) → T (rising lo hi xs) → (j k : ℕ) → j < k → k < length xs → get_or xs j 0 < get_or xs k 0
 in_order lo hi [] r j k below h = absurd (omega arith)
 in_order lo hi (x ∷ xs) r j zero below h = absurd (omega arith)
 in_order lo hi (x ∷ xs) r zero (suc k) below h =
@@ -87,56 +78,3 @@ module _ {n : ℕ} {xs : List ℕ} {low high : ℕ} (halved : Halved n xs low hi
         go : (k : ℕ) → mid ≤ k → k < length xs → Dec (k ≤ mid) → n < get_or xs k 0
         go k l m (yes p) = let same : k ≡ mid = omega arith in rw same s
         go k l m (no p) = omega (arith, in_order lo hi xs r mid k (omega arith) m)
-
--- ---- numbers that stand in a row
-abbrev numbers : ℕ → List ℕ → List ℕ
-numbers = cells (λ l. 4) (big_endian 4)
-
-long : (n : ℕ) (l : List ℕ) → length (numbers n l) ≡ n
-unfolding stand.cells
-long zero l = refl
-long (suc n) l = ap suc (long n (drop 4 l))
-
-record One (n : ℕ) (l : List ℕ) (k : ℕ) : Type 0 where
-  room : 4 * k + 4 ≤ length l
-  is : get_or (numbers n l) k 0 ≡ big_endian 4 (drop (4 * k) l)
-
-one : (n : ℕ) (l : List ℕ) (k : ℕ) → Rooms (λ l. 4) n l → k < n → One n l k
-unfolding stand.cells
-one zero l k r h = absurd (omega arith)
-one (suc n) l zero (rooms-more room after) h = record { room = room; is = refl }
-one (suc n) l (suc k) (rooms-more room after) h =
-    let o = one n (drop 4 l) k after (omega arith) in
-    let next : 4 + 4 * k ≡ 4 * suc k = omega arith in
-    record { room = omega (arith, o.room, length-drop 4 l); is = o.is ∙ ap (big_endian 4) (drop-drop (4 * k) 4 l ∙ ap (λ (m : ℕ). drop m l) next) }
-
--- the k-th of them is the number read at its place
-pub record NumberAt (row : List ℕ) (first count k : ℕ) : Type 0 where
-  pub room : first + 4 * k + 4 ≤ length row
-  pub is : read_at u32 row (first + 4 * k) ≡ takes (get_or (items u32 count (drop first row)) k 0) (first + 4 * k + 4)
-
-module _ (row : List ℕ) (first count : ℕ) (s : Stands u32 row first count) where
-  all : Many (λ l. 4) (big_endian 4) (λ n. n) count (drop first row) (items u32 count (drop first row))
-  all = standing (λ l. 4) (big_endian 4) (λ n. n) u32 (number-shows 4) row first count s
-
-  same : numbers count (drop first row) ≡ items u32 count (drop first row)
-  same = all_shown (λ l. 4) (big_endian 4) all
-
-  pub counted : length (items u32 count (drop first row)) ≡ count
-  counted = ap length (sym same) ∙ long count (drop first row)
-
-  pub number_at : (k : ℕ) → k < count → NumberAt row first count k
-  number_at k h =
-      let o = one count (drop first row) k all.rooms h in
-      let room : first + 4 * k + 4 ≤ length row = omega (arith, o.room, length-drop first row) in
-      let is : big_endian 4 (drop (first + 4 * k) row) ≡ get_or (items u32 count (drop first row)) k 0 =
-      ap (big_endian 4) (sym (drop-drop (4 * k) first row)) ∙ sym o.is ∙ ap (λ (xs : List ℕ). get_or xs k 0) same in
-      record { room = room; is = number_in row (first + 4 * k) 4 room ∙ ap (λ (n : ℕ). takes n (first + 4 * k + 4)) is }
-
--- so it is what a reader finds there, and no reader finds the row too short
-module _ {row : List ℕ} {first count k : ℕ} (there : NumberAt row first count k) where
-  pub number_is : {n next : ℕ} → read_at u32 row (first + 4 * k) ≡ takes n next → n ≡ get_or (items u32 count (drop first row)) k 0
-  number_is e = let is = there.is in cc
-
-  pub never-short : {q : ℕ} → read_at u32 row (first + 4 * k) ≡ refuses q → ⊥
-  never-short e = let is = there.is in let z : ◌≡◌ {A = ℕ} 0 1 = cc in omega arith

@@ -1,6 +1,6 @@
 pub mod Read
 pub mod Halves
-pub mod Turns
+pub mod Chunks
 pub mod Steps
 pub mod ByKind
 pub mod Laws

@@ -21,10 +21,10 @@ use Rattle.contact_lists.specs.Lists as lists
 use Rattle.contact_lists.proofs.Ends.{none_left}
 use Rattle.store.specs.Kinds.{contact, contact_sight, seen_of, refusal_in}
 use Rattle.store.proofs.Rounds.{some≢none}
-use Rattle.contact.specs.Check.{contact_at, checked, contact_from, Offsets}
+use Rattle.layout.specs.Says.{made}
+use Rattle.contact.specs.Check.{contact_at, contact_from, Offsets}
 use Rattle.contact.specs.declared.ContactAt.{ContactAt}
-use Rattle.contact.specs.declared.ContactCheck.TheVariants.{Fields}
-use Rattle.contact.proofs.Placed.{check-says, check-placed}
+use Rattle.contact.proofs.Placed.{placed}
 use Rattle.contact_known.specs.Known.{Sent}
 use Rattle.contact_known.specs.declared.SentAt.{SentAt}
 use Rattle.store.specs.declared.Omitted.{Omitted}
@@ -32,10 +32,6 @@ use Rattle.store.specs.declared.Omitted.TheVariants as left
 use Rattle.store.specs.Omitted.{omitted_seen}
 use Rattle.restore_across.specs.Owner.{contact_seen, owner_at, owner_read, owner_in, owner_omitted, OwnerStands, OwnerIn}
 use Rattle.restore_across.specs.declared.Owner.{Owner}
-
--- what an answer shows, of the row or of an equal part of the run
-pub shown : {A X : Type 0} (l : Layout A) (show : Answer A → X) {row part : List ℕ} {a : Answer A} → row ≡ part → read_row l row ≡ a → show a ≡ show (read_row l part)
-shown l show same e = ap show (sym e) ∙ ap (λ (r : List ℕ). show (read_row l r)) same
 
 -- ---- question q of a layout is a yes for a value that no question refuses
 second : (a b : Option ℕ) → first a b ≡ none → b ≡ none
@@ -93,9 +89,9 @@ owner-read row by {r} sent version known = go (read_row (rows.contact version) r
     go : (a : Answer Contact) → read_row (rows.contact version) row ≡ a → (sent_owner r ≡ owner_in version row) × OwnerStands (contact_seen version row) row (sent_owner r)
     go (accepted v) e =
         let at = contact_at version v in
-        let answer : Fields at ≡ checked version (read_row (rows.contact version) row) = ap (checked version) (sym e) in
+        let stands = placed row by version {at = at} (ap (made (contact_at version)) (sym e)) in
         subst (λ (o : Owner). (o ≡ owner_in version row) × OwnerStands (contact_seen version row) row o) (sym (ap sent_owner (sent version v e)))
-        (ap (owner_read version) (sym e), found version row at by (sym (check-says row by version answer)) (check-placed row by version answer))
+        (ap (owner_read version) (sym e), found version row at by stands.0 stands.1)
     go (refused_by q) e = absurd (some≢none (sym (ap (λ (a : Answer Contact). refusal_in a) e) ∙ known))
 
 -- ... and of the one left out

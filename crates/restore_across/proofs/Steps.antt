@@ -7,14 +7,14 @@ use mathlib.Core.Option.{none}
 use mathlib.Core.Path.{◌≡◌, refl, sym, ap, subst}
 use native.Mathlib.Omega.{arith}
 use lib.ListN.{length}
-use lib.Dec.{leb, eqb, leb→le, eqb→eq}
+use lib.Dec.{leb, leb→le, eqb→eq}
 use Rattle.layout.specs.Questions.{ORDER}
 use Rattle.layout.specs.Layout.{read_row}
 use Rattle.store.specs.declared.Entry.{Entry}
 use Rattle.store.specs.declared.Omitted.{Omitted}
 use Rattle.store.specs.declared.Asked.{Asked}
 use Rattle.store.specs.declared.Asked.TheVariants as so
-use Rattle.store.specs.Rounds.{ask, Round, turn, turns, rounds, Quiet}
+use Rattle.store.specs.Rounds.{ask, Round, turn, turns, Quiet}
 use Rattle.store.specs.Kinds.{DEVICE, CONTACT, COURIER, kind_of, layout_of, refusal_in}
 use Rattle.store.specs.Store.{entry_at, part_of, store_of, in_order, order, bounds, begun}
 use Rattle.store.specs.Omitted.{is_omitted, read_omitted}

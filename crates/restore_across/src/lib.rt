@@ -7,13 +7,11 @@ ghost use Rattle.rows.specs.Checks.{any};
 ghost use Rattle.store.specs.Kinds.{CONTACT};
 ghost use Rattle.store.specs.Store.{is_of, part_of};
 ghost use Rattle.restore_across.specs.Owner.{no_owner, owner_omitted, unacked_at, Searchable, OwnerIn, OwnerFrom};
-ghost use Rattle.restore_across.specs.Across.{begun_from, contact_of, earlier, place_or, tried, near_limit, far_limit, chosen, owner_limit, latest_of, OwnerFor};
+ghost use Rattle.restore_across.specs.Across.{begun_from, contact_of, place_or, tried, near_limit, far_limit, chosen, owner_limit, latest_of, OwnerFor};
 ghost use Rattle.restore_across.specs.Across.{low_in, next_contact_in, depositor_in, SurelyLow, device_turn, contact_turn, queued_turn, courier_turn, entry_turn};
 
-use courier::{CourierCheck, HeldAt};
-use device::DeviceCheck;
-use fields::{U8Field, U32Field, U64Field};
-use layout::question;
+use courier::{HeldAt, Kind};
+use layout::Question;
 use store::{Asked, Entry, Omitted, Wanted};
 
 // What is asked of a queued row's contact: sent_msgno, and where in its row the unacked numbers start and how many they are.
@@ -73,7 +71,7 @@ fn next_contact(run: &[u8], e: Entry) -> u64
     ensures { result ≡ next_contact_in run.now e }
 {
     let row = store::part_of(run, e);
-    let DeviceCheck::Fields(at) = device::check_device(e.version, row) else {
+    let Ok(at) = device::check_device(e.version, row) else {
         return 0;
     };
     at.next_contact
@@ -83,13 +81,13 @@ fn next_contact(run: &[u8], e: Entry) -> u64
 fn surely_low(row: &[u8], next: u64) -> bool
     ensures { SurelyLow next row.now result }
 {
-    let U8Field::Value(kind, behind) = fields::byte_at(row, 0) else {
+    let Ok((kind, behind)) = fields::byte_at(row, 0) else {
         return true;
     };
-    if kind != courier::CARRIED {
+    if kind != u8::from(Kind::Carried) {
         return true;
     }
-    let U64Field::Value(depositor, _) = fields::u64_at(row, behind) else {
+    let Ok((depositor, _)) = fields::u64_at(row, behind) else {
         return true;
     };
     depositor < next
@@ -103,14 +101,10 @@ fn low_depositor(run: &[u8], e: Entry, next: u64) -> bool
     if surely_low(row, next) {
         return true;
     }
-    let CourierCheck::Fields(held) = courier::check_courier(e.version, row) else {
+    let Ok(HeldAt::Carried(at)) = courier::check_courier(e.version, row) else {
         return true;
     };
-    let HeldAt::Carried(at) = held else {
-        return true;
-    };
-    let depositor = at.depositor;
-    depositor.0 < next
+    at.depositor.0 < next
 }
 
 // Of a row that is known to be accepted.
@@ -155,23 +149,10 @@ fn is_unacked(row: &[u8], owner: Owner, msgno: u32) -> bool
     requires { Searchable row.now owner }
     ensures { result ≡ any (eqb msgno) (unacked_at row.now owner) }
 {
-    let mut low: usize = 0;
-    let mut high = owner.count;
-    while low < high {
-        let mid = low + (high - low) / 2;
-        let U32Field::Value(number, _) = fields::u32_at(row, owner.unacked + 4 * mid) else {
-            return false;
-        };
-        if number == msgno {
-            return true;
-        }
-        if number < msgno {
-            low = mid + 1;
-        } else {
-            high = mid;
-        }
-    }
-    false
+    let (numbers, _) = row[owner.unacked..].as_chunks::<4>();
+    numbers[..owner.count]
+        .binary_search_by_key(&msgno, |n| u32::from_be_bytes(*n))
+        .is_ok()
 }
 
 // ---- where to look
@@ -186,33 +167,22 @@ pub fn contact_of(e: Entry) -> Wanted
     }
 }
 
-fn earlier(a: usize, b: usize) -> usize
-    ensures { result ≡ earlier a b }
-{
-    if a <= b { a } else { b }
-}
-
 // Whether c is the contact of the queued row e.
 fn is_its(c: Entry, e: Entry) -> bool
     ensures { result ≡ is_of CONTACT e.id c }
 {
-    if c.kind == store::CONTACT {
-        return c.id == e.id;
-    }
-    false
+    c.kind == store::CONTACT && c.id == e.id
 }
 
 // The place of c, if that is below `upto` and c is the contact of e; else the other place.
 fn place_or(e: Entry, c: Entry, place: usize, upto: usize, other: usize) -> usize
     ensures { result ≡ place_or e c place upto other }
 {
-    if place < upto {
-        if is_its(c, e) {
-            return place;
-        }
-        return other;
+    if place < upto && is_its(c, e) {
+        place
+    } else {
+        other
     }
-    other
 }
 
 // Where the contact of e is thought to stand: at `latest`, where a stands, or at `hint`, where b does; `upto` where it stands at neither of them, below `upto`.
@@ -230,17 +200,14 @@ pub fn near_limit(p: usize, latest: usize, upto: usize) -> usize
     if p < upto {
         return upto;
     }
-    earlier(latest, upto)
+    latest.min(upto)
 }
 
 // How far it is looked for from the start: not at all where it was found.
 pub fn far_limit(p: usize, q: usize, near: usize, upto: usize) -> usize
     ensures { result ≡ far_limit p q near upto }
 {
-    if p < upto {
-        return 0;
-    }
-    if q < upto { 0 } else { near }
+    if p < upto || q < upto { 0 } else { near }
 }
 
 pub fn chosen(p: usize, q: usize, o: usize, far: usize, upto: usize) -> usize
@@ -288,13 +255,10 @@ pub fn owner_of(
     if upto <= p {
         return no_owner();
     }
-    let Across::Going(w) = state else {
-        return owner_from(run, omitted, c);
-    };
-    if p == w.latest {
-        return w.owner;
+    match state {
+        Across::Going(w) if p == w.latest => w.owner,
+        _ => owner_from(run, omitted, c),
     }
-    owner_from(run, omitted, c)
 }
 
 // ---- one turn. The i-th entry is e; its contact's entry is c, found at p, and owner what is asked of it; `first` is the first entry that has a duplicate
@@ -302,19 +266,20 @@ pub fn owner_of(
 fn device_turn(run: &[u8], e: Entry, w: Progress) -> Across
     ensures { result ≡ device_turn run.now e w }
 {
-    let mut after = w;
-    after.next_contact = next_contact(run, e);
-    Across::Going(after)
+    Across::Going(Progress {
+        next_contact: next_contact(run, e),
+        ..w
+    })
 }
 
 fn contact_turn(e: Entry, i: usize, first: usize, w: Progress) -> Across
     ensures { result ≡ contact_turn e i first w }
 {
     if w.next_contact <= e.id {
-        return Across::Refused(question::CONTACT_BELOW_NEXT, i);
+        return Across::Refused(Question::ContactBelowNext.number(), i);
     }
     if first <= i {
-        return Across::Refused(question::CONTACT_NEW, i);
+        return Across::Refused(Question::ContactNew.number(), i);
     }
     Across::Going(w)
 }
@@ -333,44 +298,41 @@ fn queued_turn(
     ensures { result ≡ queued_turn (part_of run.now c) e i p first owner w }
 {
     if i <= p {
-        return Across::Refused(question::QUEUED_CONTACT, i);
+        return Across::Refused(Question::QueuedContact.number(), i);
     }
-    if e.msgno < 1 {
-        return Across::Refused(question::QUEUED_MSGNO, i);
-    }
-    if owner.sent_msgno < e.msgno {
-        return Across::Refused(question::QUEUED_MSGNO, i);
+    if e.msgno < 1 || owner.sent_msgno < e.msgno {
+        return Across::Refused(Question::QueuedMsgno.number(), i);
     }
     let row = store::part_of(run, c);
     if is_unacked(row, owner, e.msgno) {
-        return Across::Refused(question::QUEUED_UNACKED, i);
+        return Across::Refused(Question::QueuedUnacked.number(), i);
     }
     if first <= i {
-        return Across::Refused(question::QUEUED_NEW, i);
+        return Across::Refused(Question::QueuedNew.number(), i);
     }
-    let mut after = w;
-    after.latest = p;
-    after.owner = owner;
-    Across::Going(after)
+    Across::Going(Progress {
+        latest: p,
+        owner,
+        ..w
+    })
 }
 
 fn courier_turn(run: &[u8], e: Entry, i: usize, first: usize, w: Progress) -> Across
     ensures { result ≡ courier_turn run.now e i first w }
 {
     if !low_depositor(run, e, w.next_contact) {
-        return Across::Refused(question::DEPOSITOR, i);
+        return Across::Refused(Question::Depositor.number(), i);
     }
     if first <= i {
-        return Across::Refused(question::SLOT_NEW, i);
+        return Across::Refused(Question::SlotNew.number(), i);
     }
     if e.id == u64::MAX {
-        return Across::Refused(question::SLOT_BELOW_LAST, i);
+        return Across::Refused(Question::SlotBelowLast.number(), i);
     }
-    let mut after = w;
-    if w.slots <= e.id {
-        after.slots = e.id + 1;
-    }
-    Across::Going(after)
+    Across::Going(Progress {
+        slots: w.slots.max(e.id + 1),
+        ..w
+    })
 }
 
 pub fn entry_turn(
@@ -389,8 +351,7 @@ pub fn entry_turn(
     let Across::Going(w) = state else {
         return state;
     };
-    let kind = e.kind;
-    match kind {
+    match e.kind {
         0 => device_turn(run, e, w),
         1 => contact_turn(e, i, first, w),
         2 => queued_turn(run, e, c, i, p, first, owner, w),

@@ -1,17 +1,17 @@
 -- All passes together find the first entry of all that has a duplicate, since each entry is of one part; and where all entries rise, there is none.
 -- Assumes nothing.
-use Rattle.std.proofs.Common.{◌≡◌, ℕ, ◌+◌, ◌-◌, ◌/◌, ◌<◌, ◌≤◌, Bool, true, false, cond, T, ltb, leb, List, length, sym, refl, ap, ◌∙◌, subst, arith, eqb→eq, ltb→lt, lt→ltb, leb→le}
+use Rattle.std.proofs.Common.{◌≡◌, ℕ, ◌+◌, ◌/◌, ◌<◌, ◌≤◌, T, ltb, List, length, sym, subst, arith, eqb→eq, ltb→lt, lt→ltb}
 use native.Mathlib.Decide.{dec_le}
 use lib.Bits.{and_le_r}
 use Rattle.store.specs.declared.Entry.{Entry}
 use Rattle.store.specs.Store.{entry_at}
 use Rattle.store.specs.Find.{first_where}
 use Rattle.store.specs.Duplicates.{has_duplicate, first_duplicate}
-use Rattle.store.proofs.Tests.{truth, both, pair, eq→eqb}
+use Rattle.store.proofs.Tests.{both, pair, eq→eqb}
 use Rattle.store.proofs.Searches.{FirstAt, first-at, first-is}
 use Rattle.restore_duplicates.specs.Above.{is_stop_at}
 use Rattle.restore_duplicates.specs.Keys.{hash_of}
-use Rattle.restore_duplicates.specs.Parts.{part_of, in_part, duplicate_in, duplicates_below, unless_rising, parts_for}
+use Rattle.restore_duplicates.specs.Parts.{part_of, in_part, duplicate_in, duplicates_below}
 use Rattle.restore_duplicates.proofs.Above.{none-twice}
 
 module _ (es : List Entry) where
@@ -19,19 +19,11 @@ module _ (es : List Entry) where
   its last i = part_of last (hash_of (entry_at es i))
 
   -- ---- one more part
-  -- before the pass of a part: the first that has a duplicate, of the parts before it
-  pub record SoFar (last best parts part first : ℕ) : Type 0 where
-    pub upto : part ≤ parts
-    pub same : first ≡ first_where (duplicates_below es last part) 0 best
-
   none_below : (last i : ℕ) → T (duplicates_below es last 0 i) → ⊥
   none_below last i t = let l = ltb→lt (its last i) 0 (both (has_duplicate es i) (ltb (its last i) 0) t).1 in omega arith
 
-  pub none_yet : (last best parts : ℕ) → SoFar last best parts 0 best
-  none_yet last best parts = record {
-    upto = omega arith;
-    same = first-is (duplicates_below es last 0) 0 best best (record { from = omega arith; upto = omega arith; hit = λ l. absurd (omega arith); misses = λ m a b. none_below last m });
-  }
+  pub no-parts : (last best : ℕ) → best ≡ first_where (duplicates_below es last 0) 0 best
+  no-parts last best = first-is (duplicates_below es last 0) 0 best best (record { from = omega arith; upto = omega arith; hit = λ l. absurd (omega arith); misses = λ m a b. none_below last m })
 
   -- an entry of the parts below the next one is of this part or of one below it
   module _ (last part i : ℕ) where
@@ -58,14 +50,15 @@ module _ (es : List Entry) where
         go (yes a) = let same : its last i ≡ part = omega (arith, low) in this (pair (has_duplicate es i) (in_part last part (hash_of (entry_at es i))) so.0 (eq→eqb (its last i) part same))
         go (no a) = below (pair (has_duplicate es i) (ltb (its last i) part) so.0 (lt→ltb (its last i) part (omega arith)))
 
-  pub next-part : (last best parts part first next : ℕ) → part < parts → SoFar last best parts part first → next ≡ first_where (duplicate_in es last part) 0 first → SoFar last best parts (part + 1) next
-  next-part last best parts part first next l so told = record { upto = omega arith; same = first-is (duplicates_below es last (part + 1)) 0 best next (subst (FirstAt (duplicates_below es last (part + 1)) 0 best) (sym told) go) }
+  -- `first` is the first that has a duplicate, of the parts before this one, and `next` the first of this part, if it is before that
+  pub next-part : (last best part first next : ℕ) → first ≡ first_where (duplicates_below es last part) 0 best → next ≡ first_where (duplicate_in es last part) 0 first → next ≡ first_where (duplicates_below es last (part + 1)) 0 best
+  next-part last best part first next so told = first-is (duplicates_below es last (part + 1)) 0 best next (subst (FirstAt (duplicates_below es last (part + 1)) 0 best) (sym told) go)
     where
       this : FirstAt (duplicate_in es last part) 0 first (first_where (duplicate_in es last part) 0 first)
       this = first-at (duplicate_in es last part) 0 first
 
       below : FirstAt (duplicates_below es last part) 0 best first
-      below = subst (FirstAt (duplicates_below es last part) 0 best) (sym so.same) (first-at (duplicates_below es last part) 0 best)
+      below = subst (FirstAt (duplicates_below es last part) 0 best) (sym so) (first-at (duplicates_below es last part) 0 best)
 
       hits : Dec (first ≤ first_where (duplicate_in es last part) 0 first) → first_where (duplicate_in es last part) 0 first < best → T (duplicates_below es last (part + 1) (first_where (duplicate_in es last part) 0 first))
       hits (yes a) l =
@@ -81,14 +74,11 @@ module _ (es : List Entry) where
         misses = λ m a b t. of_parts last part m t (this.misses m a b) (below.misses m a (omega (arith, this.upto)));
       }
 
-  pub all-below : (last best parts part first : ℕ) → parts ≤ part → SoFar last best parts part first → first ≡ first_where (duplicates_below es last parts) 0 best
-  all-below last best parts part first over so = let same : part ≡ parts = omega (arith, so.upto) in so.same ∙ ap (λ (k : ℕ). first_where (duplicates_below es last k) 0 best) same
-
   -- ---- all parts
   abbrev whole : ℕ
   whole = length es
 
-  all-parts : (last parts best : ℕ) → last < parts → first_where (duplicates_below es last parts) 0 best ≡ first_where (has_duplicate es) 0 best
+  pub all-parts : (last parts best : ℕ) → last < parts → first_where (duplicates_below es last parts) 0 best ≡ first_where (has_duplicate es) 0 best
   all-parts last parts best l = first-is (has_duplicate es) 0 best (first_where (duplicates_below es last parts) 0 best) (record {
     from = omega arith;
     upto = below.upto;
@@ -102,45 +92,11 @@ module _ (es : List Entry) where
       below : FirstAt (duplicates_below es last parts) 0 best found
       below = first-at (duplicates_below es last parts) 0 best
 
-  no-parts : (last best : ℕ) → first_where (duplicates_below es last 0) 0 best ≡ best
-  no-parts last best = sym (none_yet last best 0).same
-
   -- ---- entries that rise
-  all-rise : whole ≤ first_where (is_stop_at es) 0 whole → whole ≡ first_duplicate es
-  all-rise over = first-is (has_duplicate es) 0 whole whole (record {
+  pub all-rise : whole ≡ first_where (is_stop_at es) 0 whole → whole ≡ first_duplicate es
+  all-rise rise = first-is (has_duplicate es) 0 whole whole (record {
     from = omega arith;
     upto = omega arith;
     hit = λ l. absurd (omega arith);
     misses = λ m a b. none-twice es whole (λ k l. (first-at (is_stop_at es) 0 whole).misses k (omega arith) (omega arith)) m b;
   })
-
-  -- ---- parts up to `last`, unless all entries rise
-  pub of-all : (n up last parts k r : ℕ) → n ≡ whole → up ≡ first_where (is_stop_at es) 0 whole → parts ≡ unless_rising n up k → (parts ≡ k → last < parts)
-      → r ≡ first_where (duplicates_below es last parts) 0 n → r ≡ first_duplicate es
-  of-all n up last parts k r is-n is_up is-parts all is-r = is-r ∙ ap (first_where (duplicates_below es last parts) 0) is-n ∙ go (leb whole up) refl
-    where
-      so : parts ≡ unless_rising whole up k
-      so = is-parts ∙ ap (λ (m : ℕ). unless_rising m up k) is-n
-
-      go : (t : Bool) → leb whole up ≡ t → first_where (duplicates_below es last parts) 0 whole ≡ first_duplicate es
-      go true is =
-          let none : parts ≡ 0 = so ∙ ap (λ (x : Bool). cond x 0 k) is in
-          ap (λ (m : ℕ). first_where (duplicates_below es last m) 0 whole) none ∙ no-parts last whole ∙ all-rise (rw is_up at (leb→le whole up (truth (leb whole up) is)))
-      go false is = all-parts last parts whole (all (so ∙ ap (λ (x : Bool). cond x 0 k) is))
-
--- ---- the parts of few entries, and of many
-pub one-part : (parts : ℕ) → parts ≡ 1 → 0 < parts
-one-part parts is = omega arith
-
-some-parts : (n : ℕ) → 0 < parts_for n
-some-parts n = go (leb n 32768) (leb n 131072) (leb n 524288) (leb n 2097152)
-  where
-    go : (a b c d : Bool) → 0 < cond a 1 (cond b 4 (cond c 16 (cond d 64 256)))
-    go true b c d = omega arith
-    go false true c d = omega arith
-    go false false true d = omega arith
-    go false false false true = omega arith
-    go false false false false = omega arith
-
-pub last-part : (n parts last : ℕ) → last ≡ parts - 1 → parts ≡ parts_for n → last < parts
-last-part n parts last is_last is-parts = omega (arith, some-parts n)

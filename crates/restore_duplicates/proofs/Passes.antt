@@ -1,10 +1,8 @@
 -- One pass finds the first entry of its part that has a duplicate.
 -- Assumes nothing.
-use Rattle.std.proofs.Common.{◌≡◌, ℕ, ◌+◌, ◌-◌, ◌<◌, ◌≤◌, Bool, true, false, cond, T, ltb, ◌⊎◌, List, sym, refl, ap, ◌∙◌, subst, inl, inr, arith, ltb→lt, nltb→le, T_not}
+use Rattle.std.proofs.Common.{◌≡◌, ℕ, ◌+◌, ◌<◌, ◌≤◌, Bool, true, false, cond, T, ltb, ◌⊎◌, List, sym, refl, subst, inl, inr, arith, ltb→lt, nltb→le, T_not}
 use native.Mathlib.Decide.{dec_le}
-use native.Mathlib.Nat.{sub-zero}
 use Rattle.store.specs.declared.Entry.{Entry}
-use Rattle.store.specs.declared.Wanted.{Wanted}
 use Rattle.store.specs.Kinds.{kind_of}
 use Rattle.store.specs.Store.{entry_at, any_below}
 use Rattle.store.specs.Find.{is_wanted, first_where, first_of}
@@ -13,20 +11,10 @@ use Rattle.store.proofs.Tests.{truth, false-not, both, pair, any_found, found-an
 use Rattle.store.proofs.Searches.{first-at, first-is}
 use Rattle.filter.specs.Filter.{is_set, added}
 use Rattle.restore_duplicates.specs.Keys.{hash_of}
-use Rattle.restore_duplicates.specs.Parts.{in_part, added_key, reach_of, best_of, turned_to, duplicate_in}
+use Rattle.restore_duplicates.specs.Parts.{in_part, added_key, best_of, turned_to, duplicate_in}
 use Rattle.filter.proofs.Filter.{set-added, stays-set}
 use Rattle.restore_duplicates.proofs.Keys.{duplicate-key, same-hash}
 
--- ---- one turn: what its calls have answered
-pub turn_is : (es : List Entry) (bits : List ℕ) (last part i first : ℕ) (e : Entry) (upto : ℕ) (wanted : Wanted) (t r : ℕ) → e ≡ entry_at es i → upto ≡ reach_of bits last part e i → wanted ≡ duplicate_of e
-    → t ≡ first_of es wanted 0 (upto - 0) → r ≡ best_of i t upto first → r ≡ turned_to es bits last part i first
-turn_is es bits last part i first e upto wanted t r is-e is-upto is-wanted is-t is-r =
-    let reached : upto ≡ reach_of bits last part (entry_at es i) i = is-upto ∙ ap (λ (x : Entry). reach_of bits last part x i) is-e in
-    let duplicate : t ≡ first_of es (duplicate_of (entry_at es i)) 0 (reach_of bits last part (entry_at es i) i) =
-    is-t ∙ ap (first_of es wanted 0) (sub-zero upto) ∙ (λ k. first_of es ((is-wanted ∙ ap duplicate_of is-e) k) 0 (reached k)) in
-    is-r ∙ (λ k. best_of i (duplicate k) (reached k) first)
-
--- ---- one pass
 module _ (es : List Entry) (last part : ℕ) where
   abbrev asks : ℕ → Bool
   asks i = asks_new (kind_of (entry_at es i).kind)
@@ -92,49 +80,46 @@ module _ (es : List Entry) (last part : ℕ) where
       go (yes c) true false is-a is-p = let same : j ≡ i = omega arith in absurd (T_not (in_part last part (hash_at i)) (false-not (in_part last part (hash_at i)) is-p) (rw same at in-it))
       go (yes c) false p is-a is-p = let same : j ≡ i = omega arith in absurd (T_not (asks i) (false-not (asks i) is-a) (rw same at asked))
 
-  -- before the i-th turn: `first` has a duplicate, if it is below `best`, and none of those before i and it has one
-  pub record Pass (best : ℕ) (bits : List ℕ) (i first : ℕ) : Type 0 where
-    pub upto : first ≤ best
-    pub hit : first < best → T (duplicate_in es last part first)
-    pub misses : (m : ℕ) → m < i → m < first → T (duplicate_in es last part m) → ⊥
+  -- before the i-th turn: none of the entries before it has a duplicate, and the filter has their keys
+  pub record Pass (bits : List ℕ) (i : ℕ) : Type 0 where
+    pub misses : (m : ℕ) → m < i → T (duplicate_in es last part m) → ⊥
     pub known : Known bits i
 
-  pub starts : (best : ℕ) (bits : List ℕ) → Pass best bits 0 best
-  starts best bits = record { upto = omega arith; hit = λ l. absurd (omega arith); misses = λ m l. absurd (omega arith); known = λ j l. absurd (omega arith) }
+  pub starts : (bits : List ℕ) → Pass bits 0
+  starts bits = record { misses = λ m l. absurd (omega arith); known = λ j l. absurd (omega arith) }
 
-  pub goes_on : (best : ℕ) (bits after : List ℕ) (i first next : ℕ) → i < first → Pass best bits i first
-      → (next ≡ turned_to es bits last part i first) × (after ≡ added_key bits last part (entry_at es i)) → Pass best after (i + 1) next
-  goes_on best bits after i first next l so told = subst (λ (x : List ℕ × ℕ). Pass best x.0 (i + 1) x.1) (sym (λ k. (told.1 k, told.0 k))) (go (turned_to es bits last part i first) (turned bits i first so.known))
-    where
-      go : (x : ℕ) → Turned i first x → Pass best (added_key bits last part (entry_at es i)) (i + 1) x
-      go x (inl t) = rw t.0 (record {
-        upto = omega (arith, so.upto);
-        hit = λ b. t.1;
-        misses = λ m a b. so.misses m (omega arith) (omega arith);
-        known = known_next bits i so.known;
-      })
-      go x (inr t) = rw t.0 (record {
-        upto = so.upto;
-        hit = so.hit;
-        misses = λ m a b u. miss m a b u (dec_le i m);
-        known = known_next bits i so.known;
-      })
-        where
-          miss : (m : ℕ) → m < i + 1 → m < first → T (duplicate_in es last part m) → Dec (i ≤ m) → ⊥
-          miss m a b u (yes c) = let same : m ≡ i = omega arith in t.1 (rw same at u)
-          miss m a b u (no c) = so.misses m (omega arith) b u
+  module _ (best : ℕ) (bits after : List ℕ) (i next : ℕ) (l : i < best) (so : Pass bits i)
+      (told : (next ≡ turned_to es bits last part i best) × (after ≡ added_key bits last part (entry_at es i))) where
+    turn : Turned i best next
+    turn = subst (Turned i best) (sym told.0) (turned bits i best so.known)
 
-  pub nearer : (best : ℕ) (bits : List ℕ) (i first next : ℕ) → i < first → Pass best bits i first → next ≡ turned_to es bits last part i first → next - (i + 1) < first - i
-  nearer best bits i first next l so told = go (turned bits i first so.known)
-    where
-      go : Turned i first (turned_to es bits last part i first) → next - (i + 1) < first - i
-      go (inl t) = omega (arith, told ∙ t.0)
-      go (inr t) = omega (arith, told ∙ t.0)
+    pub goes_on : best ≤ next → Pass after (i + 1)
+    goes_on over = record { misses = miss turn; known = rw told.1 (known_next bits i so.known) }
+      where
+        miss : Turned i best next → (m : ℕ) → m < i + 1 → T (duplicate_in es last part m) → ⊥
+        miss (inl t) m a u = omega (arith, t.0)
+        miss (inr t) m a u = go (dec_le i m)
+          where
+            go : Dec (i ≤ m) → ⊥
+            go (yes c) = let same : m ≡ i = omega arith in t.1 (rw same at u)
+            go (no c) = so.misses m (omega arith) u
 
-  pub ends : (best : ℕ) (bits : List ℕ) (i first : ℕ) → first ≤ i → Pass best bits i first → first ≡ first_where (duplicate_in es last part) 0 best
-  ends best bits i first over so = first-is (duplicate_in es last part) 0 best first (record {
+    pub found : next < best → next ≡ first_where (duplicate_in es last part) 0 best
+    found low = go turn
+      where
+        go : Turned i best next → next ≡ first_where (duplicate_in es last part) 0 best
+        go (inl t) = first-is (duplicate_in es last part) 0 best next (record {
+          from = omega arith;
+          upto = omega arith;
+          hit = λ b. rw t.0 t.1;
+          misses = λ m a b. so.misses m (omega (arith, t.0));
+        })
+        go (inr t) = omega (arith, t.0)
+
+  pub ends : (best : ℕ) (bits : List ℕ) (i : ℕ) → best ≤ i → Pass bits i → best ≡ first_where (duplicate_in es last part) 0 best
+  ends best bits i over so = first-is (duplicate_in es last part) 0 best best (record {
     from = omega arith;
-    upto = omega (arith, so.upto);
-    hit = λ l. so.hit (omega arith);
-    misses = λ m a b. so.misses m (omega arith) b;
+    upto = omega arith;
+    hit = λ l. absurd (omega arith);
+    misses = λ m a b. so.misses m (omega arith);
   })

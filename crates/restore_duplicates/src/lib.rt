@@ -3,14 +3,14 @@
 // is looked for. The filter holds so many keys; of more entries those of one part are added, and then those of the next, by a hash of their keys.
 #![tactic(auto)]
 
-ghost use Rattle.std.specs.Prelude.{◌≡◌, ◌-◌, length};
+ghost use Rattle.std.specs.Prelude.{◌≡◌, ◌<◌, ◌≤◌, length};
 ghost use Rattle.store.specs.Kinds.{kind_of};
 ghost use Rattle.store.specs.Store.{entry_at};
 ghost use Rattle.store.specs.Find.{first_where};
 ghost use Rattle.store.specs.Duplicates.{duplicate_of, asks_new, first_duplicate};
-ghost use Rattle.restore_duplicates.specs.Above.{msgno_of, is_above, stops, is_stop_at};
+ghost use Rattle.restore_duplicates.specs.Above.{msgno_of, is_above, is_stop_at};
 ghost use Rattle.restore_duplicates.specs.Keys.{hash_of};
-ghost use Rattle.restore_duplicates.specs.Parts.{in_part, reach_of, added_key, best_of, turned_to, duplicate_in, duplicates_below, unless_rising, parts_for};
+ghost use Rattle.restore_duplicates.specs.Parts.{in_part, reach_of, added_key, turned_to, duplicate_in, duplicates_below, parts_for};
 
 use store::{Entry, Wanted};
 
@@ -33,12 +33,7 @@ fn msgno_of(e: Entry) -> u32
 fn asks_new(kind: u32) -> bool
     ensures { result ≡ asks_new (kind_of kind) }
 {
-    match kind {
-        1 => true,
-        2 => true,
-        3 => true,
-        _ => false,
-    }
+    matches!(kind, store::CONTACT | store::QUEUED | store::COURIER)
 }
 
 fn duplicate_of(e: Entry) -> Wanted
@@ -54,11 +49,11 @@ fn duplicate_of(e: Entry) -> Wanted
 fn hash_of(e: Entry) -> u64
     ensures { result ≡ hash_of e }
 {
-    let kind = width::wide(e.kind);
-    let msgno = width::wide(msgno_of(e));
-    let low = std::num::wrapping_add_u64((e.id % HALF) * 2654435769, (e.id / HALF) * 668265263);
-    let high = std::num::wrapping_add_u64(msgno * 2246822519, kind * 3266489917);
-    let sum = std::num::wrapping_add_u64(low, high);
+    let kind = u64::from(e.kind);
+    let msgno = u64::from(msgno_of(e));
+    let low = ((e.id % HALF) * 2654435769).wrapping_add((e.id / HALF) * 668265263);
+    let high = (msgno * 2246822519).wrapping_add(kind * 3266489917);
+    let sum = low.wrapping_add(high);
     sum ^ (sum / HALF)
 }
 
@@ -68,65 +63,28 @@ fn hash_of(e: Entry) -> u64
 fn is_above(b: Entry, e: Entry) -> bool
     ensures { result ≡ is_above b e }
 {
-    if b.kind < e.kind {
-        return true;
-    }
-    if b.kind != e.kind {
-        return false;
-    }
-    if b.id < e.id {
-        return true;
-    }
-    if b.id != e.id {
-        return false;
-    }
-    let below = msgno_of(b);
-    let above = msgno_of(e);
-    below < above
+    (b.kind, b.id, msgno_of(b)) < (e.kind, e.id, msgno_of(e))
 }
 
-// The index before; the first entry has none.
-fn before(i: usize) -> usize
-    ensures { result ≡ i - 1 }
-{
-    if i == 0 { 0 } else { i - 1 }
-}
-
-// Whether the i-th entry, e, is not above the one before it, b.
-fn stops(b: Entry, e: Entry, i: usize) -> bool
-    ensures { result ≡ stops b e i }
-{
-    if i == 0 {
-        return false;
-    }
-    if is_above(b, e) {
-        return false;
-    }
-    true
-}
-
+// Whether the i-th entry is not above the one before it; the first has none before it.
 fn stops_at(entries: &[Entry], i: usize) -> bool
     ensures { result ≡ is_stop_at entries.now i }
 {
-    let j = before(i);
-    let b = restore_entries::entry_at(entries, j);
+    let b = restore_entries::entry_at(entries, i.saturating_sub(1));
     let e = restore_entries::entry_at(entries, i);
-    stops(b, e, i)
+    i != 0 && !is_above(b, e)
 }
 
 // How many entries there are before the first that is not above the one before it.
 fn rising(entries: &[Entry]) -> usize
     ensures { result ≡ first_where (is_stop_at entries.now) 0 (length entries.now) }
 {
-    let n = restore_entries::entry_count(entries);
-    let mut i = 0;
-    while i < n {
+    for i in 0..entries.len() {
         if stops_at(entries, i) {
             return i;
         }
-        i = i + 1;
     }
-    i
+    entries.len()
 }
 
 // ---- one pass: the entries of one part
@@ -142,25 +100,18 @@ fn in_part(h: u64, last: usize, part: usize) -> bool
 fn reach(bits: &mut [u64], e: Entry, i: usize, last: usize, part: usize) -> usize
     ensures { (result ≡ reach_of bits.old last part e i) × (bits.new ≡ added_key bits.old last part e) }
 {
-    if asks_new(e.kind) {
-        let h = hash_of(e);
-        if in_part(h, last, part) {
-            if filter::add(bits, h) {
-                return i;
-            }
-            return 0;
-        }
+    if !asks_new(e.kind) {
         return 0;
     }
-    0
+    let h = hash_of(e);
+    if in_part(h, last, part) && filter::add(bits, h) {
+        i
+    } else {
+        0
+    }
 }
 
-fn best_of(i: usize, t: usize, upto: usize, first: usize) -> usize
-    ensures { result ≡ best_of i t upto first }
-{
-    if t < upto { i } else { first }
-}
-
+// The i-th entry, where it is of this part and has a duplicate; else `best`.
 fn duplicate_at(
     entries: &[Entry],
     bits: &mut [u64],
@@ -176,7 +127,7 @@ fn duplicate_at(
     let upto = reach(bits, e, i, last, part);
     let wanted = duplicate_of(e);
     let t = restore_entries::find(entries, wanted, 0, upto);
-    best_of(i, t, upto, best)
+    if t < upto { i } else { best }
 }
 
 // The first entry of this part that has a duplicate, below `best`; `best` where none has.
@@ -189,123 +140,77 @@ fn duplicates_in(
 ) -> usize
     ensures { result ≡ first_where (duplicate_in entries.now last part) 0 best }
 {
-    let mut i = 0;
-    let mut first = best;
-    while i < first {
-        first = duplicate_at(entries, bits, last, part, i, first);
-        i = i + 1;
+    for i in 0..best {
+        let first = duplicate_at(entries, bits, last, part, i, best);
+        if first < best {
+            return first;
+        }
     }
-    first
+    best
 }
 
-// A word of a filter before any key is added.
-fn clear() -> u64
-    ensures { result ≡ 0 }
-{
-    0
-}
-
-// What a pass has found, once its filter is given back.
-fn found(first: usize) -> usize
-    ensures { result ≡ first }
-{
-    first
-}
-
-// A pass with a filter of 1 KB, and one with 64 KB.
-fn few_in(entries: &[Entry], last: usize, part: usize, best: usize) -> usize
+// A pass with a filter of so many words.
+fn first_in<const WORDS: usize>(entries: &[Entry], last: usize, part: usize, best: usize) -> usize
+    requires { WORDS ≤ 8192 }
     ensures { result ≡ first_where (duplicate_in entries.now last part) 0 best }
 {
-    let word = clear();
-    let mut bits = [word; 128];
-    let place = duplicates_in(entries, &mut bits[..], last, part, best);
-    found(place)
+    let mut bits = [0; WORDS];
+    duplicates_in(entries, &mut bits, last, part, best)
 }
 
-fn many_in(entries: &[Entry], last: usize, part: usize, best: usize) -> usize
-    ensures { result ≡ first_where (duplicate_in entries.now last part) 0 best }
-{
-    let word = clear();
-    let mut bits = [word; 8192];
-    let place = duplicates_in(entries, &mut bits[..], last, part, best);
-    found(place)
-}
+// ---- all passes: the parts below `parts`
 
-// ---- all passes: the parts below `parts`, none where that is 0
-
-fn few_below(entries: &[Entry], last: usize, parts: usize, best: usize) -> usize
+fn first_below<const WORDS: usize>(
+    entries: &[Entry],
+    last: usize,
+    parts: usize,
+    best: usize,
+) -> usize
+    requires { WORDS ≤ 8192 }
     ensures { result ≡ first_where (duplicates_below entries.now last parts) 0 best }
 {
-    let mut part = 0;
     let mut first = best;
-    while part < parts {
-        first = few_in(entries, last, part, first);
-        part = part + 1;
+    for part in 0..parts {
+        first = first_in::<WORDS>(entries, last, part, first);
     }
     first
 }
 
-fn many_below(entries: &[Entry], last: usize, parts: usize, best: usize) -> usize
-    ensures { result ≡ first_where (duplicates_below entries.now last parts) 0 best }
-{
-    let mut part = 0;
-    let mut first = best;
-    while part < parts {
-        first = many_in(entries, last, part, first);
-        part = part + 1;
-    }
-    first
-}
-
-// In how many parts few entries are taken, the first `up` of which rise: in none where all do.
-fn few_parts(n: usize, up: usize) -> usize
-    ensures { result ≡ unless_rising n up 1 }
-{
-    if n <= up { 0 } else { 1 }
-}
-
-// ... and many: so that a part has some ten thousand keys.
+// In how many parts many entries are taken: so that a part has some ten thousand keys.
 fn parts_for(n: usize) -> usize
     ensures { result ≡ parts_for n }
 {
-    if n <= 32768 {
-        return 1;
+    match n {
+        ..=32768 => 1,
+        ..=131072 => 4,
+        ..=524288 => 16,
+        ..=2097152 => 64,
+        _ => 256,
     }
-    if n <= 131072 {
-        return 4;
-    }
-    if n <= 524288 {
-        return 16;
-    }
-    if n <= 2097152 { 64 } else { 256 }
 }
 
-fn many_parts(n: usize, up: usize) -> usize
-    ensures { result ≡ unless_rising n up (parts_for n) }
+// None where all entries rise.
+fn first_of<const WORDS: usize>(entries: &[Entry], parts: usize) -> usize
+    requires { (WORDS ≤ 8192) × (0 < parts) }
+    ensures { result ≡ first_duplicate entries.now }
 {
-    if n <= up {
-        return 0;
+    let n = entries.len();
+    if rising(entries) == n {
+        return n;
     }
-    parts_for(n)
+    first_below::<WORDS>(entries, parts - 1, parts, n)
 }
 
 // The first entry that has a duplicate before it; the number of entries where none has. With a filter of 1 KB, enough for a thousand entries,
 pub fn first_of_few(entries: &[Entry]) -> usize
     ensures { result ≡ first_duplicate entries.now }
 {
-    let n = restore_entries::entry_count(entries);
-    let up = rising(entries);
-    let parts = few_parts(n, up);
-    few_below(entries, 0, parts, n)
+    first_of::<128>(entries, 1)
 }
 
 // ... and with one of 64 KB.
 pub fn first_of_many(entries: &[Entry]) -> usize
     ensures { result ≡ first_duplicate entries.now }
 {
-    let n = restore_entries::entry_count(entries);
-    let up = rising(entries);
-    let parts = many_parts(n, up);
-    let last = before(parts);
-    many_below(entries, last, parts, n)
+    first_of::<8192>(entries, parts_for(entries.len()))
 }

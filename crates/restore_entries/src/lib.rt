@@ -45,16 +45,9 @@ pub fn set_entry(entries: &mut [Entry], i: usize, e: Entry) -> usize
 fn is_wanted(e: Entry, wanted: Wanted) -> bool
     ensures { result ≡ is_wanted wanted e }
 {
-    if e.kind != wanted.kind {
-        return false;
-    }
-    if e.id != wanted.id {
-        return false;
-    }
-    if wanted.kind != store::QUEUED {
-        return true;
-    }
-    e.msgno == wanted.msgno
+    e.kind == wanted.kind
+        && e.id == wanted.id
+        && (wanted.kind != store::QUEUED || e.msgno == wanted.msgno)
 }
 
 fn is_wanted_at(entries: &[Entry], wanted: Wanted, i: usize) -> bool
@@ -69,12 +62,10 @@ fn is_wanted_at(entries: &[Entry], wanted: Wanted, i: usize) -> bool
 pub fn find(entries: &[Entry], wanted: Wanted, from: usize, upto: usize) -> usize
     ensures { result ≡ first_of entries.now wanted from (upto - from) }
 {
-    let mut i = from;
-    while i < upto {
+    for i in from..upto {
         if is_wanted_at(entries, wanted, i) {
             return i;
         }
-        i = i + 1;
     }
-    i
+    from.max(upto)
 }

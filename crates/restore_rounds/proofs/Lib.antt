@@ -1,2 +1,1 @@
-mod Told
 pub mod Laws

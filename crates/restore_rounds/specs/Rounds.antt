@@ -1,11 +1,10 @@
 -- What the rounds' code answers, in the words of the store's definitions.
 -- Assumes nothing.
-use Rattle.std.specs.Prelude.{ℕ, zero, suc, List, [], ◌∷◌, Bool, cond, ◌&&◌, length, leb, eqb}
+use Rattle.std.specs.Prelude.{ℕ, zero, suc, List, [], ◌∷◌, Bool, Result, Ok, Err, cond, ◌&&◌, length, leb, eqb}
 use Rattle.std.proofs.Math.Option.{Option, none, some}
-use Rattle.layout.specs.Questions.{ORDER, BOUNDS, VERSION}
+use Rattle.layout.specs.declared.question.Question.{Question}
+use Rattle.layout.specs.Questions.{number_of, ORDER, BOUNDS, VERSION}
 use Rattle.layout.specs.Layout.{read_row}
-use Rattle.rows.specs.declared.Verdict.{Verdict}
-use Rattle.rows.specs.declared.Verdict.TheVariants as verdict
 use Rattle.store.specs.declared.Entry.{Entry}
 use Rattle.store.specs.declared.Omitted.{Omitted}
 use Rattle.store.specs.Rounds.{ask, first_no, Round}
@@ -13,9 +12,10 @@ use Rattle.store.specs.Kinds.{DEVICE, CONTACT, COURIER, kind_of, layout_of, refu
 use Rattle.store.specs.Store.{store_of, within, part_of, order, bounds}
 use Rattle.store.specs.Omitted.{is_omitted, read_omitted}
 
-abbrev pub verdict_in : Verdict → Option ℕ
-verdict_in verdict.Accepted = none
-verdict_in (verdict.Refused q) = some q
+-- the question that an answer names
+abbrev pub verdict_in : Result (Unit {0}) Question → Option ℕ
+verdict_in (Ok u) = none
+verdict_in (Err q) = some (number_of q)
 
 -- 1, of the i-th entry's kind and that of the entry before it
 abbrev pub follows : (i before kind : ℕ) → Bool

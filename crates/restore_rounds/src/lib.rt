@@ -9,48 +9,38 @@ ghost use Rattle.store.specs.Rounds.{ask, first_no, turn};
 ghost use Rattle.store.specs.Kinds.{kind_of, layout_of, refusal_in};
 ghost use Rattle.restore_rounds.specs.Rounds.{verdict_in, follows, round_asks};
 
-use courier::CourierCheck;
-use device::DeviceCheck;
-use layout::question;
-use queued::QueuedCheck;
-use rows::Verdict;
+use layout::Question;
 use store::{Asked, Entry, Omitted};
 
-fn device_verdict(version: u32, row: &[u8]) -> Verdict
+fn device_verdict(version: u32, row: &[u8]) -> Result<(), Question>
     ensures { verdict_in result ≡ refusal_in (read_row (layouts.device version) row.now) }
 {
-    let DeviceCheck::Refused(q) = device::check_device(version, row) else {
-        return Verdict::Accepted;
-    };
-    Verdict::Refused(q)
+    device::check_device(version, row)?;
+    Ok(())
 }
 
-fn contact_verdict(version: u32, row: &[u8]) -> Verdict
+fn contact_verdict(version: u32, row: &[u8]) -> Result<(), Question>
     ensures { verdict_in result ≡ refusal_in (read_row (layouts.contact version) row.now) }
 {
     contact::ask_contact(version, row)
 }
 
-fn queued_verdict(version: u32, row: &[u8]) -> Verdict
+fn queued_verdict(version: u32, row: &[u8]) -> Result<(), Question>
     ensures { verdict_in result ≡ refusal_in (read_row (layouts.queued version) row.now) }
 {
-    let QueuedCheck::Refused(q) = queued::check_queued(version, row) else {
-        return Verdict::Accepted;
-    };
-    Verdict::Refused(q)
+    queued::check_queued(version, row)?;
+    Ok(())
 }
 
-fn courier_verdict(version: u32, row: &[u8]) -> Verdict
+fn courier_verdict(version: u32, row: &[u8]) -> Result<(), Question>
     ensures { verdict_in result ≡ refusal_in (read_row (layouts.courier version) row.now) }
 {
-    let CourierCheck::Refused(q) = courier::check_courier(version, row) else {
-        return Verdict::Accepted;
-    };
-    Verdict::Refused(q)
+    courier::check_courier(version, row)?;
+    Ok(())
 }
 
 // 3 to 24 and 54, of a row of this kind.
-fn row_verdict(kind: u32, version: u32, row: &[u8]) -> Verdict
+fn row_verdict(kind: u32, version: u32, row: &[u8]) -> Result<(), Question>
     ensures { verdict_in result ≡ refusal_in (read_row (layout_of (kind_of kind) version) row.now) }
 {
     match kind {
@@ -58,7 +48,7 @@ fn row_verdict(kind: u32, version: u32, row: &[u8]) -> Verdict
         1 => contact_verdict(version, row),
         2 => queued_verdict(version, row),
         3 => courier_verdict(version, row),
-        _ => Verdict::Refused(question::CODE),
+        _ => Err(Question::Code),
     }
 }
 
@@ -69,40 +59,41 @@ fn in_order(i: usize, before: u32, kind: u32) -> bool
     if i == 0 {
         return kind == store::DEVICE;
     }
-    if kind < store::CONTACT {
-        return false;
-    }
-    if store::COURIER < kind {
-        return false;
-    }
-    before <= kind
+    store::CONTACT <= kind && kind <= store::COURIER && before <= kind
 }
 
 // 3, of an entry whose row is left out.
-fn version_verdict(version: u32) -> Verdict
+fn version_verdict(version: u32) -> Result<(), Question>
     ensures { verdict_in result ≡ first_no (ask VERSION (eqb version 3) ∷ []) }
 {
     if version == rows::BLOB_VERSION {
-        return Verdict::Accepted;
+        return Ok(());
     }
-    Verdict::Refused(question::VERSION)
+    Err(Question::Version)
 }
 
 // What a round asks of the i-th entry. A round goes by its first question.
-fn verdict(run: &[u8], omitted: Omitted, before: Entry, e: Entry, round: u8, i: usize) -> Verdict
+fn verdict(
+    run: &[u8],
+    omitted: Omitted,
+    before: Entry,
+    e: Entry,
+    round: u8,
+    i: usize,
+) -> Result<(), Question>
     ensures { verdict_in result ≡ round_asks run.now omitted before e round i }
 {
-    if round == question::ORDER {
+    if round == Question::Order.number() {
         if in_order(i, before.kind, e.kind) {
-            return Verdict::Accepted;
+            return Ok(());
         }
-        return Verdict::Refused(question::ORDER);
+        return Err(Question::Order);
     }
-    if round == question::BOUNDS {
+    if round == Question::Bounds.number() {
         if store::is_within(e, run.len()) {
-            return Verdict::Accepted;
+            return Ok(());
         }
-        return Verdict::Refused(question::BOUNDS);
+        return Err(Question::Bounds);
     }
     if store::is_omitted(e, omitted) {
         return version_verdict(e.version);
@@ -124,10 +115,10 @@ pub fn turn(
     ensures { result ≡ turn (round_asks run.now omitted before e round i) i asked }
 {
     let Asked::Refused(number, place) = asked else {
-        let Verdict::Refused(q) = verdict(run, omitted, before, e, round, i) else {
-            return Asked::Going;
+        return match verdict(run, omitted, before, e, round, i) {
+            Ok(()) => Asked::Going,
+            Err(refusal) => Asked::Refused(refusal.number(), i),
         };
-        return Asked::Refused(q, i);
     };
     Asked::Refused(number, place)
 }

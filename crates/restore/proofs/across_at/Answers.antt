@@ -1,23 +1,29 @@
--- `restore::across_at` meets its contract: one turn of the questions across the rows.
-use Rattle.restore.proofs.Across.{may-reuse, is_known, entry_turn-at}
+-- `restore::across_at` meets its contract: one turn of the questions across the rows, of what is found where the definitions look.
+use Rattle.store.specs.Store.{entry_at, part_of}
+use Rattle.restore_across.specs.Across.{OwnerAt, owner_limit}
+use Rattle.restore_across.specs.Owner.{owner_found, OwnerStands}
+use Rattle.restore_across.proofs.Laws.{reusable, known, turned}
 use Rattle.restore.proofs.across_at.Goals as goal
+use Rattle.restore.proofs.across_at.Goals.{After-owner_of-owner}
+
+found : (c : After-owner_of-owner) → let a = c.args in let e = entry_at a.entries.now a.i in OwnerAt a.entries.now e (owner_limit e a.i a.state) c.owner_at-p.result
+found c = rw c.owner_limit-limit.ensures at c.owner_at-p.ensures
+
+stands : (c : After-owner_of-owner) → let a = c.args in let e = entry_at a.entries.now a.i in let p = c.owner_at-p.result in let its = entry_at a.entries.now p in
+    OwnerStands (owner_found a.run.now a.omitted its p (owner_limit e a.i a.state)) (part_of a.run.now its) c.owner_of-owner.result
+stands c =
+    let a = c.args in
+    let p = c.owner_at-p.result in
+    let asked = rw (c.owner_limit-limit.ensures, c.entry_at-c.ensures) at c.owner_of-owner.ensures in
+    let its-known = known a.run.now a.entries.now a.omitted a.i a.state c.requires.1 c.requires.2 p (found c) in
+    (asked its-known).1 (reusable a.run.now a.entries.now a.omitted a.i a.state c.requires.1 c.requires.2 p (found c))
 
 pub entry_turn-requires : goal.entry_turn-requires
-entry_turn-requires c =
-    let a = c.args in
-    let known = is_known a.run.now a.entries.now a.omitted a.duplicate a.i a.state c.requires c.entry_at-e.result c.entry_at-c.result c.owner_limit-limit.result c.owner_at-p.result
-    c.entry_at-e.ensures c.owner_limit-limit.ensures c.owner_at-p.ensures c.entry_at-c.ensures in
-    let reuse = may-reuse a.run.now a.entries.now a.omitted a.duplicate a.i a.state c.requires c.entry_at-e.result c.entry_at-c.result c.owner_limit-limit.result c.owner_at-p.result
-    c.entry_at-e.ensures c.owner_limit-limit.ensures c.owner_at-p.ensures c.entry_at-c.ensures in
-    ((c.owner_of-owner.ensures known).1 reuse).1
+entry_turn-requires c = rw c.entry_at-c.ensures (stands (goal.at.entry_turn-requires c).After-owner_of-owner).1
 
 pub returns : goal.returns
 returns c =
     let a = c.args in
-    let known = is_known a.run.now a.entries.now a.omitted a.duplicate a.i a.state c.requires c.entry_at-e.result c.entry_at-c.result c.owner_limit-limit.result c.owner_at-p.result
-    c.entry_at-e.ensures c.owner_limit-limit.ensures c.owner_at-p.ensures c.entry_at-c.ensures in
-    let reuse = may-reuse a.run.now a.entries.now a.omitted a.duplicate a.i a.state c.requires c.entry_at-e.result c.entry_at-c.result c.owner_limit-limit.result c.owner_at-p.result
-    c.entry_at-e.ensures c.owner_limit-limit.ensures c.owner_at-p.ensures c.entry_at-c.ensures in
-    entry_turn-at a.run.now a.entries.now a.omitted a.duplicate a.i a.state c.requires c.entry_at-e.result c.entry_at-c.result c.owner_limit-limit.result c.owner_at-p.result
-    c.entry_at-e.ensures c.owner_limit-limit.ensures c.owner_at-p.ensures c.entry_at-c.ensures
-    c.owner_of-owner.result c.entry_turn.result ((c.owner_of-owner.ensures known).1 reuse) c.entry_turn.ensures
+    let before = (goal.at.returns c).After-owner_of-owner in
+    rw (c.entry_turn.ensures, c.entry_at-c.ensures, c.requires.0)
+    (turned a.run.now a.entries.now a.omitted a.i a.state c.requires.1 c.requires.2 c.owner_at-p.result (found before) c.owner_of-owner.result (stands before))

@@ -1,4 +1,4 @@
--- `duplicates::hash_of` meets its contract.
+-- `restore_duplicates::hash_of` meets its contract.
 use Rattle.restore_duplicates.specs.Keys as keys
 use Rattle.restore_duplicates.proofs.hash_of.Goals as goal
 

@@ -1,5 +1,0 @@
--- `restore::few_turns` meets its contract: as many places are lent as were noted.
-use Rattle.restore.proofs.few_turns.Goals as goal
-
-pub across_turns-requires : goal.across_turns-requires
-across_turns-requires c = (c.first_of_few-duplicate.ensures, c.requires)
