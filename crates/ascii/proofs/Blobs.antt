@@ -4,19 +4,20 @@ use Prim.Native.Nat.{ℕ, zero, suc, ◌+◌, ◌-◌, ◌*◌, ◌/◌, ◌%◌
 use mathlib.Core.List.{List, [], ◌∷◌}
 use mathlib.Core.Bool.{Bool, true, false, cond, ◌&&◌, ◌||◌}
 use mathlib.Core.Option.{Option, none, some}
-use mathlib.Core.Path.{◌≡◌, refl, ap, ◌∙◌}
+use mathlib.Core.Path.{◌≡◌, refl}
 use native.Mathlib.Omega.{arith}
-use native.Mathlib.Numerals.{add-one}
-use lib.ListN.{length, get_or, take, drop}
-use lib.Seq.{drop-cons, take-nil}
+use lib.ListN.{length, get_or, take}
+use lib.Seq.{take-nil}
+use Rattle.std.specs.Simd.{first_chunks}
+use Rattle.std.specs.List.{list_all, prefix_len}
 use lib.Dec.{leb}
-use borrow.Author.Tests.{leb-true, leb-false, le-leb, lt-leb}
+use borrow.Author.Tests.{leb-true, leb-false, le-leb, lt-leb, eq-eqb, ne_eqb}
 use Rattle.layout.specs.Questions.{BLOB}
 use Rattle.layout.specs.Layout.{accepted, refused_by}
 use Rattle.rows.specs.Checks.{all}
 use Rattle.rows.proofs.Tests.{and_both}
 use Rattle.ascii.specs.Hex as hex
-use Rattle.ascii.specs.Hex.{is_hex, hex_value, with_byte, blob_of, unpaired, hex_pairs, blob_says}
+use Rattle.ascii.specs.Hex.{is_hex, hex_value, with_byte, blob_of, unpaired, hex_pairs, blob_says, dash_of, bytes_of}
 use Rattle.ascii.proofs.Never.{no_way}
 
 -- ---- `0` to `9`, or `a` to `f`
@@ -65,13 +66,10 @@ hex-bits d e = go (is_one d e)
     go (low a b) = rw (le-leb d 0x39 b) (omega arith)
     go (letter a b) = rw (lt-leb d 0x39 (omega arith)) (omega arith)
 
--- ---- digits only, a byte at a time
-module _ (t : List ℕ) (i : ℕ) (h : i < length t) where
-  pub other : is_hex (get_or t i 0) ≡ false → all is_hex (drop i t) ≡ false
-  other e = rw (drop-cons t i 0 h, e)
-
-  pub digit-more : is_hex (get_or t i 0) ≡ true → all is_hex (drop i t) ≡ all is_hex (drop (i + 1) t)
-  digit-more e = rw (drop-cons t i 0 h, e, add-one)
+-- ---- digits only
+pub all-of : (test : ℕ → Bool) (t : List ℕ) → list_all test t ≡ all test t
+all-of test [] = refl
+all-of test (b ∷ bs) = rw (all-of test bs)
 
 pub hex-at : (t : List ℕ) (i : ℕ) → all is_hex t ≡ true → i < length t → is_hex (get_or t i 0) ≡ true
 hex-at [] i e h = absurd (omega arith)
@@ -122,34 +120,35 @@ pairs-hex (d ∷ e ∷ ds) = go (is_hex d) (is_hex e) refl refl (pairs-hex ds)
     go true false hd he h = refl
     go false q hd he h = refl
 
-module _ (t : List ℕ) (i : ℕ) (h : i + 1 < length t) where
-  two-on : drop i t ≡ get_or t i 0 ∷ get_or t (i + 1) 0 ∷ drop (i + 2) t
-  two-on =
-      let two : i + 2 ≡ suc (suc i) = omega arith in
-      let one : i + 1 ≡ suc i = omega arith in
-      drop-cons t i 0 (omega arith) ∙ ap (λ (l : List ℕ). get_or t i 0 ∷ l) (rw (one, two) (drop-cons t (suc i) 0 (omega arith)))
+-- a text as pairs of bytes: the i-th, and how many in front are digits
+pair_at : (n i : ℕ) (t : List ℕ) → i < n → 2 * n ≤ length t → get_or (first_chunks 2 n t) i [] ≡ get_or t (2 * i) 0 ∷ get_or t (2 * i + 1) 0 ∷ []
+pair_at zero i t h fits = absurd (omega arith)
+pair_at (suc n) i [] h fits = absurd (omega arith)
+pair_at (suc n) i (d ∷ []) h fits = absurd (omega arith)
+pair_at (suc n) zero (d ∷ e ∷ ds) h fits = refl
+pair_at (suc n) (suc i) (d ∷ e ∷ ds) h fits =
+    let two : 2 * suc i ≡ suc (suc (2 * i)) = omega arith in
+    let three : 2 * suc i + 1 ≡ suc (suc (2 * i + 1)) = omega arith in
+    rw (three, two) (pair_at n i ds (omega arith) (omega arith))
 
-  pub pair-more : is_hex (get_or t i 0) ≡ true → is_hex (get_or t (i + 1) 0) ≡ true → hex_pairs (drop i t) ≡ suc (hex_pairs (drop (i + 2) t))
-  unfolding hex.hex_pairs
-  pair-more p q = rw (two-on, p, q)
+pub pair-of : (t : List ℕ) (ps : List (List ℕ)) (i : ℕ) → ps ≡ first_chunks 2 (length t / 2) t → i < length t / 2 → get_or ps i [] ≡ get_or t (2 * i) 0 ∷ get_or t (2 * i + 1) 0 ∷ []
+pair-of t ps i e h = rw e (pair_at (length t / 2) i t h (omega arith))
 
-  pub no-first : is_hex (get_or t i 0) ≡ false → hex_pairs (drop i t) ≡ 0
-  unfolding hex.hex_pairs
-  no-first p = rw (two-on, p)
+abbrev pub both_hex : List ℕ → Bool
+both_hex p = is_hex (get_or p 0 0) && is_hex (get_or p 1 0)
 
-  pub no_second : is_hex (get_or t (i + 1) 0) ≡ false → hex_pairs (drop i t) ≡ 0
-  unfolding hex.hex_pairs
-  no_second q = rw (two-on, q) (go (is_hex (get_or t i 0)))
-    where
-      go : (b : Bool) → cond (b && false) (suc (hex_pairs (drop (i + 2) t))) 0 ≡ 0
-      go true = refl
-      go false = refl
-
-pub no-pair : (t : List ℕ) → length t < 2 → hex_pairs t ≡ 0
+pub pairs-front : (n : ℕ) (t : List ℕ) → 2 * n ≤ length t → length t < 2 * n + 2 → prefix_len both_hex (first_chunks 2 n t) ≡ hex_pairs t
 unfolding hex.hex_pairs
-no-pair [] h = refl
-no-pair (d ∷ []) h = refl
-no-pair (d ∷ e ∷ ds) h = absurd (omega arith)
+pairs-front zero [] h g = refl
+pairs-front zero (d ∷ []) h g = refl
+pairs-front zero (d ∷ e ∷ ds) h g = absurd (omega arith)
+pairs-front (suc n) [] h g = absurd (omega arith)
+pairs-front (suc n) (d ∷ []) h g = absurd (omega arith)
+pairs-front (suc n) (d ∷ e ∷ ds) h g = go (is_hex d && is_hex e) (pairs-front n ds (omega arith) (omega arith))
+  where
+    go : (b : Bool) → prefix_len both_hex (first_chunks 2 n ds) ≡ hex_pairs ds → cond b (1 + prefix_len both_hex (first_chunks 2 n ds)) 0 ≡ cond b (suc (hex_pairs ds)) 0
+    go true e = omega arith
+    go false e = refl
 
 -- the first k bytes of pairs are those of the first k pairs
 pub unpaired-take : (k : ℕ) (t : List ℕ) → unpaired (take (2 * k) t) ≡ take k (unpaired t)
@@ -191,3 +190,25 @@ blob-says t h = rw (even-blob t h) (go (all is_hex t))
     go : (b : Bool) → blob_says (cond b (some (unpaired t)) none) ≡ cond b (accepted (unpaired t)) (refused_by BLOB)
     go true = refl
     go false = refl
+
+-- ---- a field that is bytes, by its tests
+dash-some : (t : List ℕ) → dash_of t ≡ true → length t ≡ 0 → ⊥
+dash-some [] e p = no_way e
+dash-some (b ∷ bs) e p = absurd (omega arith)
+
+pub dash-bytes : (t : List ℕ) → dash_of t ≡ true → bytes_of t ≡ accepted []
+unfolding hex.bytes_of
+dash-bytes t e = rw (ne_eqb (length t) 0 (dash-some t e), e)
+
+pub no-bytes : (t : List ℕ) → length t ≡ 0 → bytes_of t ≡ refused_by BLOB
+unfolding hex.bytes_of
+no-bytes t e = rw (eq-eqb _ 0 e)
+
+module _ (t : List ℕ) (dash : dash_of t ≡ false) where
+  pub odd-bytes : length t % 2 ≡ 1 → bytes_of t ≡ refused_by BLOB
+  unfolding hex.bytes_of
+  odd-bytes h = rw (ne_eqb (length t) 0 (λ e. omega arith), dash, odd-blob t h)
+
+  pub even-bytes : (length t ≡ 0 → ⊥) → length t % 2 ≡ 0 → bytes_of t ≡ cond (all is_hex t) (accepted (unpaired t)) (refused_by BLOB)
+  unfolding hex.bytes_of
+  even-bytes p h = rw (ne_eqb (length t) 0 p, dash) (blob-says t h)

@@ -12,7 +12,7 @@ use lib.Seq.{drop-cons}
 use lib.Dec.{leb, eqb}
 use borrow.Author.Tests.{leb-true, leb-false, le-leb, lt-leb, eqb-true, eqb-false, eq-eqb, ne_eqb}
 use Rattle.rows.specs.Checks.{all}
-use Rattle.numbers.specs.Decimal.{digit, decimal, number_from, is_digit}
+use Rattle.numbers.specs.Decimal.{decimal, number_from, is_digit}
 use Rattle.numbers.proofs.Decimal.{some-digits, decimal-one, decimal-more, decimal-value, decimal-laws}
 use Rattle.ascii.specs.Decimal as decimals
 use Rattle.ascii.specs.Decimal.{is_decimal, decimal_in, with_digit, goes_on, says_from, DecimalsRead}

@@ -1,9 +1,10 @@
 -- The loops that count and store digits. `last_digits` are what the writer's loop has still to store.
 -- Assumes nothing.
-use Prim.Native.Nat.{ℕ, zero, suc, ◌+◌, ◌-◌, ◌/◌, ◌%◌, ◌≤◌, ◌<◌}
+use Prim.Native.Nat.{ℕ, zero, suc, ◌+◌, ◌-◌, ◌/◌, ◌%◌, ◌*◌, ◌^◌, ◌≤◌, ◌<◌, max}
 use mathlib.Core.List.{List, [], ◌∷◌, ◌++◌}
-use mathlib.Core.Path.{◌≡◌, refl}
+use mathlib.Core.Path.{◌≡◌, refl, sym}
 use native.Mathlib.Omega.{arith}
+use native.Mathlib.Nat.{pow-suc}
 use lib.ListN.{length, set, length-append}
 use Rattle.put.specs.Put.{put}
 use Rattle.put.specs.Put as storing
@@ -11,12 +12,22 @@ use Rattle.put.proofs.Put.{put-append, put-set}
 use Rattle.numbers.specs.Decimal.{digit, decimal}
 use Rattle.numbers.proofs.Decimal.{decimal-one, decimal-more, of-decimal}
 
--- ---- the loop that counts digits: a turn of it
-pub count_turn : (digits n whole : ℕ) → 10 ≤ n → digits + length (decimal n) ≡ whole → digits + 1 + length (decimal (n / 10)) ≡ whole
-count_turn digits n whole h e = let m : length (decimal n) ≡ length (decimal (n / 10)) + 1 = rw (decimal-more n h) (length-append (decimal (n / 10)) (digit (n % 10) ∷ [])) in omega arith
+-- ---- one digit more than the power of ten below
+digits-counted : (k n : ℕ) → 10 ^ k ≤ n → n < 10 * 10 ^ k → length (decimal n) ≡ k + 1
+digits-counted zero n h g = rw (decimal-one n (omega arith))
+digits-counted (suc k) n h g =
+    let low : 10 ^ k * 10 ≤ n = rw pow-suc at h in
+    let high : n < 10 * (10 ^ k * 10) = rw pow-suc at g in
+    let some : 1 ≤ 10 ^ k = one-pow k in
+    rw (decimal-more n (omega arith), length-append) (omega (arith, digits-counted k (n / 10) (omega arith) (omega arith)))
+  where
+    one-pow : (j : ℕ) → 1 ≤ 10 ^ j
+    one-pow zero = omega arith
+    one-pow (suc j) = rw pow-suc (omega (arith, one-pow j))
 
-pub count-end : (digits n whole : ℕ) → n < 10 → digits + length (decimal n) ≡ whole → digits + 1 ≡ whole
-count-end digits n whole h e = rw (decimal-one n h) at e
+pub digits-of : (k n : ℕ) → 10 ^ k ≤ max n 1 → max n 1 < 10 * 10 ^ k → k + 1 ≡ length (decimal n)
+digits-of k zero h g = sym (rw (decimal-one 0 (omega arith)) (rw (decimal-one 1 (omega arith)) at (digits-counted k 1 h g)))
+digits-of k (suc n) h g = let same : max (suc n) 1 ≡ suc n = omega arith in sym (digits-counted k (suc n) (rw same at h) (rw same at g))
 
 -- ---- the loop that stores digits, the last first
 -- the last k digits of n, zeros where it has fewer

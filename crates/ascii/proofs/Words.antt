@@ -5,10 +5,10 @@ use mathlib.Core.List.{List, [], ◌∷◌}
 use mathlib.Core.Bool.{Bool, true, false, cond}
 use mathlib.Core.Path.{◌≡◌, refl, sym, ap, ◌∙◌}
 use native.Mathlib.Omega.{arith}
-use native.Mathlib.Nat.{sub-zero}
 use native.Mathlib.Numerals.{add-one}
 use lib.ListN.{length, get_or, take, drop, length-drop, drop_of_length-le}
-use lib.Seq.{drop-cons, drop-drop, take_all, take-nil}
+use lib.Seq.{drop-drop, take_all, take-nil}
+use Rattle.std.specs.List.{filter}
 use lib.Dec.{eqb}
 use borrow.Author.Tests.{eq-eqb, ne_eqb}
 use Rattle.ascii.specs.Words as words
@@ -35,48 +35,57 @@ module _ (stop : ℕ) where
       go e true = refl
       go e false = e
 
+  pub before-short : (text : List ℕ) → length (before stop text) ≤ length text
+  unfolding words.before
+  before-short [] = omega arith
+  before-short (b ∷ bs) = go (before-short bs) (eqb b stop)
+    where
+      go : length (before stop bs) ≤ length bs → (t : Bool) → length (cond t [] (b ∷ before stop bs)) ≤ suc (length bs)
+      go h true = omega arith
+      go h false = omega arith
+
+  -- ---- the next byte
+  pub none_before : length (before stop []) ≡ 0
+  unfolding words.before
+  none_before = refl
+
+  pub stops : (b : ℕ) (bs : List ℕ) → b ≡ stop → length (before stop (b ∷ bs)) ≡ 0
+  unfolding words.before
+  stops b bs e = rw (eq-eqb b stop e)
+
+  pub goes_on : (b : ℕ) (bs : List ℕ) → (b ≡ stop → ⊥) → length (before stop (b ∷ bs)) ≡ length (before stop bs) + 1
+  unfolding words.before
+  goes_on b bs e = rw (ne_eqb b stop e, add-one)
+
 -- ---- a part of a line
 module _ (stop : ℕ) (text : List ℕ) {n : ℕ} (e : n ≡ length (before stop text)) where
-  pub first_field : take (n - 0) (drop 0 text) ≡ before stop text
-  first_field = rw (sub-zero, e) (take-before stop text)
+  pub first_field : take n text ≡ before stop text
+  first_field = rw e (take-before stop text)
 
-  pub other-fields : take (length text - (n + 1)) (drop (n + 1) text) ≡ behind stop text
+  other-fields : take (length text - (n + 1)) (drop (n + 1) text) ≡ behind stop text
   other-fields =
       rw (take_all (length text - (n + 1)) (drop (n + 1) text) (simp length-drop (omega arith)), add-one, e) (drop-behind stop text)
 
-  pub no_fields : length text ≤ n → take (length text - n) (drop n text) ≡ behind stop text
+  no_fields : length text ≤ n → take (length text - n) (drop n text) ≡ behind stop text
   no_fields h =
       let all : drop n text ≡ [] = drop_of_length-le text {i = n} h in
       let past : drop (suc n) text ≡ [] = drop_of_length-le text {i = suc n} (omega arith) in
       rw (all, take-nil) (sym past ∙ rw e (drop-behind stop text))
-
--- ---- the next byte
-module _ (text : List ℕ) (i : ℕ) (h : i < length text) where
-  pub stops : {stop : ℕ} → get_or text i 0 ≡ stop → length (before stop (drop i text)) ≡ 0
-  unfolding words.before
-  stops {stop} e = rw (drop-cons text i 0 h, eq-eqb (get_or text i 0) stop e)
-
-  pub goes_on : {stop : ℕ} → (get_or text i 0 ≡ stop → ⊥) → length (before stop (drop i text)) ≡ suc (length (before stop (drop (i + 1) text)))
-  unfolding words.before
-  goes_on {stop} e = rw (drop-cons text i 0 h, ne_eqb (get_or text i 0) stop e, add-one)
 
 -- ---- how many words
 front_length : (b : ℕ) (ps : List (List ℕ)) → length (in_front b ps) ≡ length ps
 front_length b [] = refl
 front_length b (p ∷ ps) = refl
 
-pub one-space : (m : ℕ) (t : List ℕ) (i : ℕ) → i < length t
-    → length (parted m (drop i t)) ≡ cond (eqb (get_or t i 0) m) 1 0 + length (parted m (drop (i + 1) t))
+pub words-counted : (m : ℕ) (t : List ℕ) → suc (length (filter (λ b. eqb b m) t)) ≡ length (parted m t)
 unfolding words.parted
-one-space m t i h = rw (drop-cons t i 0 h, add-one) (go (eqb (get_or t i 0) m) (parted m (drop (suc i) t)))
+words-counted m [] = refl
+words-counted m (b ∷ bs) = go (eqb b m) (words-counted m bs)
   where
-    go : (s : Bool) (ps : List (List ℕ)) → length (cond s ([] ∷ ps) (in_front (get_or t i 0) ps)) ≡ cond s 1 0 + length ps
-    go true ps = omega arith
-    go false ps = front_length (get_or t i 0) ps ∙ omega arith
-
-pub last_word : (m : ℕ) (t : List ℕ) (i : ℕ) → length t ≤ i → length (parted m (drop i t)) ≡ 1
-unfolding words.parted
-last_word m t i h = rw (drop_of_length-le t {i = i} h)
+    go : (s : Bool) → suc (length (filter (λ b. eqb b m) bs)) ≡ length (parted m bs)
+        → suc (length (cond s (b ∷ filter (λ b. eqb b m) bs) (filter (λ b. eqb b m) bs))) ≡ length (cond s ([] ∷ parted m bs) (in_front b (parted m bs)))
+    go true e = ap suc e
+    go false e = e ∙ sym (front_length b (parted m bs))
 
 -- ---- the i-th word
 front-first : (b : ℕ) (ps : List (List ℕ)) → Some ps → get_or (in_front b ps) 0 [] ≡ b ∷ get_or ps 0 []

@@ -2,9 +2,8 @@
 -- Assumes nothing.
 use Rattle.std.specs.Prelude.{ℕ}
 use Rattle.std.proofs.Math.Option.{Option, none, some}
-use Rattle.ascii.specs.declared.Said.{Said}
-use Rattle.ascii.specs.declared.Said.TheVariants.{Number, Nothing}
+use Rattle.std.specs.Prelude as code
 
-abbrev pub decimal_says : Said → Option ℕ
-decimal_says (Number n) = some n
-decimal_says Nothing = none
+abbrev pub decimal_says : code.Option ℕ → Option ℕ
+decimal_says (code.Some n) = some n
+decimal_says code.None = none

@@ -1,9 +1,9 @@
 // Text in ASCII, read and written once for all: words between marks, decimals and lines of them, and bytes in hexadecimal.
 #![tactic(auto)]
 
-ghost use Rattle.std.specs.Prelude.{◌≡◌, ◌∷◌, true, cond, suc, ◌+◌, ◌*◌, ◌/◌, ◌≤◌, ◌<◌, length, get_or, take, drop, eqb};
+ghost use Rattle.std.specs.Prelude.{◌≡◌, ◌∷◌, true, suc, ◌+◌, ◌*◌, ◌/◌, ◌≤◌, ◌<◌, length, take, drop};
 ghost use Rattle.layout.specs.Write.{stored};
-ghost use Rattle.rows.specs.Answers.{leaves};
+ghost use Rattle.layout.specs.Says.{leaves};
 ghost use Rattle.rows.specs.Checks.{all};
 ghost use Rattle.numbers.specs.Decimal.{is_digit, decimal, fields_text};
 ghost use Rattle.put.specs.Put.{Wrote};
@@ -13,19 +13,11 @@ ghost use Rattle.ascii.specs.Words.{SPACE, before, behind, parted, word_at, numb
 ghost use Rattle.ascii.specs.Says.{decimal_says};
 ghost use Rattle.numbers.specs.Decimal as decimals;
 
-use layout::question;
-use rows::Written;
+use layout::Question;
 
 const LF: u8 = b'\n';
 
 const COMMA: u8 = b',';
-
-// What a text says.
-#[derive(Clone, Copy)]
-pub enum Said {
-    Number(u64),
-    Nothing,
-}
 
 // ---- words: what stands before, between and behind the marks
 
@@ -33,66 +25,35 @@ pub enum Said {
 pub fn until(text: &[u8], stop: u8) -> usize
     ensures { (result ≡ length (before stop text.now)) × (result ≤ length text.now) }
 {
-    let mut i = 0;
-    while i < text.len() {
-        if text[i] == stop {
-            return i;
-        }
-        i += 1;
-    }
-    i
+    text.iter().position(|b| *b == stop).unwrap_or(text.len())
 }
 
 // The first field of a line.
 pub fn field(line: &[u8]) -> &[u8]
     ensures { result.now ≡ before SPACE line.now }
 {
-    let n = until(line, b' ');
-    &line[0..n]
+    &line[..until(line, b' ')]
 }
 
 // What stands behind the first field of a line.
 pub fn rest(line: &[u8]) -> &[u8]
     ensures { result.now ≡ behind SPACE line.now }
 {
-    let n = until(line, b' ');
-    if n < line.len() {
-        let next = n + 1;
-        return &line[next..];
-    }
-    &line[n..]
+    &line[next_word(line, b' ', 0)..]
 }
 
 // The first n bytes; all of them where there are fewer.
 pub fn first(bytes: &[u8], n: usize) -> &[u8]
     ensures { result.now ≡ take n bytes.now }
 {
-    if n < bytes.len() {
-        return &bytes[0..n];
-    }
-    bytes
-}
-
-fn is_mark(b: u8, mark: u8) -> usize
-    ensures { (result ≡ cond (eqb b mark) 1 0) × (result ≤ 1) }
-{
-    if b == mark {
-        return 1;
-    }
-    0
+    &bytes[..n.min(bytes.len())]
 }
 
 // How many marks a text has: one less than words.
 pub fn marks(text: &[u8], mark: u8) -> usize
     ensures { suc result ≡ length (parted mark text.now) }
 {
-    let mut n: usize = 0;
-    let mut i = 0;
-    while i < text.len() {
-        n += is_mark(text[i], mark);
-        i += 1;
-    }
-    n
+    text.iter().filter(|b| **b == mark).count()
 }
 
 // Where the next word starts, the text's end where there is none.
@@ -112,10 +73,8 @@ fn start_of(text: &[u8], mark: u8, i: usize) -> usize
     ensures { (result ≤ length text.now) × (word_at mark i text.now ≡ before mark (drop result text.now)) }
 {
     let mut at = 0;
-    let mut left = i;
-    while 0 < left {
+    for _ in 0..i {
         at = next_word(text, mark, at);
-        left -= 1;
     }
     at
 }
@@ -126,8 +85,7 @@ pub fn word(text: &[u8], mark: u8, i: usize) -> &[u8]
 {
     let at = start_of(text, mark, i);
     let rest = &text[at..];
-    let n = until(rest, mark);
-    &rest[0..n]
+    &rest[..until(rest, mark)]
 }
 
 // ---- decimals
@@ -135,70 +93,53 @@ pub fn word(text: &[u8], mark: u8, i: usize) -> &[u8]
 fn is_digit(b: u8) -> bool
     ensures { result ≡ is_digit b }
 {
-    if b < b'0' {
-        return false;
-    }
-    b <= b'9'
+    b.is_ascii_digit()
 }
 
 // A number with a digit behind it, if that is at most `highest`.
-pub fn with_digit(n: u64, b: u8, highest: u64) -> Said
+pub fn with_digit(n: u64, b: u8, highest: u64) -> Option<u64>
     ensures { decimal_says result ≡ with_digit highest n b }
 {
-    if is_digit(b) {
-        let d = width::wide_byte(b - b'0');
-        if highest < d {
-            return Said::Nothing;
-        }
-        if (highest - d) / 10 < n {
-            return Said::Nothing;
-        }
-        let m = n * 10 + d;
-        return Said::Number(m);
+    if !is_digit(b) {
+        return None;
     }
-    Said::Nothing
+    let d = u64::from(b - b'0');
+    if highest < d || (highest - d) / 10 < n {
+        return None;
+    }
+    Some(n * 10 + d)
 }
 
 // Nothing stands behind a first 0.
-fn digits(text: &[u8], first: u64, highest: u64) -> Said
-    ensures { decimal_says result ≡ says_from highest first (drop 1 text.now) }
+fn digits(rest: &[u8], first: u64, highest: u64) -> Option<u64>
+    ensures { decimal_says result ≡ says_from highest first rest.now }
 {
     let mut n = first;
-    let mut i = 1;
-    while i < text.len() {
+    for b in rest {
         if n == 0 {
-            return Said::Nothing;
+            return None;
         }
-        let Said::Number(m) = with_digit(n, text[i], highest) else {
-            return Said::Nothing;
-        };
-        n = m;
-        i += 1;
+        n = with_digit(n, *b, highest)?;
     }
-    Said::Number(n)
+    Some(n)
 }
 
 // The number that a text says, if it is a decimal and at most `highest`.
-pub fn decimal(text: &[u8], highest: u64) -> Said
+pub fn decimal(text: &[u8], highest: u64) -> Option<u64>
     ensures { decimal_says result ≡ decimal_in highest text.now }
 {
-    if text.len() == 0 {
-        return Said::Nothing;
-    }
-    let Said::Number(first) = with_digit(0, text[0], highest) else {
-        return Said::Nothing;
+    let [first, rest @ ..] = text else {
+        return None;
     };
-    digits(text, first, highest)
+    let n = with_digit(0, *first, highest)?;
+    digits(rest, n, highest)
 }
 
 // The number that the i-th word says, 0 where it is none.
 pub fn number(text: &[u8], mark: u8, i: usize) -> u64
     ensures { result ≡ number_at mark i text.now }
 {
-    let Said::Number(n) = decimal(word(text, mark, i), u64::MAX) else {
-        return 0;
-    };
-    n
+    decimal(word(text, mark, i), u64::MAX).unwrap_or(0)
 }
 
 // ---- hexadecimal, read
@@ -206,13 +147,7 @@ pub fn number(text: &[u8], mark: u8, i: usize) -> u64
 pub fn is_hex(b: u8) -> bool
     ensures { result ≡ is_hex b }
 {
-    if is_digit(b) {
-        return true;
-    }
-    if b < b'a' {
-        return false;
-    }
-    b <= b'f'
+    is_digit(b) || (b'a' <= b && b <= b'f')
 }
 
 // What a digit says; of another byte, anything. Without a branch, which random digits would mislead: the letters' last four bits are 1 to 6,
@@ -226,32 +161,18 @@ pub fn hex_value(b: u8) -> u8
 fn all_hex(text: &[u8]) -> bool
     ensures { result ≡ all is_hex text.now }
 {
-    let mut i = 0;
-    while i < text.len() {
-        if is_hex(text[i]) {
-            i += 1;
-        } else {
-            return false;
-        }
-    }
-    true
+    text.iter().all(|b| is_hex(*b))
 }
 
 // How many pairs of digits stand in front.
 pub fn hex_pairs(text: &[u8]) -> usize
     ensures { result ≡ hex_pairs text.now }
 {
-    let mut n = 0;
-    while n < text.len() / 2 {
-        if !is_hex(text[2 * n]) {
-            return n;
-        }
-        if !is_hex(text[2 * n + 1]) {
-            return n;
-        }
-        n += 1;
-    }
-    n
+    let (pairs, _) = text.as_chunks::<2>();
+    pairs
+        .iter()
+        .take_while(|[a, b]| is_hex(*a) && is_hex(*b))
+        .count()
 }
 
 // Stores the bytes that pairs of digits are from a position on, and answers the position behind them. A part of readers, which see to the digits and the room.
@@ -259,44 +180,34 @@ pub fn put_bytes(text: &[u8], out: &mut [u8], at: usize) -> usize
     requires { (all is_hex text.now ≡ true) × (at + length text.now / 2 ≤ length out.old) }
     ensures { (result ≡ at + length text.now / 2) × Wrote out.old at (unpaired text.now) out.new result }
 {
-    let mut i = 0;
-    while i < text.len() / 2 {
-        out[at + i] = hex_value(text[2 * i]) * 16 + hex_value(text[2 * i + 1]);
-        i += 1;
+    let (pairs, _) = text.as_chunks::<2>();
+    for (i, [a, b]) in pairs.iter().enumerate() {
+        out[at + i] = hex_value(*a) * 16 + hex_value(*b);
     }
-    at + i
+    at + pairs.len()
 }
 
 // Whether the text is `-`, which stands for no bytes.
 pub fn is_dash(text: &[u8]) -> bool
     ensures { result ≡ dash_of text.now }
 {
-    if text.len() == 1 {
-        return text[0] == b'-';
-    }
-    false
+    text.len() == 1 && text[0] == b'-'
 }
 
 // Stores the bytes that a field is, at the front of the output; a field that is no bytes is refused as a blob is.
-pub fn bytes(text: &[u8], out: &mut [u8]) -> Written
+pub fn bytes(text: &[u8], out: &mut [u8]) -> Result<usize, Question>
     ensures { leaves result out.new ≡ keeps (bytes_of text.now) out.old }
 {
-    if text.len() == 0 {
-        return Written::Refused(question::BLOB);
-    }
     if is_dash(text) {
-        return Written::Length(0);
+        return Ok(0);
     }
-    if text.len() % 2 == 1 {
-        return Written::Refused(question::BLOB);
+    if text.len() == 0 || text.len() % 2 == 1 || !all_hex(text) {
+        return Err(Question::Blob);
     }
-    if all_hex(text) {
-        if out.len() < text.len() / 2 {
-            return Written::Refused(question::OUTPUT);
-        }
-        return Written::Length(put_bytes(text, out, 0));
+    if out.len() < text.len() / 2 {
+        return Err(Question::Output);
     }
-    Written::Refused(question::BLOB)
+    Ok(put_bytes(text, out, 0))
 }
 
 // ---- hexadecimal, written
@@ -305,22 +216,7 @@ fn hex_digit(d: u8) -> u8
     requires { d < 16 }
     ensures { result ≡ hex_digit d }
 {
-    if d < 10 {
-        return d + 0x30;
-    }
-    d + 0x57
-}
-
-// The i-th digit of the bytes' text.
-fn digit_at(bytes: &[u8], i: usize) -> u8
-    requires { i < 2 * length bytes.now }
-    ensures { result ≡ get_or (pairs_of bytes.now) i 0 }
-{
-    let b = bytes[i / 2];
-    if i % 2 == 0 {
-        return hex_digit(b / 16);
-    }
-    hex_digit(b % 16)
+    if d < 10 { b'0' + d } else { b'a' + (d - 10) }
 }
 
 // Writes the digits from a position on, and answers the position behind them. A part of writers, which see to the room.
@@ -328,30 +224,28 @@ pub fn put_pairs(out: &mut [u8], at: usize, bytes: &[u8]) -> usize
     requires { at + 2 * length bytes.now ≤ length out.old }
     ensures { (result ≡ at + 2 * length bytes.now) × Wrote out.old at (pairs_of bytes.now) out.new result }
 {
-    let n = 2 * bytes.len();
-    let mut i = 0;
-    while i < n {
-        out[at + i] = digit_at(bytes, i);
-        i += 1;
+    for (i, b) in bytes.iter().enumerate() {
+        out[at + 2 * i] = hex_digit(*b / 16);
+        out[at + 2 * i + 1] = hex_digit(*b % 16);
     }
-    at + n
+    at + 2 * bytes.len()
 }
 
 // Writes the bytes' text to the front of the output, if there is room.
-pub fn hex(bytes: &[u8], out: &mut [u8]) -> Written
+pub fn hex(bytes: &[u8], out: &mut [u8]) -> Result<usize, Question>
     ensures { leaves result out.new ≡ stored (hex_of bytes.now) out.old }
 {
     if bytes.len() == 0 {
         if out.len() == 0 {
-            return Written::Refused(question::OUTPUT);
+            return Err(Question::Output);
         }
         out[0] = b'-';
-        return Written::Length(1);
+        return Ok(1);
     }
     if out.len() / 2 < bytes.len() {
-        return Written::Refused(question::OUTPUT);
+        return Err(Question::Output);
     }
-    Written::Length(put_pairs(out, 0, bytes))
+    Ok(put_pairs(out, 0, bytes))
 }
 
 // ---- decimals and lines of numbers written; no decimal has a leading zero but 0 itself
@@ -360,13 +254,7 @@ pub fn hex(bytes: &[u8], out: &mut [u8]) -> Written
 pub fn decimal_len(n: u64) -> usize
     ensures { (result ≡ length (decimal n)) × (result ≤ 20) }
 {
-    let mut rest = n;
-    let mut digits: usize = 1;
-    while rest >= 10 {
-        rest /= 10;
-        digits += 1;
-    }
-    digits
+    n.max(1).ilog10() as usize + 1
 }
 
 // Writes a number from a position on, its last digit first, and answers the position behind it. A part of writers, which see to the room (`decimal_len`).
@@ -375,12 +263,10 @@ pub fn put_decimal(out: &mut [u8], at: usize, n: u64) -> usize
     ensures { (result ≡ at + length (decimal n)) × Wrote out.old at (decimal n) out.new result }
 {
     let digits = decimal_len(n);
-    let mut i = digits;
     let mut rest = n;
-    while 0 < i {
-        i -= 1;
-        out[at + i] = (0x30 + rest % 10) as u8;
-        rest = rest / 10;
+    for i in (0..digits).rev() {
+        out[at + i] = b'0' + (rest % 10) as u8;
+        rest /= 10;
     }
     at + digits
 }
@@ -399,13 +285,11 @@ pub fn fields_len(fields: [u64; 7], count: usize) -> usize
     requires { count ≤ 7 }
     ensures { (result ≡ length (fields_text (take count fields))) × (result ≤ 148) }
 {
-    let mut i = 0;
-    let mut n: usize = 1;
-    while i < count {
-        n += 1 + decimal_len(fields[i]);
-        i += 1;
+    let mut len = 1;
+    for n in &fields[..count] {
+        len += 1 + decimal_len(*n);
     }
-    n
+    len
 }
 
 // The first `count` numbers, a comma before each, and LF.
@@ -413,11 +297,9 @@ fn put_fields(out: &mut [u8], at: usize, fields: [u64; 7], count: usize) -> usiz
     requires { (count ≤ 7) × (at + length (fields_text (take count fields)) ≤ length out.old) }
     ensures { (result ≡ at + length (fields_text (take count fields))) × Wrote out.old at (fields_text (take count fields)) out.new result }
 {
-    let mut i = 0;
     let mut here = at;
-    while i < count {
-        here = put_field(out, here, fields[i]);
-        i += 1;
+    for n in &fields[..count] {
+        here = put_field(out, here, *n);
     }
     put::put_byte(out, here, LF)
 }

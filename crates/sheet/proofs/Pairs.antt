@@ -8,15 +8,15 @@ use native.Mathlib.Omega.{arith}
 use lib.ListN.{length, set, take, drop, take-append-drop, length-drop}
 use lib.Seq.{take_all}
 use lib.Dec.{ltb, eqb}
-use borrow.Author.Tests.{eqb-true, lt-ltb, le-ltb, ne_eqb}
+use borrow.Author.Tests.{lt-ltb, le-ltb, ne_eqb}
 use Rattle.numbers.specs.Decimal.{LF, COMMA}
 use Rattle.rows.specs.Checks.{all}
 use Rattle.rows.proofs.Tests.{and_both}
 use Rattle.put.specs.Put as storing
 use Rattle.put.specs.Put.{put}
 use Rattle.ascii.specs.Hex as hex
-use Rattle.ascii.specs.Hex.{is_hex, hex_value, unpaired, hex_pairs}
-use Rattle.ascii.proofs.Blobs.{hex-small, hex-above, length-unpaired, unpaired-take, pairs-long, pairs-hex}
+use Rattle.ascii.specs.Hex.{is_hex, hex_value, unpaired}
+use Rattle.ascii.proofs.Blobs.{hex-small, hex-above, length-unpaired, unpaired-take}
 use Rattle.sheet.specs.declared.State.{State}
 use Rattle.sheet.specs.Sheet.{BLOB_BYTES}
 use Rattle.sheet.specs.Machine as machine
@@ -122,21 +122,10 @@ module _ (s : State) (f run : List ℕ) (at : s.phase ≡ HIGH) (some : 0 < leng
   unfolding storing.put hex.unpaired
   none-fit full = some_fit 0 run (omega arith) refl (omega arith)
 
--- ---- pairs counted in a chunk, from a position on
-pub record Counted (phase : ℕ) (chunk : List ℕ) (at n : ℕ) : Type 0 where
-  pub stand : at + 2 * n ≤ length chunk
-  pub between-pairs : 0 < n → phase ≡ HIGH
-  pub digits : all is_hex (take (2 * n) (drop at chunk)) ≡ true
-
-pub counted : (phase : ℕ) (chunk : List ℕ) (at n : ℕ) → at ≤ length chunk → n ≡ cond (eqb phase HIGH) (hex_pairs (take (length chunk - at) (drop at chunk))) 0 → Counted phase chunk at n
-counted phase chunk at n inside e = go (eqb phase HIGH) refl (rw (take_all (length chunk - at) (drop at chunk) (simp length-drop (omega arith))) at e)
-  where
-    go : (t : Bool) → eqb phase HIGH ≡ t → n ≡ cond t (hex_pairs (drop at chunk)) 0 → Counted phase chunk at n
-    go true is f =
-        let long : 2 * hex_pairs (drop at chunk) ≤ length chunk - at = rw (length-drop at chunk) at (pairs-long (drop at chunk)) in
-        record { stand = omega arith; between-pairs = λ h. eqb-true phase HIGH is; digits = rw f (pairs-hex (drop at chunk)) }
-    go false is f = record { stand = omega arith; between-pairs = λ h. absurd (omega arith); digits = rw f }
-
--- the first of the bytes to come, and then the others
-pub fed-split : (k : ℕ) (l : List ℕ) (h : Held) → fed (drop k l) (fed (take k l) h) ≡ fed l h
+-- ---- the first of the bytes to come, and then the others
+fed-split : (k : ℕ) (l : List ℕ) (h : Held) → fed (drop k l) (fed (take k l) h) ≡ fed l h
 fed-split k l h = sym (fed-append (take k l) (drop k l) h) ∙ ap (λ (x : List ℕ). fed x h) (take-append-drop k l)
+
+pub fed-behind : (k : ℕ) (l : List ℕ) (h after all : Held) → after ≡ fed (take k l) h → fed l h ≡ all → fed (take (length l - k) (drop k l)) after ≡ all
+fed-behind k l h after all first whole =
+    rw (take_all (length l - k) (drop k l) (simp length-drop (omega arith)), first) (fed-split k l h ∙ whole)

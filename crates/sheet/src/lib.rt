@@ -5,7 +5,7 @@
 // 41 is answered as soon as it is sure. 42 and 43 wait for the line's end, since its later bytes can still make it 41.
 #![tactic(auto)]
 
-ghost use Rattle.std.specs.Prelude.{◌≡◌, List, [], ◌∷◌, true, cond, ℕ, ◌+◌, ◌-◌, ◌%◌, ◌<◌, ◌≤◌, length, eqb};
+ghost use Rattle.std.specs.Prelude.{◌≡◌, List, [], ◌∷◌, true, cond, ℕ, ◌+◌, ◌-◌, ◌*◌, ◌%◌, ◌<◌, ◌≤◌, length, take, eqb};
 ghost use Rattle.rows.specs.Checks.{all};
 ghost use Rattle.ascii.specs.Hex.{is_hex, hex_pairs};
 ghost use Rattle.put.specs.Put.{put};
@@ -15,20 +15,11 @@ ghost use Rattle.sheet.specs.Machine.{bytes_in, lines_in, low_step, low_run, id_
 ghost use Rattle.sheet.specs.Machine as machine;
 ghost use Rattle.sheet.specs.Sheet as sheets;
 
-use ascii::Said;
-use layout::question;
+use layout::Question;
 
 const LF: u8 = b'\n';
 
 const COMMA: u8 = b',';
-
-const LETTER_D: u8 = b'D';
-
-const LETTER_C: u8 = b'C';
-
-const LETTER_Q: u8 = b'Q';
-
-const LETTER_K: u8 = b'K';
 
 // The most blob bytes and lines of a sheet.
 pub const BLOB_BYTES: usize = 61440;
@@ -120,20 +111,22 @@ pub fn begin() -> State
 fn waiting(lines: usize, left: u8, question: u8) -> State
     ensures { result ≡ waiting lines left question }
 {
-    let mut s = at_line(lines, 0);
-    s.left = left;
-    s.refusal = question;
-    s.phase = WAIT;
-    s
+    State {
+        left,
+        refusal: question,
+        phase: WAIT,
+        ..at_line(lines, 0)
+    }
 }
 
 fn stopped(lines: usize, question: u8) -> State
     ensures { result ≡ stopped lines question }
 {
-    let mut s = at_line(lines, 0);
-    s.refusal = question;
-    s.phase = REFUSED;
-    s
+    State {
+        refusal: question,
+        phase: REFUSED,
+        ..at_line(lines, 0)
+    }
 }
 
 // ---- letter, comma, decimal
@@ -141,64 +134,56 @@ fn stopped(lines: usize, question: u8) -> State
 fn begun(s: State, kind: u32, left: u8) -> State
     ensures { result ≡ begun kind left s }
 {
-    let mut next = s;
-    next.kind = kind;
-    next.left = left;
-    next.phase = LETTER;
-    next
+    State {
+        kind,
+        left,
+        phase: LETTER,
+        ..s
+    }
 }
 
 fn take_letter(s: State, b: u8) -> State
     ensures { result ≡ begun_as (shape_of (b ∷ [])) s }
 {
-    if b == LETTER_D {
-        return begun(s, store::DEVICE, 1);
+    match b {
+        b'D' => begun(s, store::DEVICE, 1),
+        b'C' => begun(s, store::CONTACT, 2),
+        b'Q' => begun(s, store::QUEUED, 3),
+        b'K' => begun(s, store::COURIER, 2),
+        _ => stopped(s.lines, Question::Line.number()),
     }
-    if b == LETTER_C {
-        return begun(s, store::CONTACT, 2);
-    }
-    if b == LETTER_Q {
-        return begun(s, store::QUEUED, 3);
-    }
-    if b == LETTER_K {
-        return begun(s, store::COURIER, 2);
-    }
-    stopped(s.lines, question::LINE)
 }
 
 fn highest(kind: u32, left: u8) -> u64
     ensures { result ≡ highest_at kind left }
 {
-    if left == 1 {
-        return HIGHEST_32;
+    if left == 1 || left == 2 && kind == store::QUEUED {
+        HIGHEST_32
+    } else {
+        u64::MAX
     }
-    if left == 2 {
-        if kind == store::QUEUED {
-            return HIGHEST_32;
-        }
-        return u64::MAX;
-    }
-    u64::MAX
 }
 
 fn take_digit(s: State, b: u8) -> State
     ensures { result ≡ digit_step b s }
 {
-    let Said::Number(n) = ascii::with_digit(s.number, b, highest(s.kind, s.left)) else {
-        return waiting(s.lines, s.left, question::DECIMAL);
+    let Some(n) = ascii::with_digit(s.number, b, highest(s.kind, s.left)) else {
+        return waiting(s.lines, s.left, Question::Decimal.number());
     };
-    let mut next = s;
-    next.number = n;
-    next.phase = NUMBER;
-    next
+    State {
+        number: n,
+        phase: NUMBER,
+        ..s
+    }
 }
 
 // No digit stands behind a first 0.
+#[tactic(auto, unfolding(crate::specs::Machine::number_step))]
 fn take_next_digit(s: State, b: u8) -> State
     ensures { result ≡ number_step b s }
 {
     if s.number == 0 {
-        return waiting(s.lines, s.left, question::DECIMAL);
+        return waiting(s.lines, s.left, Question::Decimal.number());
     }
     take_digit(s, b)
 }
@@ -208,111 +193,96 @@ fn taken(s: State, left: u8) -> State
     requires { s.left ≡ left + 1 }
     ensures { result ≡ taken s }
 {
-    let mut next = s;
-    next.oldest = s.older;
-    next.older = s.newest;
-    next.newest = s.number;
-    next.number = 0;
-    next.left = left;
-    if s.left == 1 {
-        next.phase = HIGH;
-        return next;
+    State {
+        oldest: s.older,
+        older: s.newest,
+        newest: s.number,
+        number: 0,
+        left,
+        phase: if left == 0 { HIGH } else { FIRST },
+        ..s
     }
-    next.phase = FIRST;
-    next
 }
 
 // A comma behind a letter or a decimal; any other is one too many.
+#[tactic(auto, unfolding(crate::specs::Machine::comma_step))]
 fn take_comma(s: State) -> State
     ensures { result ≡ comma_step s }
 {
     if s.phase == LETTER {
-        let mut next = s;
-        next.phase = FIRST;
-        return next;
+        return State { phase: FIRST, ..s };
     }
     if s.left == 0 {
-        return stopped(s.lines, question::LINE);
+        return stopped(s.lines, Question::Line.number());
     }
     let left = s.left - 1;
     if s.phase == NUMBER {
         return taken(s, left);
     }
-    waiting(s.lines, left, question::DECIMAL)
+    waiting(s.lines, left, Question::Decimal.number())
 }
 
 // ---- blob
 
+#[tactic(auto, unfolding(crate::specs::Machine::high_step))]
 fn take_high(s: State, b: u8) -> State
     ensures { result ≡ high_step b s }
 {
     if ascii::is_hex(b) {
-        let mut next = s;
-        next.digit = ascii::hex_value(b);
-        next.phase = LOW;
-        return next;
+        return State {
+            digit: ascii::hex_value(b),
+            phase: LOW,
+            ..s
+        };
     }
-    waiting(s.lines, s.left, question::BLOB)
+    waiting(s.lines, s.left, Question::Blob.number())
 }
 
 pub fn room_for(most: usize, lent: usize) -> usize
     ensures { (result ≡ room_for most lent) × (result ≤ most) × (result ≤ lent) }
 {
-    if lent < most {
-        return lent;
-    }
-    most
+    most.min(lent)
 }
 
 // The byte of a pair goes to the run, if there is room for it.
+#[tactic(auto, unfolding(crate::specs::Machine::low_step, crate::specs::Machine::low_run))]
 fn take_low(s: State, b: u8, run: &mut [u8]) -> State
     ensures { (result ≡ low_step (bytes_in run.old) b s) × (run.new ≡ low_run (bytes_in run.old) b s run.old) }
 {
     if ascii::is_hex(b) {
         let d = ascii::hex_value(b);
         let room = room_for(BLOB_BYTES, run.len());
-        let used = s.used;
-        let mut next = s;
-        next.digit = 0;
-        next.phase = HIGH;
-        if used < room {
-            run[used] = s.digit % 16 * 16 + d;
-            next.used = used + 1;
-            return next;
+        let mut used = room + 1;
+        if s.used < room {
+            run[s.used] = s.digit % 16 * 16 + d;
+            used = s.used + 1;
         }
-        next.used = room + 1;
-        return next;
+        return State {
+            used,
+            digit: 0,
+            phase: HIGH,
+            ..s
+        };
     }
-    waiting(s.lines, s.left, question::BLOB)
+    waiting(s.lines, s.left, Question::Blob.number())
 }
 
 // ---- LF
-
-fn difference(a: usize, b: usize) -> usize
-    ensures { result ≡ a - b }
-{
-    if a < b {
-        return 0;
-    }
-    a - b
-}
 
 fn id_in(s: State) -> u64
     ensures { result ≡ id_in s }
 {
     if s.kind == store::QUEUED {
-        return s.oldest;
+        s.oldest
+    } else {
+        s.older
     }
-    s.older
 }
 
 fn msgno_in(s: State) -> u64
     ensures { result ≡ msgno_in s }
 {
-    if s.kind == store::QUEUED {
-        return s.older;
-    }
-    0
+    if s.kind == store::QUEUED { s.older } else { 0 }
 }
 
 fn put_six(records: &mut [u64], at: usize, s: State)
@@ -322,69 +292,53 @@ fn put_six(records: &mut [u64], at: usize, s: State)
     records[at] = width::wide(s.kind);
     records[at + 1] = id_in(s);
     records[at + 2] = s.start as u64;
-    records[at + 3] = difference(s.used, s.start) as u64;
+    records[at + 3] = s.used.saturating_sub(s.start) as u64;
     records[at + 4] = msgno_in(s);
     records[at + 5] = s.newest;
 }
 
+#[tactic(auto, unfolding(crate::specs::Machine::closed, crate::specs::Machine::closed_records))]
 fn close(s: State, lent: usize, records: &mut [u64]) -> State
     ensures { (result ≡ closed (room_for sheets.BLOB_BYTES lent) (lines_in records.old) s) × (records.new ≡ closed_records (room_for sheets.BLOB_BYTES lent) (lines_in records.old) s records.old) }
 {
     let bytes = room_for(BLOB_BYTES, lent);
     let most = room_for(LINES, records.len() / RECORD);
-    let used = s.used;
-    let lines = s.lines;
-    if bytes < used {
-        return stopped(s.lines, question::SHEET_SIZE);
+    if s.used <= bytes && s.lines < most {
+        put_six(records, RECORD * s.lines, s);
+        return at_line(s.lines + 1, s.used);
     }
-    if lines < most {
-        put_six(records, RECORD * lines, s);
-        return at_line(lines + 1, used);
-    }
-    stopped(s.lines, question::SHEET_SIZE)
+    stopped(s.lines, Question::SheetSize.number())
 }
 
+#[tactic(auto, unfolding(crate::specs::Machine::end_step, crate::specs::Machine::end_records))]
 fn end_line(s: State, lent: usize, records: &mut [u64]) -> State
     ensures { (result ≡ end_step (room_for sheets.BLOB_BYTES lent) (lines_in records.old) s) × (records.new ≡ end_records (room_for sheets.BLOB_BYTES lent) (lines_in records.old) s records.old) }
 {
-    let phase = s.phase;
-    if phase == HIGH {
-        return close(s, lent, records);
+    match s.phase {
+        HIGH => close(s, lent, records),
+        LOW => stopped(s.lines, Question::Blob.number()),
+        WAIT if s.left == 0 => stopped(s.lines, s.refusal),
+        _ => stopped(s.lines, Question::Line.number()),
     }
-    if phase == LOW {
-        return stopped(s.lines, question::BLOB);
-    }
-    if phase == WAIT {
-        if s.left == 0 {
-            return stopped(s.lines, s.refusal);
-        }
-        return stopped(s.lines, question::LINE);
-    }
-    stopped(s.lines, question::LINE)
 }
 
 // ---- any byte
 
+#[tactic(auto, unfolding(crate::specs::Machine::other_step))]
 fn take_other(s: State, b: u8) -> State
     ensures { result ≡ other_step b s }
 {
-    let phase = s.phase;
-    if phase == NUMBER {
-        return take_next_digit(s, b);
+    match s.phase {
+        NUMBER => take_next_digit(s, b),
+        FIRST => take_digit(s, b),
+        START => take_letter(s, b),
+        WAIT => s,
+        _ => stopped(s.lines, Question::Line.number()),
     }
-    if phase == FIRST {
-        return take_digit(s, b);
-    }
-    if phase == START {
-        return take_letter(s, b);
-    }
-    if phase == WAIT {
-        return s;
-    }
-    stopped(s.lines, question::LINE)
 }
 
 // One byte more.
+#[tactic(auto, unfolding(crate::specs::Machine::stepped))]
 pub fn step(s: State, b: u8, run: &mut [u8], records: &mut [u64]) -> State
     ensures { held result run.new records.new ≡ stepped b (held s run.old records.old) }
 {
@@ -409,12 +363,16 @@ pub fn step(s: State, b: u8, run: &mut [u8], records: &mut [u64]) -> State
 
 // Pairs of digits where the reader stands between pairs of a blob; none elsewhere.
 fn pairs_in(s: State, rest: &[u8]) -> usize
-    ensures { result ≡ cond (eqb s.phase machine.HIGH) (hex_pairs rest.now) 0 }
+    ensures value { result ≡ cond (eqb s.phase machine.HIGH) (hex_pairs rest.now) 0 }
+    ensures within { 2 * result ≤ length rest.now }
+    ensures in_blob { 0 < result → s.phase ≡ machine.HIGH }
+    ensures digits { all is_hex (take (2 * result) rest.now) ≡ true }
 {
     if s.phase == HIGH {
-        return ascii::hex_pairs(rest);
+        ascii::hex_pairs(rest)
+    } else {
+        0
     }
-    0
 }
 
 // Many pairs of digits at once: their bytes go to the run as far as there is room.
@@ -424,41 +382,43 @@ fn take_pairs(s: State, digits: &[u8], run: &mut [u8]) -> State
 {
     let n = digits.len() / 2;
     let room = room_for(BLOB_BYTES, run.len());
-    let used = s.used;
-    let mut next = s;
-    next.digit = 0;
-    next.used = room + 1;
-    if used < room {
-        let fit = room_for(n, room - used);
-        let end = ascii::put_bytes(&digits[0..2 * fit], run, used);
+    let mut used = room + 1;
+    if s.used < room {
+        let fit = room_for(n, room - s.used);
+        let end = ascii::put_bytes(&digits[..2 * fit], run, s.used);
         if fit == n {
-            next.used = end;
+            used = end;
         }
     }
-    next
+    State {
+        used,
+        digit: 0,
+        ..s
+    }
 }
 
 // All bytes of a chunk.
+#[tactic(auto, unfolding(crate::specs::Machine::fed))]
 pub fn read_chunk(state: State, chunk: &[u8], run: &mut [u8], records: &mut [u64]) -> State
     ensures { held result run.new records.new ≡ fed chunk.now (held state run.old records.old) }
 {
     let mut s = state;
-    let mut i = 0;
-    while i < chunk.len() {
-        let n = 2 * pairs_in(s, &chunk[i..]);
+    let mut rest = chunk;
+    while let Some((b, behind)) = rest.split_first() {
+        let n = 2 * pairs_in(s, rest);
         if 0 < n {
-            s = take_pairs(s, &chunk[i..i + n], run);
-            i += n;
+            s = take_pairs(s, &rest[..n], run);
+            rest = &rest[n..];
         } else {
-            let b = chunk[i];
-            i += 1;
-            s = step(s, b, run, records);
+            s = step(s, *b, run, records);
+            rest = behind;
         }
     }
     s
 }
 
 // Behind a sheet's last byte.
+#[tactic(auto, unfolding(crate::specs::Machine::answer_of))]
 pub fn finish(state: State) -> Answer
     ensures { result ≡ answer_of state }
 {
@@ -470,5 +430,5 @@ pub fn finish(state: State) -> Answer
     if phase == REFUSED {
         return Answer::Refused(state.refusal, line);
     }
-    Answer::Refused(question::LINE, line)
+    Answer::Refused(Question::Line.number(), line)
 }

@@ -4,6 +4,7 @@ use mathlib.Core.Path.{◌≡◌, refl, sym, ◌∙◌, ap}
 use Prim.Native.Nat.{ℕ, zero, suc, ◌+◌, ◌*◌, ◌≤◌, ◌<◌, min}
 use native.Mathlib.Nat.{min-eq_left, not-suc-le-zero, le_of_suc-le-suc}
 use native.Mathlib.Omega.{arith}
+use native.Mathlib.Numerals.{add-one}
 use mathlib.Core.List.{List, [], ◌∷◌}
 use lib.ListN.{length, get_or, take, drop, set, replicate, length-replicate}
 use lib.Seq.{drop-drop, get_or-drop}
@@ -15,7 +16,7 @@ use Rattle.sheet.specs.Sheet.{entry_in, entries_in}
 use Rattle.sheet.specs.Proved.{EntryFits}
 use Rattle.sheet_entries.specs.Table as table
 use Rattle.sheet_entries.specs.Table.{ENTRIES, in_field, entry_from, entries_from, overlaid, AsRead}
-use Rattle.sheet_entries.proofs.Turns.{Placed, Laid, laid-there, laid-all, laid-whole}
+use Rattle.sheet_entries.proofs.Turns.{laid_next, laid-all}
 
 abbrev entry : (id start len msgno version kind : ℕ) → Entry
 entry id start len msgno version kind = record { id = id; start = start; len = len; msgno = msgno; version = version; kind = kind }
@@ -52,18 +53,14 @@ line_at (suc n) zero records h = refl
 line_at (suc n) (suc i) records h = line_at n i (drop 6 records) (le_of_suc-le-suc h) ∙ ap entry_from (behind i records)
 
 -- ---- the loop: one turn, and behind it
-module _ (n : ℕ) (records : List ℕ) (l : List Entry) (i place : ℕ) (held : List Entry) where
-  pub line-laid : (after : List Entry) → i < n → length held ≡ length l → Placed n (length l) i place → Laid l (entries_from n records) i held
-      → after ≡ set held place (entry_from (drop (6 * i) records)) → Laid l (entries_from n records) (i + 1) after
-  line-laid after h same p so e =
-      laid-there no_entry n l (entries_from n records) i place held after (let m = long n records in omega (arith, h, m)) same p so
-      (e ∙ ap (set held place) (sym (line_at n i records h)))
+module _ (n : ℕ) (records : List ℕ) (l : List Entry) where
+  pub line-laid : (i : ℕ) (held : List Entry) → i < n → held ≡ overlaid l (take i (entries_from n records))
+      → set held i (entry_from (drop (6 * i) records)) ≡ overlaid l (take (i + 1) (entries_from n records))
+  line-laid i held h so =
+      rw (so, ← line_at n i records h, add-one) (laid_next no_entry l (entries_from n records) i (omega (arith, h, long n records)))
 
-  pub lines-laid : n ≤ i → Placed n (length l) i place → Laid l (entries_from n records) i held → held ≡ overlaid l (entries_from n records)
-  lines-laid over p so = laid-all n (length l) i place l (entries_from n records) held over p so ∙ laid-whole n l (entries_from n records) (sym (long n records))
-
-pub as-held : (n lines : ℕ) → n ≡ min lines ENTRIES → n ≤ ENTRIES
-as-held n lines is = omega (arith, is)
+  pub lines-laid : (i : ℕ) → i ≡ min n (length l) → overlaid l (take i (entries_from n records)) ≡ overlaid l (entries_from n records)
+  lines-laid i e = laid-all l (entries_from n records) i (omega (arith, e, long n records))
 
 -- ---- what is lent of a filled table
 take-overlaid : {A : Type 0} (l xs : List A) → length xs ≤ length l → take (length xs) (overlaid l xs) ≡ xs

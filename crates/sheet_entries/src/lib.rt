@@ -2,9 +2,8 @@
 // entries are lent. It is made where it is lent, since an array by value is copied whole on its way. A count above the table's length counts as that length.
 #![tactic(auto)]
 
-ghost use Rattle.std.specs.Prelude.{◌≡◌, ◌*◌, ◌≤◌, ◌<◌, min, length, get_or, set, drop};
+ghost use Rattle.std.specs.Prelude.{◌≡◌, ◌*◌, ◌<◌, min, length, get_or, drop};
 ghost use Rattle.store.specs.Store.{store_of, restore, no_entry};
-ghost use Rattle.restore_entries.specs.Next.{next_in};
 ghost use Rattle.restore.specs.Restored.{answered};
 ghost use Rattle.sheet_entries.specs.Table.{in_field, entry_from, entries_from, overlaid};
 ghost use Rattle.sheet_entries.specs.Table as tables;
@@ -19,40 +18,20 @@ pub const ENTRIES: usize = 512;
 // The highest number of 32 bits.
 const HIGHEST_32: u64 = 0xFFFFFFFF;
 
-// How many of n entries a table has.
-fn held(n: usize) -> usize
-    ensures { result ≡ min n tables.ENTRIES }
-{
-    if n <= ENTRIES { n } else { ENTRIES }
-}
-
 // ---- the entry of a line
 
 // The i-th number, 0 where there is none.
 pub fn number_at(records: &[u64], i: usize) -> u64
     ensures { result ≡ get_or records.now i 0 }
 {
-    if i < records.len() {
-        return records[i];
-    }
-    0
-}
-
-fn in_field(x: u64) -> u32
-    ensures { result ≡ in_field x }
-{
-    if x <= HIGHEST_32 {
-        return x as u32;
-    }
-    HIGHEST_32 as u32
+    records.get(i).copied().unwrap_or(0)
 }
 
 // The i-th number in a field of 32 bits.
 pub fn field_at(records: &[u64], i: usize) -> u32
     ensures { result ≡ in_field (get_or records.now i 0) }
 {
-    let number = number_at(records, i);
-    in_field(number)
+    number_at(records, i).min(HIGHEST_32) as u32
 }
 
 // The entry of the i-th line, from the six numbers that a sheet's reader left of it. A number that is wider than its field counts as the field's highest: a
@@ -94,34 +73,16 @@ pub fn no_entry() -> Entry
 
 // ---- a table is filled
 
-fn fill_at(records: &[u64], table: &mut [Entry], i: usize, place: usize) -> usize
-    requires { i < tables.ENTRIES }
-    ensures { (result ≡ next_in table.old place) × (table.new ≡ set table.old place (entry_from (drop (6 * i) records.now))) }
-{
-    let e = entry_from(records, i);
-    restore_entries::set_entry(table, place, e)
-}
-
-fn fill_from(records: &[u64], table: &mut [Entry], n: usize) -> usize
-    requires { n ≤ tables.ENTRIES }
-    ensures { (result ≡ min n (length table.old)) × (table.new ≡ overlaid table.old (entries_from n records.now)) }
-{
-    let mut i = 0;
-    let mut place = 0;
-    while i < n {
-        place = fill_at(records, table, i, place);
-        i = i + 1;
-    }
-    place
-}
-
 // Stores the entries of so many lines to the front of the table, as many as there is room for, and answers how many.
 pub fn fill(records: &[u64], lines: usize, table: &mut [Entry]) -> usize
     ensures { (result ≡ min (min lines tables.ENTRIES) (length table.old))
         × (table.new ≡ overlaid table.old (entries_from (min lines tables.ENTRIES) records.now)) }
 {
-    let n = held(lines);
-    fill_from(records, table, n)
+    let n = lines.min(ENTRIES).min(table.len());
+    for i in 0..n {
+        table[i] = entry_from(records, i);
+    }
+    n
 }
 
 // ---- restore

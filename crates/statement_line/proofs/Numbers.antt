@@ -1,6 +1,6 @@
 -- How many numbers from `lowest` on ranges hold, a range at a time.
 -- Assumes nothing.
-use Prim.Native.Nat.{ℕ, ◌+◌, ◌-◌, ◌^◌, ◌≤◌, ◌<◌, min, max}
+use Prim.Native.Nat.{ℕ, ◌+◌, ◌-◌, ◌≤◌, min, max}
 use mathlib.Core.List.{List, [], ◌∷◌}
 use mathlib.Core.Path.{◌≡◌, ap}
 use native.Mathlib.Omega.{arith}
@@ -15,9 +15,11 @@ module _ (lowest sum : ℕ) {total : ℕ} {rs : List Range} (e : sum + size_from
   pub all-counted : rs ≡ [] → sum ≡ total
   all-counted is = let d : size_from lowest rs ≡ 0 = ap (size_from lowest) is in omega arith
 
--- a sum that 64 bits hold, and one that they do not
-pub held-sum : (n : ℕ) → n ≤ 2 ^ 64 - 1 → n ≡ min n (2 ^ 64 - 1)
-held-sum n h = omega arith
+-- the same of a sum that stays at the most that it can be
+pub counted_capped : (lowest sum most : ℕ) {next n total : ℕ} {rs rest : List Range} {r : Range} → min (sum + size_from lowest rs) most ≡ total → rs ≡ r ∷ rest
+    → n ≡ r.to + 1 - max r.from lowest → next ≡ min (sum + n) most → min (next + size_from lowest rest) most ≡ total
+counted_capped lowest sum most {rs = rs} {rest = rest} {r = r} e is w capped =
+    let d : size_from lowest rs ≡ r.to + 1 - max r.from lowest + size_from lowest rest = ap (size_from lowest) is in omega arith
 
-pub full-sum : (n : ℕ) → 2 ^ 64 - 1 < n → 2 ^ 64 - 1 ≡ min n (2 ^ 64 - 1)
-full-sum n h = omega arith
+pub all_capped : (lowest sum most : ℕ) {total : ℕ} {rs : List Range} → sum ≤ most → min (sum + size_from lowest rs) most ≡ total → rs ≡ [] → sum ≡ total
+all_capped lowest sum most {rs = rs} h e is = let d : size_from lowest rs ≡ 0 = ap (size_from lowest) is in omega arith

@@ -5,15 +5,15 @@
 // A range whose first number is above its last holds none, and a count of ranges above the lent pairs counts as the lent pairs.
 #![tactic(auto)]
 
-ghost use Rattle.std.specs.Prelude.{◌≡◌, ◌+◌, ◌-◌, ◌*◌, ◌^◌, ◌≤◌, ◌<◌, min, max, length};
+ghost use Rattle.std.specs.Prelude.{◌≡◌, ◌+◌, ◌-◌, ◌*◌, ◌^◌, ◌≤◌, ◌<◌, min, max};
 ghost use Rattle.layout.specs.Write.{stored};
-ghost use Rattle.rows.specs.Answers.{leaves};
+ghost use Rattle.layout.specs.Says.{leaves};
 ghost use Rattle.numbers.specs.Sets.{size_from};
 ghost use Rattle.received.specs.Lent.{pairs};
 ghost use Rattle.store.specs.Line.{line_of};
 
-use layout::question;
-use rows::{ContactId, Written};
+use layout::Question;
+use rows::ContactId;
 
 pub const LETTER_S: u8 = 0x53;
 
@@ -30,7 +30,7 @@ pub fn statement_line(
     queued: u64,
     expired: u64,
     out: &mut [u8],
-) -> Written
+) -> Result<usize, Question>
     ensures { leaves result out.new ≡ stored (line_of contact.0 sent acked contiguous beyond queued expired) out.old }
 {
     let n = width::wide(sent);
@@ -39,50 +39,30 @@ pub fn statement_line(
     let fields = [contact.0, n, a, c, beyond, queued, expired];
     let len = 1 + ascii::fields_len(fields, FIELDS);
     if out.len() < len {
-        return Written::Refused(question::OUTPUT);
+        return Err(Question::Output);
     }
     ascii::put_line(out, 0, LETTER_S, fields, FIELDS);
-    Written::Length(len)
+    Ok(len)
 }
 
 // How many numbers from `lowest` on a range holds.
 pub fn size_from(from: u32, to: u32, lowest: u64) -> u64
     ensures { (result ≡ to + 1 - max from lowest) × (result ≤ 2 ^ 32) }
 {
-    let start = width::wide(from);
+    let start = width::wide(from).max(lowest);
     let end = width::wide(to) + 1;
-    let low = width::higher(start, lowest);
-    if end < low {
-        return 0;
-    }
-    end - low
-}
-
-// How many numbers from `lowest` on the first `held` ranges of the list hold.
-fn numbers_of(list: &[u32], held: usize, lowest: u64) -> u64
-    requires { 2 * held ≤ length list.now }
-    ensures { (result ≡ min (size_from lowest (pairs held list.now)) (2 ^ 64 - 1)) × (held ≤ 65535 → result ≡ size_from lowest (pairs held list.now)) }
-{
-    let mut i = 0;
-    let mut sum: u64 = 0;
-    while i < held {
-        let n = size_from(list[2 * i], list[2 * i + 1], lowest);
-        if u64::MAX - sum < n {
-            return u64::MAX;
-        }
-        sum += n;
-        i += 1;
-    }
-    sum
+    end.saturating_sub(start)
 }
 
 // How many numbers from `lowest` on the first `count` ranges of a lent flat list, from, to, from, to, hold.
 pub fn numbers_in(list: &[u32], count: usize, lowest: u64) -> u64
     ensures { (result ≡ min (size_from lowest (pairs count list.now)) (2 ^ 64 - 1)) × (count ≤ 65535 → result ≡ size_from lowest (pairs count list.now)) }
 {
-    let lent = list.len() / 2;
-    if lent < count {
-        return numbers_of(list, lent, lowest);
+    let held = count.min(list.len() / 2);
+    let mut sum: u64 = 0;
+    for i in 0..held {
+        let n = size_from(list[2 * i], list[2 * i + 1], lowest);
+        sum = sum.saturating_add(n);
     }
-    numbers_of(list, count, lowest)
+    sum
 }

@@ -1,19 +1,12 @@
--- `ascii::all_hex` meets its contract. The invariant: what is left answers as the whole. The measure is what is left.
--- Assumes nothing.
-use mathlib.Core.Path.{sym, ◌∙◌}
-use native.Mathlib.Omega.{arith}
-use lib.ListN.{drop_of_length-le}
+-- `ascii::all_hex` meets its contract: `all` says so of each byte.
+use Rattle.std.proofs.Common.{◌∙◌, rules, tests}
+use Rattle.std.proofs.lemmas.Iterator.{YieldsList-from_slice}
+use Rattle.std.proofs.lemmas.Iterator.Search.{all_from_yields_List}
 use Rattle.ascii.specs.Hex.{is_hex}
-use Rattle.ascii.proofs.Blobs.{other, digit-more}
+use Rattle.ascii.proofs.Blobs.{all-of}
 use Rattle.ascii.proofs.all_hex.Goals as goal
 
-pub loop-i-preserved : goal.loop-i-preserved
-loop-i-preserved c =
-    (omega arith, sym (digit-more _ c.loop-i.i (omega arith) (sym c.is_hex.ensures ∙ c.if-is_hex.true)) ∙ c.loop-i.invariant.1)
-
-pub returns-else-is_hex : goal.returns-else-is_hex
-returns-else-is_hex c =
-    sym (other _ c.loop-i.i (omega arith) (sym c.is_hex.ensures ∙ c.if-is_hex.false)) ∙ c.loop-i.invariant.1
-
 pub returns : goal.returns
-returns c = rw (drop_of_length-le c.args.text.now {i = c.loop-i.i} (omega arith)) at c.loop-i.invariant.1
+returns c =
+    let text = c.args.text.now in
+    all_from_yields_List is_hex _ _ _ c.all.ensures.ran (YieldsList-from_slice text cc) (λ x b q k. search (rules, tests)) ∙ all-of is_hex text

@@ -1,13 +1,7 @@
--- `ascii::digits` meets its contract. The invariant: the digits left, behind the number so far, answer as all do. The measure is what is left.
--- Assumes nothing.
-use Prim.Native.Nat.{◌-◌}
-use mathlib.Core.Path.{◌≡◌}
-use lib.ListN.{length, drop}
+-- `ascii::digits` meets its contract. The invariant: the digits left, behind the number so far, answer as all do.
+use Rattle.std.proofs.Common.{◌≡◌, drop}
 use Rattle.ascii.specs.Decimal.{says_from}
 use Rattle.ascii.proofs.digits.Given as goal
 
-abbrev pub invariant-loop-i : goal.invariant-loop-i
-invariant-loop-i l = says_from l.highest l.n (drop l.i l.text) ≡ says_from l.highest l.first (drop 1 l.text)
-
-abbrev pub decreases-loop-i : goal.decreases-loop-i
-decreases-loop-i l = length l.text - l.i
+abbrev pub invariant-loop-b : goal.invariant-loop-b
+invariant-loop-b l = says_from l.highest l.n (drop l.b-index l.rest) ≡ says_from l.highest l.first l.rest

@@ -1,7 +1,6 @@
 -- `ascii::next_word` meets its contract: the place behind the next mark, or the end.
--- Assumes nothing.
+use Rattle.std.proofs.Common.{rules}
 use Rattle.ascii.proofs.Words.{behind-space, no-space}
-use borrow.Author.Rules.{rules}
 use Rattle.ascii.proofs.next_word.Goals as goal
 
 pub returns-then-n-rest : goal.returns-then-n-rest

@@ -1,26 +1,22 @@
--- `ascii::put_pairs` meets its contract: its loop stores the text byte by byte (`bytes-start`, `bytes-turn`, `bytes-end`). The measure is what is left.
--- Assumes nothing.
-use Prim.Native.Nat.{◌*◌, ◌<◌}
-use mathlib.Core.Path.{◌≡◌, sym}
-use native.Mathlib.Omega.{arith}
-use lib.ListN.{length}
-use Rattle.put.proofs.Put.{bytes-start, bytes-turn, bytes-end}
-use Rattle.ascii.specs.Hex.{pairs_of}
-use Rattle.ascii.proofs.Pairs.{length_pairs}
-use borrow.Author.Rules.{rules}
+-- `ascii::put_pairs` meets its contract: a turn of its loop stores the two digits of a byte.
+use Rattle.std.proofs.Common.{◌≡◌, ◌+◌, ◌*◌, length, refl, sym, ◌∙◌, arith}
+use Rattle.put.proofs.Put.{bytes-turn, bytes-end}
+use Rattle.ascii.proofs.Pairs.{length_pairs, high_digit, low_digit}
 use Rattle.ascii.proofs.put_pairs.Goals as goal
-
-pub loop-i-init : goal.loop-i-init
-loop-i-init c = (search rules, bytes-start _ _ _)
 
 pub loop-i-preserved : goal.loop-i-preserved
 loop-i-preserved c =
     let bytes = c.args.bytes.now in
-    let h : c.loop-i.i < length (pairs_of bytes) = omega (arith, length_pairs bytes) in
-    (omega arith, bytes-turn _ _ _ c.loop-i.i h (sym c.digit_at.ensures) c.loop-i.invariant.1)
+    let i = c.loop-i.i in
+    let long = length_pairs bytes in
+    let high = bytes-turn _ _ _ (2 * i) (omega arith) (high_digit bytes i (omega arith) ∙ sym c.hex_digit.ensures) c.loop-i.invariant in
+    let low = bytes-turn _ _ _ (2 * i + 1) (omega arith) (low_digit bytes i (omega arith) ∙ sym c.hex_digit-in-loop-i.ensures) high in
+    let place : c.args.at + 2 * i + 1 ≡ c.args.at + (2 * i + 1) = omega arith in
+    let next : 2 * (i + 1) ≡ 2 * i + 1 + 1 = omega arith in
+    rw (place, next) low
 
 pub returns : goal.returns
 returns c =
     let bytes = c.args.bytes.now in
-    let e : c.loop-i.i ≡ 2 * length bytes = omega arith in
-    (search rules, bytes-end _ _ _ (2 * length bytes) (length_pairs bytes) (rw e at c.loop-i.invariant.1))
+    let all : c.loop-i.i ≡ length bytes = omega arith in
+    (refl, bytes-end _ _ _ (2 * length bytes) (length_pairs bytes) (rw all at c.loop-i.invariant))

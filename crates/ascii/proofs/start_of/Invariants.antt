@@ -1,14 +1,7 @@
--- `ascii::start_of` meets its contract. The invariant: the word that is looked for is the `left`-th from `at` on. The measure is `left`.
--- Assumes nothing.
-use mathlib.Core.List.{[]}
-use Prim.Native.Nat.{◌≤◌}
-use mathlib.Core.Path.{◌≡◌}
-use lib.ListN.{length, get_or, drop}
-use Rattle.ascii.specs.Words.{parted}
+-- `ascii::start_of` meets its contract. The invariant: the word that is looked for is as many words behind `at` as turns are left.
+use Rattle.std.proofs.Common.{◌≡◌, ◌-◌, ◌≤◌, [], length, get_or, drop}
+use Rattle.ascii.specs.Words.{parted, word_at}
 use Rattle.ascii.proofs.start_of.Given as goal
 
-abbrev pub invariant-loop-left : goal.invariant-loop-left
-invariant-loop-left l = (l.at ≤ length l.text) × (get_or (parted l.mark l.text) l.i [] ≡ get_or (parted l.mark (drop l.at l.text)) l.left [])
-
-abbrev pub decreases-loop-left : goal.decreases-loop-left
-decreases-loop-left l = l.left
+abbrev pub invariant-loop : goal.invariant-loop
+invariant-loop l = (l.at ≤ length l.text) × (word_at l.mark l.i l.text ≡ get_or (parted l.mark (drop l.at l.text)) (l.i - l.counter) [])

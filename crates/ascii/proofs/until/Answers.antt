@@ -1,24 +1,17 @@
--- `ascii::until` meets its contract. The invariant: the bytes passed, and what stands before the first `stop` of the rest, are what stands before it in the whole. The measure is what is left.
--- Assumes nothing.
-use native.Mathlib.Omega.{arith}
-use lib.ListN.{drop_of_length-le}
+-- `ascii::until` meets its contract: the first byte that is `stop` has as many before it.
+use Rattle.std.proofs.Common.{ℕ, ◌≡◌, List, length, rules, arith, tests}
+use Rattle.std.specs.Option.{unwrap_or}
+use Rattle.std.proofs.lemmas.Iterator.{YieldsList-from_slice, IsFirst-from_position, index_from_first}
 use Rattle.ascii.specs.Words.{before}
-use Rattle.ascii.proofs.Words.{stops, goes_on}
+use Rattle.ascii.proofs.Words.{before-short, none_before, stops, goes_on}
 use Rattle.ascii.proofs.until.Goals as goal
 
-pub returns-then-text-i : goal.returns-then-text-i
-returns-then-text-i c =
-    let text = c.args.text.now in
-    let e = stops text c.loop-i.i c.loop-i-test.true c.if-text-i.true in
-    (omega (arith, e), omega arith)
-
-pub loop-i-preserved : goal.loop-i-preserved
-loop-i-preserved c =
-    let text = c.args.text.now in
-    let e = goes_on text c.loop-i.i c.loop-i-test.true c.if-text-i.false in
-    (omega arith, omega (arith, e))
-
 pub returns : goal.returns
-unfolding before
 returns c =
-    (omega (arith, rw (drop_of_length-le c.args.text.now {i = c.loop-i.i} (omega arith)) at c.loop-i.invariant.1), omega arith)
+    let stop = c.args.stop in
+    let text = c.args.text.now in
+    let found = IsFirst-from_position _ _ c.position.result (λ b. b ≡ stop) (λ b. b ≡ stop → ⊥) c.position.ensures.ran (YieldsList-from_slice text cc) (λ x q k. search (rules, tests)) (λ x q k. search (rules, tests)) in
+    let is : length (before stop text) ≡ unwrap_or c.position.result (length text) =
+    index_from_first (λ (bs : List ℕ). length (before stop bs)) (λ (b : ℕ). b ≡ stop) (λ (b : ℕ). b ≡ stop → ⊥) (none_before stop) (stops stop) (goes_on stop) text c.position.result found in
+    let same : c.unwrap_or.result ≡ length (before stop text) = cc in
+    (same, omega (arith, same, before-short stop text))

@@ -4,7 +4,7 @@ use Prim.Native.Nat.{ℕ, suc, ◌+◌}
 use mathlib.Core.List.{List, ◌∷◌, []}
 use mathlib.Core.Path.{◌≡◌}
 use native.Mathlib.Omega.{arith}
-use lib.ListN.{set, length-set}
+use lib.ListN.{set}
 use Rattle.put.specs.Put as storing
 use Rattle.put.specs.Put.{put}
 use Rattle.sheet.proofs.put_six.Goals as goal
@@ -20,21 +20,6 @@ stores l at a b c d e f =
     let e5 : at + 5 ≡ suc (suc (suc (suc (suc at)))) = omega arith in
     rw (e1, e2, e3, e4, e5)
 
-pub bounds-records-at-2 : goal.bounds-records-at-2
-bounds-records-at-2 c = simp length-set (omega arith)
-
-pub bounds-records-at-3 : goal.bounds-records-at-3
-bounds-records-at-3 c = simp length-set (omega arith)
-
-pub bounds-records-at-4 : goal.bounds-records-at-4
-bounds-records-at-4 c = simp length-set (omega arith)
-
-pub bounds-records-at-5 : goal.bounds-records-at-5
-bounds-records-at-5 c = simp length-set (omega arith)
-
-pub bounds-records-at-6 : goal.bounds-records-at-6
-bounds-records-at-6 c = simp length-set (omega arith)
-
 pub returns : goal.returns
 returns c =
-    rw (c.wide.ensures.0, c.id_in.ensures, c.difference.ensures, c.msgno_in.ensures) (stores _ _ _ _ _ _ _ _)
+    rw (c.wide.ensures.0, c.id_in.ensures, c.saturating_sub.ensures, c.msgno_in.ensures) (stores _ _ _ _ _ _ _ _)

@@ -17,7 +17,7 @@ stepped s b e f g = ap (λ (x : Option ℕ). grown x s) (sym g ∙ f ∙ ap (λ 
 
 pub returns-in_default : goal.returns-in_default
 returns-in_default c =
-    c.waiting.ensures ∙ stepped _ _ c.highest.ensures c.with_digit.ensures (ap decimal_says c.in_default.is)
+    c.waiting.ensures ∙ ap (λ (q : ℕ). machine.waiting c.args.s.lines c.args.s.left q) c.number.ensures ∙ stepped _ _ c.highest.ensures c.with_digit.ensures (ap decimal_says c.in_default.is)
 
 pub returns : goal.returns
-returns c = stepped _ _ c.highest.ensures c.with_digit.ensures (ap decimal_says c.in-Number.is)
+returns c = stepped _ _ c.highest.ensures c.with_digit.ensures (ap decimal_says c.in-Some.is)

@@ -24,16 +24,16 @@ not-most most lent r e other = go (ltb lent most) refl e
 pub put_bytes-end-requires : goal.put_bytes-end-requires
 put_bytes-end-requires c =
     let a = c.args in
-    (hex-take (2 * c.room_for-fit.result - 0) a.digits.now c.requires.3, simp length-take (omega (arith, c.room_for-fit.ensures.2, c.room_for-room.ensures.2)))
+    (hex-take (2 * c.room_for-fit.result) a.digits.now c.requires.3, simp length-take (omega (arith, c.room_for-fit.ensures.2, c.room_for-room.ensures.2)))
 
 pub returns-then-fit-n : goal.returns-then-fit-n
 returns-then-fit-n c =
     let digits = c.args.digits.now in
     let fit = c.room_for-fit in
-    let whole : take (2 * fit.result - 0) digits ≡ digits = take_all (2 * fit.result - 0) digits (omega (arith, c.if-fit-n.true, c.requires.2)) in
+    let whole : take (2 * fit.result) digits ≡ digits = take_all (2 * fit.result) digits (omega (arith, c.if-fit-n.true, c.requires.2)) in
     rw (rw whole at c.put_bytes-end.ensures.0)
     (all_fit c.args.s digits c.args.run.now c.requires.0 c.requires.1 c.requires.2 c.requires.3 _ (rw whole at c.put_bytes-end.ensures.1.now-is)
-    (rw (← c.room_for-room.ensures.0) (omega (arith, c.if-fit-n.true, fit.ensures.2, c.if-used-room.true))))
+    (rw (← c.room_for-room.ensures.0) (omega (arith, c.if-fit-n.true, fit.ensures.2, c.if-s-room.true))))
 
 pub returns-else-fit-n : goal.returns-else-fit-n
 returns-else-fit-n c =
@@ -41,12 +41,11 @@ returns-else-fit-n c =
     let n = length c.args.digits.now / 2 in
     let least = not-most n (c.room_for-room.result - c.args.s.used) fit.result fit.ensures.0 c.if-fit-n.false in
     let e = c.room_for-room.ensures.0 in
-    let same : 2 * fit.result - 0 ≡ 2 * fit.result = omega arith in
     rw e
     (some_fit c.args.s c.args.digits.now c.args.run.now c.requires.0 c.requires.1 c.requires.2 c.requires.3 fit.result c.put_bytes-end.new.out (rw e at least.0)
-    (rw same at c.put_bytes-end.ensures.1.now-is) (rw (← e) (omega (arith, least))))
+    c.put_bytes-end.ensures.1.now-is (rw (← e) (omega (arith, least))))
 
-pub returns-else-used-room : goal.returns-else-used-room
-returns-else-used-room c =
+pub returns-else-s-room : goal.returns-else-s-room
+returns-else-s-room c =
     let e = c.room_for-room.ensures.0 in
-    rw e (none-fit c.args.s c.args.digits.now c.args.run.now c.requires.0 c.requires.1 c.requires.2 c.requires.3 (rw e at c.if-used-room.false))
+    rw e (none-fit c.args.s c.args.digits.now c.args.run.now c.requires.0 c.requires.1 c.requires.2 c.requires.3 (rw e at c.if-s-room.false))

@@ -1,17 +1,18 @@
--- `sheet_entries::fill` meets its contract.
--- Assumes nothing.
-use Prim.Native.Nat.{ℕ, min}
-use mathlib.Core.Path.{ap, ◌∙◌}
-use lib.ListN.{length}
-use Rattle.sheet_entries.specs.Table.{entries_from, overlaid}
-use Rattle.sheet_entries.proofs.Filled.{as-held}
+-- One turn lays one entry over the table.
+use Prim.Native.Nat.{min}
+use mathlib.Core.Path.{◌∙◌}
+use native.Mathlib.Omega.{arith}
+use Rattle.sheet_entries.specs.Table.{ENTRIES}
+use Rattle.sheet_entries.proofs.Turns.{none-laid}
+use Rattle.sheet_entries.proofs.Filled.{line-laid, lines-laid}
 use Rattle.sheet_entries.proofs.fill.Goals as goal
 
-pub fill_from-requires : goal.fill_from-requires
-fill_from-requires c = as-held c.held-n.result c.args.lines c.held-n.ensures
+pub loop-i-init : goal.loop-i-init
+loop-i-init c = none-laid c.args.table.now
+
+pub loop-i-preserved : goal.loop-i-preserved
+loop-i-preserved c =
+    rw c.entry_from.ensures (line-laid (min c.args.lines ENTRIES) c.args.records.now c.args.table.now c.loop-i.i c.loop-i.table (omega arith) c.loop-i.invariant)
 
 pub returns : goal.returns
-returns c = (
-  c.fill_from.ensures.0 ∙ ap (λ (m : ℕ). min m (length c.args.table.now)) c.held-n.ensures,
-  c.fill_from.ensures.1 ∙ ap (λ (m : ℕ). overlaid c.args.table.now (entries_from m c.args.records.now)) c.held-n.ensures,
-)
+returns c = (omega arith, c.loop-i.invariant ∙ lines-laid (min c.args.lines ENTRIES) c.args.records.now c.args.table.now c.loop-i.i (omega arith))

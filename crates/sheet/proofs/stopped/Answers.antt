@@ -1,6 +1,0 @@
--- `sheet::stopped` meets its contract.
--- Assumes nothing.
-use Rattle.sheet.proofs.stopped.Goals as goal
-
-pub returns : goal.returns
-returns c = rw c.at_line-s.ensures
