@@ -9,12 +9,12 @@ ghost use Rattle.calls_step.specs.Proved.{HIGHEST};
 ghost use Rattle.calls_dispatch.specs.Dispatch.{call_of, input_of, left_of, gate_of, id_in, id_for, counts_queued, OfStore};
 ghost use Rattle.calls.specs.Calls.{stored_for, opened_for, asking_for, facts_as, restore_left, RestoreSteps};
 
-use calls_dispatch::{Call, Facts, Gate};
+use calls_dispatch::{Call, Facts};
 use calls_open::Left;
 use calls_step::Mark;
 use calls_store::{Asking, Passed};
 use contact::Contact;
-use layout::question;
+use layout::Question;
 use restore::Restored;
 use rows::ContactId;
 use store::Entry;
@@ -56,8 +56,7 @@ fn stored_for(mark: Mark) -> Asking
 {
     match mark {
         Mark::Fresh => Asking::Nothing,
-        Mark::Restored => Asking::Stored,
-        Mark::Opened(_) => Asking::Stored,
+        Mark::Restored | Mark::Opened(_) => Asking::Stored,
     }
 }
 
@@ -66,8 +65,7 @@ fn opened_for(mark: Mark) -> Asking
     ensures { result ≡ opened_for mark }
 {
     match mark {
-        Mark::Fresh => Asking::Nothing,
-        Mark::Restored => Asking::Nothing,
+        Mark::Fresh | Mark::Restored => Asking::Nothing,
         Mark::Opened(_) => Asking::Opened,
     }
 }
@@ -77,12 +75,7 @@ fn asking_for(call: Call, mark: Mark) -> Asking
 {
     match call {
         Call::Open(_) => stored_for(mark),
-        Call::Cover(_, _) => opened_for(mark),
-        Call::Contains(_) => opened_for(mark),
-        Call::Covers(_, _) => opened_for(mark),
-        Call::Take => opened_for(mark),
-        Call::Statement => opened_for(mark),
-        Call::Write => opened_for(mark),
+        _ => opened_for(mark),
     }
 }
 
@@ -91,8 +84,7 @@ fn opened_id(mark: Mark) -> ContactId
     ensures { result ≡ id_in mark }
 {
     match mark {
-        Mark::Fresh => ContactId(0),
-        Mark::Restored => ContactId(0),
+        Mark::Fresh | Mark::Restored => ContactId(0),
         Mark::Opened(id) => id,
     }
 }
@@ -103,12 +95,7 @@ fn id_for(call: Call, mark: Mark) -> ContactId
 {
     match call {
         Call::Open(id) => id,
-        Call::Cover(_, _) => opened_id(mark),
-        Call::Contains(_) => opened_id(mark),
-        Call::Covers(_, _) => opened_id(mark),
-        Call::Take => opened_id(mark),
-        Call::Statement => opened_id(mark),
-        Call::Write => opened_id(mark),
+        _ => opened_id(mark),
     }
 }
 
@@ -116,38 +103,24 @@ fn id_for(call: Call, mark: Mark) -> ContactId
 fn counts_queued(call: Call) -> bool
     ensures { result ≡ counts_queued call }
 {
-    match call {
-        Call::Open(_) => false,
-        Call::Cover(_, _) => false,
-        Call::Contains(_) => false,
-        Call::Covers(_, _) => false,
-        Call::Take => false,
-        Call::Statement => true,
-        Call::Write => false,
-    }
+    matches!(call, Call::Statement)
 }
 
 // Question 34's answer.
-fn gate_of(passed: bool) -> Gate
+fn gate_of(passed: bool) -> Result<(), Question>
     ensures { result ≡ gate_of passed }
 {
-    if passed {
-        Gate::Through
-    } else {
-        Gate::Refused(question::STORE)
-    }
+    if passed { Ok(()) } else { Err(Question::Store) }
 }
 
 fn facts_as(answer: Passed, queued: u64, id: ContactId) -> Facts
     ensures { result ≡ facts_as answer queued id }
 {
-    let sought = answer.sought;
-    let gate = gate_of(answer.passed);
     Facts {
-        sought,
+        sought: answer.sought,
         queued,
         id,
-        gate,
+        gate: gate_of(answer.passed),
     }
 }
 

@@ -2,13 +2,15 @@
 // `specs/Encoding.antt` says which call and which answer they are.
 #![tactic(auto)]
 
-ghost use Rattle.std.specs.Prelude.{◌≡◌, cond, List, ℕ};
+ghost use Rattle.std.specs.Prelude.{◌≡◌, List, ℕ};
+ghost use Rattle.layout.specs.Says.{answers};
 ghost use Rattle.calls_dispatch.specs.Dispatch.{says};
 ghost use Rattle.calls_code.specs.Encoding.{call_in, six_of};
 ghost use Rattle.calls_code.specs.Coded.{six, numbers_as, decoded_as};
 
 use calls_dispatch::Call;
 use calls_open::Answer;
+use layout::Question;
 use rows::ContactId;
 
 // An answer.
@@ -74,12 +76,6 @@ pub const ANSWER: usize = 6;
 
 // ---- answers
 
-fn bit(b: bool) -> u64
-    ensures { result ≡ cond b 1 0 }
-{
-    if b { 1 } else { 0 }
-}
-
 // A tag and two numbers; the others are 0.
 pub fn tagged(tag: u64, a: u64, b: u64) -> Numbers
     ensures { result ≡ numbers_as tag a b }
@@ -94,56 +90,43 @@ pub fn tagged(tag: u64, a: u64, b: u64) -> Numbers
     }
 }
 
-pub fn numbers_of(answer: Answer) -> Numbers
-    ensures { (out : List ℕ) → six result ≡ six_of (says answer out) }
+pub fn numbers_of(answer: Result<Answer, Question>) -> Numbers
+    ensures { (out : List ℕ) → six result ≡ six_of (says (answers answer) out) }
 {
     match answer {
-        Answer::Yes => tagged(YES, 0, 0),
-        Answer::Advanced(moved, added) => tagged(ADVANCED, bit(moved), added),
-        Answer::Truth(b) => tagged(TRUTH, bit(b), 0),
-        Answer::Number(n) => tagged(NUMBER, width::wide(n), 0),
-        Answer::Wrote(n) => tagged(WROTE, n as u64, 0),
-        Answer::Said(n) => tagged(SAID, n as u64, 0),
-        Answer::No(q) => tagged(NO, q as u64, 0),
+        Ok(Answer::Yes) => tagged(YES, 0, 0),
+        Ok(Answer::Advanced(moved, added)) => tagged(ADVANCED, u64::from(moved), added),
+        Ok(Answer::Truth(is)) => tagged(TRUTH, u64::from(is), 0),
+        Ok(Answer::Number(n)) => tagged(NUMBER, u64::from(n), 0),
+        Ok(Answer::Wrote(n)) => tagged(WROTE, n as u64, 0),
+        Ok(Answer::Said(n)) => tagged(SAID, n as u64, 0),
+        Err(refusal) => tagged(NO, u64::from(refusal.number()), 0),
     }
 }
 
 // ---- calls
 
 // The call that six numbers say.
+#[tactic(auto, unfolding(crate::specs::Encoding::call_as))]
 pub fn decode(six: &[u64]) -> Decoded
     ensures { (run records : List ℕ) → decoded_as result run records six.now ≡ call_in run records six.now }
 {
     let code = sheet_entries::number_at(six, 0);
-    if code == RESTORE {
-        return Decoded::Restore;
+    match code {
+        RESTORE => Decoded::Restore,
+        OPEN => Decoded::Made(Call::Open(ContactId(sheet_entries::number_at(six, 1)))),
+        COVER => Decoded::Made(Call::Cover(
+            sheet_entries::field_at(six, 1),
+            sheet_entries::field_at(six, 2),
+        )),
+        CONTAINS => Decoded::Made(Call::Contains(sheet_entries::field_at(six, 1))),
+        COVERS => Decoded::Made(Call::Covers(
+            sheet_entries::field_at(six, 1),
+            sheet_entries::field_at(six, 2),
+        )),
+        TAKE => Decoded::Made(Call::Take),
+        STATEMENT => Decoded::Made(Call::Statement),
+        WRITE => Decoded::Made(Call::Write),
+        _ => Decoded::Nothing,
     }
-    if code == OPEN {
-        let id = ContactId(sheet_entries::number_at(six, 1));
-        return Decoded::Made(Call::Open(id));
-    }
-    if code == COVER {
-        let from = sheet_entries::field_at(six, 1);
-        let to = sheet_entries::field_at(six, 2);
-        return Decoded::Made(Call::Cover(from, to));
-    }
-    if code == CONTAINS {
-        let msgno = sheet_entries::field_at(six, 1);
-        return Decoded::Made(Call::Contains(msgno));
-    }
-    if code == COVERS {
-        let from = sheet_entries::field_at(six, 1);
-        let to = sheet_entries::field_at(six, 2);
-        return Decoded::Made(Call::Covers(from, to));
-    }
-    if code == TAKE {
-        return Decoded::Made(Call::Take);
-    }
-    if code == STATEMENT {
-        return Decoded::Made(Call::Statement);
-    }
-    if code == WRITE {
-        return Decoded::Made(Call::Write);
-    }
-    Decoded::Nothing
 }

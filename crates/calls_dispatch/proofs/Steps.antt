@@ -8,7 +8,9 @@ use mathlib.Core.Path.{◌≡◌, refl, sym, ap, ◌∙◌}
 use lib.ListN.{length, drop}
 use lib.Seq.{take-append_seam}
 use lib.Dec.{leb, ltb}
-use Rattle.layout.specs.Questions.{STORE, RANGE, RANGES_FIT, OUTPUT}
+use Rattle.std.specs.Prelude.{Result, Ok, Err}
+use Rattle.layout.specs.declared.question.Question.{Question}
+use Rattle.layout.specs.Questions.{number_of, STORE, RANGE, RANGES_FIT, OUTPUT}
 use Rattle.layout.specs.Layout.{read_row}
 use Rattle.layout.specs.Layout as layout
 use Rattle.layout.specs.Write as writer
@@ -18,7 +20,6 @@ use Rattle.rows.specs.declared.ContactId.{ContactId}
 use Rattle.numbers.specs.Ranges.{is_range}
 use Rattle.received.specs.Change.{change_of}
 use Rattle.received.specs.Lent.{fits, plan_of, list_after}
-use Rattle.received.specs.declared.Planned.TheVariants as planned
 use Rattle.rows.proofs.Tests.{either, and_both}
 use Rattle.contact.specs.declared.Contact.{Contact}
 use Rattle.contact.specs.Contact as contacts
@@ -41,12 +42,9 @@ use Rattle.calls_dispatch.specs.declared.Call.{Call}
 use Rattle.calls_dispatch.specs.declared.Call.TheVariants.{Open, Cover, Contains, Covers, Take, Statement, Write}
 use Rattle.calls_open.specs.declared.Answer.{Answer}
 use Rattle.calls_open.specs.declared.Answer.TheVariants as answer
-use Rattle.calls_open.specs.declared.Left as code
 use Rattle.calls_dispatch.specs.declared.Facts.{Facts}
-use Rattle.calls_dispatch.specs.declared.Gate.{Gate}
-use Rattle.calls_dispatch.specs.declared.Gate.TheVariants.{Through, Refused}
-use Rattle.calls_dispatch.specs.Dispatch.{call_of, says, input_of, left_of, passed_on, store_passed, passed_for, gate_of, id_in, id_for, counts_queued, OfStore, Done, acted, dispatched, Stepped}
-use Rattle.calls_open.specs.Calls.{left, contains_says, covers_says, covered_by, cover_leaves, cover_list, take_leaves, line_says, row_says, WrittenBy, line_from, line_left, opened_by, open_leaves, open_lists}
+use Rattle.calls_dispatch.specs.Dispatch.{call_of, says, input_of, standing, passed_on, store_passed, passed_for, gate_of, id_in, id_for, counts_queued, OfStore, Done, acted, dispatched, Stepped}
+use Rattle.calls_open.specs.Calls.{Outcome, left, contains_says, covers_says, covered_by, cover_leaves, cover_list, take_leaves, line_says, row_says, line_from, line_left, opened_by, open_leaves, open_lists}
 use Rattle.calls_open.proofs.Few.{few-numbers}
 
 cond_of : {A B : Type 0} (f : A → B) (b : Bool) (x y : A) → f (cond b x y) ≡ cond b (f x) (f y)
@@ -54,15 +52,18 @@ cond_of f true x y = refl
 cond_of f false x y = refl
 
 -- ---- a gate
+abbrev Gate : Type 0
+Gate = Result (Unit {0}) Question
+
 abbrev is_through : Gate → Bool
-is_through Through = true
-is_through (Refused q) = false
+is_through (Ok u) = true
+is_through (Err q) = false
 
-abbrev number_of : Gate → ℕ
-number_of Through = STORE
-number_of (Refused q) = q
+abbrev number_in : Gate → ℕ
+number_in (Ok u) = STORE
+number_in (Err q) = number_of q
 
-through : (b : Bool) → gate_of b ≡ Through → b ≡ true
+through : (b : Bool) → gate_of b ≡ Ok tt → b ≡ true
 through true e = refl
 through false e = ap is_through e
 
@@ -128,15 +129,15 @@ module _ (m : Mark) (run : List ℕ) (es : List Entry) (c : Contact) (l : Lists)
 
   -- ---- what open leaves
   read-row : (k : ContactId) (version : ℕ) (row : List ℕ) → let x = contacts.reads version row l in
-      left_of (opened_by x.answer.verdict k m c x.answer.contact) h x.lists out ≡ filling k.0 h (read_row (rows.contact version) row)
+      standing (opened_by x.answer k m c) h x.lists out ≡ filling k.0 h (read_row (rows.contact version) row)
   unfolding contacts.reads
   read-row k version row = go (read_row (rows.contact version) row)
     where
-      go : (y : layout.Answer value.Contact) → let x = contacts.opened y l in left_of (opened_by x.answer.verdict k m c x.answer.contact) h x.lists out ≡ filling k.0 h y
-      go (layout.accepted v) = cond_of (λ (x : contacts.Left). left_of (opened_by x.answer.verdict k m c x.answer.contact) h x.lists out) (contacts.long_enough v l) _ _
+      go : (y : layout.Answer value.Contact) → let x = contacts.opened y l in standing (opened_by x.answer k m c) h x.lists out ≡ filling k.0 h y
+      go (layout.accepted v) = cond_of (λ (x : contacts.Left). standing (opened_by x.answer k m c) h x.lists out) (contacts.long_enough v l) _ _
       go (layout.refused_by q) = refl
 
-  looked-up : (k : ContactId) (s : Sought) (x : Option Entry) → s ≡ sought_of x → left_of (open_leaves s k m c run l) h (open_lists s run l) out ≡ steps.opening k.0 h x
+  looked-up : (k : ContactId) (s : Sought) (x : Option Entry) → s ≡ sought_of x → standing (open_leaves s k m c run l) h (open_lists s run l) out ≡ steps.opening k.0 h x
   looked-up k s none e = rw e
   looked-up k s (some x) e = rw e (read-row k x.version (part_of run x))
 
@@ -157,96 +158,96 @@ module _ (m : Mark) (run : List ℕ) (es : List Entry) (c : Contact) (l : Lists)
     its : {k : Call} → call ≡ k → id ≡ id_for k m
     its e = o.which ∙ ap (λ (k : Call). id_for k m) e
 
-    refused-is : {q : ℕ} → facts.gate ≡ Refused q → {r : code.Left} → r ≡ left c m (answer.No q) → left_of r h l out ≡ step HIGHEST (call_of call) h
-    refused-is {q} no-so is = ap (λ r. left_of r h l out) is ∙ go (passed_for call m h) refl (sym o.gate ∙ no-so)
+    refused-is : {q : Question} → facts.gate ≡ Err q → {r : Outcome} → r ≡ left c m (layout.refused_by (number_of q)) → standing r h l out ≡ step HIGHEST (call_of call) h
+    refused-is {q} no-so is = ap (λ r. standing r h l out) is ∙ go (passed_for call m h) refl (sym o.gate ∙ no-so)
       where
-        go : (b : Bool) → passed_for call m h ≡ b → gate_of b ≡ Refused q → no q h ≡ step HIGHEST (call_of call) h
+        go : (b : Bool) → passed_for call m h ≡ b → gate_of b ≡ Err q → no (number_of q) h ≡ step HIGHEST (call_of call) h
         go true is e = absurd (true≢false (ap is_through e))
-        go false is e = ap (λ n. no n h) (sym (ap number_of e)) ∙ refused-step call is
+        go false is e = ap (λ n. no n h) (sym (ap number_in e)) ∙ refused-step call is
 
-    module _ (so : facts.gate ≡ Through) where
+    module _ (so : facts.gate ≡ Ok tt) where
       answered : {k : Call} → call ≡ k → passed_for k m h ≡ true
       answered {k} e = through (passed_for k m h) (sym (o.gate ∙ ap (λ (k : Call). gate_of (passed_for k m h)) e) ∙ so)
 
-      contains-is : {n : ℕ} → call ≡ Contains n → {r : code.Left} → r ≡ left c m (contains_says c l.above n) → left_of r h l out ≡ step HIGHEST (call_of call) h
+      contains-is : {n : ℕ} → call ≡ Contains n → {r : Outcome} → r ≡ left c m (contains_says c l.above n) → standing r h l out ≡ step HIGHEST (call_of call) h
       unfolding steps.step
-      contains-is e is = as_called e (ap (λ r. left_of r h l out) is ∙ opened-yes m _ (answered e))
+      contains-is e is = as_called e (ap (λ r. standing r h l out) is ∙ opened-yes m _ (answered e))
 
-      covers-is : {f t : ℕ} → call ≡ Covers f t → {r : code.Left} → r ≡ left c m (covers_says c l.above f t) → left_of r h l out ≡ step HIGHEST (call_of call) h
+      covers-is : {f t : ℕ} → call ≡ Covers f t → {r : Outcome} → r ≡ left c m (covers_says c l.above f t) → standing r h l out ≡ step HIGHEST (call_of call) h
       unfolding steps.step
       covers-is {f} {t} e is =
-          as_called e (ap (λ r. left_of r h l out) is ∙ cond_of (λ a. left_of (left c m a) h l out) (is_range f t) _ _ ∙ opened-yes m _ (answered e))
+          as_called e (ap (λ r. standing r h l out) is ∙ cond_of (λ a. standing (left c m a) h l out) (is_range f t) _ _ ∙ opened-yes m _ (answered e))
 
-      cover-is : {f t : ℕ} → call ≡ Cover f t → {r : code.Left} {a : List ℕ} → (r ≡ cover_leaves c m l.above f t) × (a ≡ cover_list c l.above f t)
-          → left_of r h (above_as a l) out ≡ step HIGHEST (call_of call) h
+      cover-is : {f t : ℕ} → call ≡ Cover f t → {r : Outcome} {a : List ℕ} → (r ≡ cover_leaves c m l.above f t) × (a ≡ cover_list c l.above f t)
+          → standing r h (above_as a l) out ≡ step HIGHEST (call_of call) h
       unfolding steps.step
       cover-is {f} {t} e is =
           let v = steps.covered_in h in
           as_called e
-          ((λ i. left_of (is.0 i) h (above_as (is.1 i) l) out)
+          ((λ i. standing (is.0 i) h (above_as (is.1 i) l) out)
           ∙ either (is_range f t)
-          (λ b. left_of (cond b (covered_by (plan_of v (length l.above) f t) c m) (left c m (answer.No RANGE))) h (above_as (cond b (list_after v l.above f t) l.above) l) out
+          (λ b. standing (cond b (covered_by (plan_of v (length l.above) f t) c m) (left c m (layout.refused_by RANGE))) h (above_as (cond b (list_after v l.above f t) l.above) l) out
           ≡ cond b (steps.covering f t h (plan_of v (length l.above) f t)) (no RANGE h))
           (λ _. either (fits v (length l.above) f t)
-          (λ b. left_of (covered_by (cond b (planned.Change (change_of v f t)) (planned.Refused RANGES_FIT)) c m) h (above_as (list_after v l.above f t) l) out
-          ≡ steps.covering f t h (cond b (planned.Change (change_of v f t)) (planned.Refused RANGES_FIT)))
+          (λ b. standing (covered_by (cond b (layout.accepted (change_of v f t)) (layout.refused_by RANGES_FIT)) c m) h (above_as (list_after v l.above f t) l) out
+          ≡ steps.covering f t h (cond b (layout.accepted (change_of v f t)) (layout.refused_by RANGES_FIT)))
           (λ _. refl)
           (λ full. rw full))
           (λ _. refl)
           ∙ opened-yes m _ (answered e))
 
-      take-is : call ≡ Take → {r : code.Left} → r ≡ take_leaves c m → left_of r h l out ≡ step HIGHEST (call_of call) h
+      take-is : call ≡ Take → {r : Outcome} → r ≡ take_leaves c m → standing r h l out ≡ step HIGHEST (call_of call) h
       unfolding steps.step
       take-is e is =
-          as_called e (ap (λ r. left_of r h l out) is ∙ cond_of (λ r. left_of r h l out) (ltb c.sent_msgno HIGHEST) _ _ ∙ opened-yes m _ (answered e))
+          as_called e (ap (λ r. standing r h l out) is ∙ cond_of (λ r. standing r h l out) (ltb c.sent_msgno HIGHEST) _ _ ∙ opened-yes m _ (answered e))
 
-      statement-is : call ≡ Statement → ListsTyped l → {r : code.Left} {w : List ℕ} → WrittenBy c m line_says (line_left id c q l.above l.expired out) r w
-          → left_of r h l w ≡ step HIGHEST (call_of call) h
+      statement-is : call ≡ Statement → ListsTyped l → {r : Outcome} {w : List ℕ} → let x = line_left id c q l.above l.expired out in (r ≡ left c m (line_says x.answer)) × (w ≡ x.out)
+          → standing r h l w ≡ step HIGHEST (call_of call) h
       unfolding steps.step
       statement-is e typed is =
           let k = id_in m in
           let line : line_from id c q l.above l.expired ≡ line_in k.0 h =
           (λ i. line_from (its e i) c ((o.count ∙ (λ j. cond (counts_queued (e j)) (queued_of (its e j).0 es) 0)) i) l.above l.expired) ∙ line-is typed k (passed-opened m (answered e)) in
           as_called e
-          ((λ i. left_of (is.answer i) h l (is.output i))
+          ((λ i. standing (is.0 i) h l (is.1 i))
           ∙ ap (λ (x : List ℕ). let w = writer.stored x out in leaves (says (line_says w.answer) w.out) (output w.out h)) line
           ∙ line-said (line_in k.0 h)
           ∙ opened-yes m _ (answered e))
 
-      write-is : call ≡ Write → ListsTyped l → ContactTyped c → {r : code.Left} {w : List ℕ} → WrittenBy c m row_says (writes_contact c l out) r w
-          → left_of r h l w ≡ step HIGHEST (call_of call) h
+      write-is : call ≡ Write → ListsTyped l → ContactTyped c → {r : Outcome} {w : List ℕ} → let x = writes_contact c l out in (r ≡ left c m (row_says x.answer)) × (w ≡ x.out)
+          → standing r h l w ≡ step HIGHEST (call_of call) h
       unfolding steps.step
       write-is e typed fields is =
           as_called e
-          ((λ i. left_of (is.answer i) h l (is.output i))
+          ((λ i. standing (is.0 i) h l (is.1 i))
           ∙ ap (λ a. leaves a (output (writes_contact c l out).out h)) (row_wrote (writes_contact c l out).answer _)
           ∙ ap (writing wrote_row h) (passed-writes (id_in m).0 h fields typed (passed-opened m (answered e)) out)
           ∙ opened-yes m _ (answered e))
 
-      open_is : {k : ContactId} → call ≡ Open k → {r : code.Left} {ls : Lists}
-          → (r ≡ open_leaves s id m c run l) × (ls ≡ open_lists s run l) → left_of r h ls out ≡ step HIGHEST (call_of call) h
+      open_is : {k : ContactId} → call ≡ Open k → {r : Outcome} {ls : Lists}
+          → (r ≡ open_leaves s id m c run l) × (ls ≡ open_lists s run l) → standing r h ls out ≡ step HIGHEST (call_of call) h
       unfolding steps.step
       open_is e is =
           as_called e
-          ((λ i. left_of (is.0 i) h (is.1 i) out)
+          ((λ i. standing (is.0 i) h (is.1 i) out)
           ∙ looked-up id s (contact_in es id.0) o.row
           ∙ ap (λ (j : ContactId). steps.opening j.0 h (contact_in es j.0)) (its e)
           ∙ store-yes m _ (answered e))
 
   -- ---- so what a step leaves is the ledger's, where the facts are right of the store
-  acted-is : (call : Call) (facts : Facts) → OfStore call h facts → facts.gate ≡ Through → ContactTyped c → ListsTyped l
-      → let d = acted call facts m run c l out in left_of d.left h d.lists d.out ≡ step HIGHEST (call_of call) h
+  acted-is : (call : Call) (facts : Facts) → OfStore call h facts → facts.gate ≡ Ok tt → ContactTyped c → ListsTyped l
+      → let d = acted call facts m run c l out in standing d.left h d.lists d.out ≡ step HIGHEST (call_of call) h
   acted-is (Open id) facts o so fields typed = open_is facts o so refl (refl, refl)
   acted-is (Cover f t) facts o so fields typed = cover-is facts o so refl (refl, refl)
   acted-is (Contains n) facts o so fields typed = contains-is facts o so refl refl
   acted-is (Covers f t) facts o so fields typed = covers-is facts o so refl refl
   acted-is Take facts o so fields typed = take-is facts o so refl refl
-  acted-is Statement facts o so fields typed = statement-is facts o so refl typed (record { answer = refl; output = refl })
-  acted-is Write facts o so fields typed = write-is facts o so refl typed fields (record { answer = refl; output = refl })
+  acted-is Statement facts o so fields typed = statement-is facts o so refl typed (refl, refl)
+  acted-is Write facts o so fields typed = write-is facts o so refl typed fields (refl, refl)
 
-  pub stepped : {call : Call} {facts : Facts} {d : Done} → Stepped call facts m run c l out d → OfStore call h facts → left_of d.left h d.lists d.out ≡ step HIGHEST (call_of call) h
-  stepped {call} {facts} s o = ap (λ d. left_of d.left h d.lists d.out) s.is ∙ go facts.gate refl
+  pub stepped : {call : Call} {facts : Facts} {d : Done} → Stepped call facts m run c l out d → OfStore call h facts → standing d.left h d.lists d.out ≡ step HIGHEST (call_of call) h
+  stepped {call} {facts} s o = ap (λ d. standing d.left h d.lists d.out) s.is ∙ go facts.gate refl
     where
-      go : (g : Gate) → facts.gate ≡ g → let d = dispatched g call facts m run c l out in left_of d.left h d.lists d.out ≡ step HIGHEST (call_of call) h
-      go Through e = acted-is call facts o e s.contact s.lists
-      go (Refused q) e = refused-is facts o e refl
+      go : (g : Gate) → facts.gate ≡ g → let d = dispatched g call facts m run c l out in standing d.left h d.lists d.out ≡ step HIGHEST (call_of call) h
+      go (Ok u) e = acted-is call facts o e s.contact s.lists
+      go (Err q) e = refused-is facts o e refl

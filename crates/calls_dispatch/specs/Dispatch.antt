@@ -1,7 +1,10 @@
 -- A call by value, its answer and what it leaves, in the words of the ledger; what a call has to know of the store; and what a step leaves.
 -- Assumes nothing.
-use Rattle.std.specs.Prelude.{ℕ, List, Bool, true, false, cond, ◌≡◌, take}
-use Rattle.layout.specs.Questions.{STORE}
+use Rattle.std.specs.Prelude.{ℕ, List, Bool, true, false, Result, Ok, Err, cond, ◌≡◌, take}
+use Rattle.layout.specs.declared.question.Question.{Question}
+use Rattle.layout.specs.declared.question.Question.TheVariants as question
+use Rattle.layout.specs.Questions.{number_of}
+use Rattle.layout.specs.Layout as row
 use Rattle.layout.specs.Write as writer
 use Rattle.rows.specs.declared.ContactId.{ContactId}
 use Rattle.contact.specs.Contact.{Lists}
@@ -21,11 +24,9 @@ use Rattle.calls_step.specs.Step.{passes, above_as}
 use Rattle.calls_open.specs.declared.Answer.{Answer}
 use Rattle.calls_open.specs.declared.Answer.TheVariants as answer
 use Rattle.calls_open.specs.declared.Left.{Left}
-use Rattle.calls_open.specs.Calls.{left, contains_says, covers_says, cover_leaves, cover_list, take_leaves, line_says, row_says, line_left, open_leaves, open_lists}
+use Rattle.calls_open.specs.Calls.{Outcome, outcome_of, left, contains_says, covers_says, cover_leaves, cover_list, take_leaves, line_says, row_says, line_left, open_leaves, open_lists}
 use Rattle.calls_dispatch.specs.declared.Call.{Call}
 use Rattle.calls_dispatch.specs.declared.Call.TheVariants.{Open, Cover, Contains, Covers, Take, Statement, Write}
-use Rattle.calls_dispatch.specs.declared.Gate.{Gate}
-use Rattle.calls_dispatch.specs.declared.Gate.TheVariants.{Through, Refused}
 use Rattle.calls_dispatch.specs.declared.Facts.{Facts}
 
 -- ---- a call by value, its answer, and what it leaves
@@ -39,21 +40,24 @@ call_of Statement = ledger.statement
 call_of Write = ledger.write
 
 -- the line that is said stands at the front of the output
-abbrev pub says : Answer → (out : List ℕ) → ledger.Answer
-says answer.Yes out = granted
-says (answer.Advanced b n) out = advanced b n
-says (answer.Truth b) out = truth b
-says (answer.Number n) out = number n
-says (answer.Wrote n) out = wrote n
-says (answer.Said n) out = said n (take n out)
-says (answer.No q) out = refused q
+abbrev pub says : row.Answer Answer → (out : List ℕ) → ledger.Answer
+says (row.accepted answer.Yes) out = granted
+says (row.accepted (answer.Advanced b n)) out = advanced b n
+says (row.accepted (answer.Truth b)) out = truth b
+says (row.accepted (answer.Number n)) out = number n
+says (row.accepted (answer.Wrote n)) out = wrote n
+says (row.accepted (answer.Said n)) out = said n (take n out)
+says (row.refused_by q) out = refused q
 
 abbrev pub input_of : Mark → (run : List ℕ) → List Entry → Contact → Lists → (out : List ℕ) → Input
 input_of m run es c l out = record { mark = m; run = run; entries = es; contact = c; lists = l; out = out }
 
 -- ... of what was handed in: the store stays, and lists and output stand as they are now
+abbrev pub standing : Outcome → Input → Lists → (out : List ℕ) → hands.Left
+standing r h l out = leaves (says r.answer out) (input_of r.mark h.run h.entries r.contact l out)
+
 abbrev pub left_of : Left → Input → Lists → (out : List ℕ) → hands.Left
-left_of r h l out = leaves (says r.answer out) (input_of r.mark h.run h.entries r.contact l out)
+left_of r h l out = standing (outcome_of r) h l out
 
 -- ---- what a call has to know of the store
 -- by whether a contact is to be opened, or is open
@@ -81,8 +85,8 @@ store_passed (Opened id) h = store_passes h.run h.entries
 abbrev pub passed_for : Call → Mark → Input → Bool
 passed_for c m h = by_open (λ id. store_passed m h) (passed_on m h) c
 
-abbrev pub gate_of : (passed : Bool) → Gate
-gate_of passed = cond passed Through (Refused STORE)
+abbrev pub gate_of : (passed : Bool) → Result (Unit {0}) Question
+gate_of passed = cond passed (Ok tt) (Err question.Store)
 
 -- the open contact; where none is open, 34 is a no before anything is asked of it
 abbrev pub id_in : Mark → ContactId
@@ -113,14 +117,14 @@ pub record OfStore (c : Call) (h : Input) (k : Facts) : Type 0 where
 
 -- ---- what a step leaves: by value, in the lists and in the output
 pub record Done : Type 0 where
-  pub left : Left
+  pub left : Outcome
   pub lists : Lists
   pub out : List ℕ
 
-abbrev pub done : Left → Lists → (out : List ℕ) → Done
+abbrev pub done : Outcome → Lists → (out : List ℕ) → Done
 done r l out = record { left = r; lists = l; out = out }
 
-abbrev pub done_by : (writer.Written → Answer) → Contact → Mark → Lists → writer.Left → Done
+abbrev pub done_by : (writer.Written → row.Answer Answer) → Contact → Mark → Lists → writer.Left → Done
 done_by say c m l w = done (left c m (say w.answer)) l w.out
 
 -- the call's part
@@ -134,9 +138,9 @@ acted Statement k m run c l out = done_by line_says c m l (line_left k.id c k.qu
 acted Write k m run c l out = done_by row_says c m l (writes_contact c l out)
 
 -- a no before it is the answer, and changes nothing
-abbrev pub dispatched : Gate → Call → Facts → Mark → (run : List ℕ) → Contact → Lists → (out : List ℕ) → Done
-dispatched Through call k m run c l out = acted call k m run c l out
-dispatched (Refused q) call k m run c l out = done (left c m (answer.No q)) l out
+abbrev pub dispatched : Result (Unit {0}) Question → Call → Facts → Mark → (run : List ℕ) → Contact → Lists → (out : List ℕ) → Done
+dispatched (Ok u) call k m run c l out = acted call k m run c l out
+dispatched (Err q) call k m run c l out = done (left c m (row.refused_by (number_of q))) l out
 
 -- ... and what the types say of the fields and their lists
 pub record Stepped (call : Call) (k : Facts) (m : Mark) (run : List ℕ) (c : Contact) (l : Lists) (out : List ℕ) (d : Done) : Type 0 where

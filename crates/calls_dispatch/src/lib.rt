@@ -3,12 +3,14 @@
 #![tactic(auto)]
 
 ghost use Rattle.contact.specs.Contact.{lists_before, lists_after};
+ghost use Rattle.calls_open.specs.Calls.{outcome_of};
 ghost use Rattle.calls_dispatch.specs.Dispatch.{done, Stepped};
 
 use calls_find::Sought;
-use calls_open::{Answer, Left};
+use calls_open::Left;
 use calls_step::Mark;
 use contact::Contact;
+use layout::Question;
 use rows::ContactId;
 
 // A call on a restored store, with its own arguments.
@@ -23,21 +25,14 @@ pub enum Call {
     Write,
 }
 
-// What was asked before a call's own questions: whether it may go on, or the number of the question that was a no.
-#[derive(Clone, Copy)]
-pub enum Gate {
-    Through,
-    Refused(u8),
-}
-
 // What a call has to know of the store: whose row it is about, that contact's entry, how many of its rows are queued (for statement alone), and
-// what was asked before the call's own questions.
+// what was asked before the call's own questions: whether it may go on, or the question that was a no.
 #[derive(Clone, Copy)]
 pub struct Facts {
     pub sought: Sought,
     pub queued: u64,
     pub id: ContactId,
-    pub gate: Gate,
+    pub gate: Result<(), Question>,
 }
 
 pub fn step(
@@ -54,19 +49,26 @@ pub fn step(
     out: &mut [u8],
 ) -> Left
     ensures { Stepped call facts mark run.now contact (lists_before chains skipped above unacked expired) out.old
-        (done result (lists_after chains skipped above unacked expired) out.new) }
+        (done (outcome_of result) (lists_after chains skipped above unacked expired) out.new) }
 {
     contact_image::typed(contact);
-    let gate = facts.gate;
-    if let Gate::Refused(q) = gate {
-        return calls_open::answered(contact, mark, Answer::No(q));
+    if let Err(refusal) = facts.gate {
+        return calls_open::answered(contact, mark, Err(refusal));
     }
     let id = facts.id;
     match call {
         Call::Open(_) => {
-            let sought = facts.sought;
             calls_open::open(
-                run, sought, id, mark, contact, chains, skipped, above, unacked, expired,
+                run,
+                facts.sought,
+                id,
+                mark,
+                contact,
+                chains,
+                skipped,
+                above,
+                unacked,
+                expired,
             )
         }
         Call::Cover(from, to) => calls_open::cover(contact, mark, above, from, to),

@@ -1,16 +1,16 @@
 -- What the loops over all entries come to: the definitions. And whether a contact's entry is found.
 -- Assumes nothing.
-use Prim.Native.Nat.{ℕ, zero, suc, ◌+◌, ◌-◌, ◌^◌, ◌≤◌, ◌<◌}
+use Prim.Native.Nat.{ℕ, zero, suc}
 use native.Mathlib.Omega.{arith}
-use native.Mathlib.Nat.{sub-zero}
-use mathlib.Core.List.{List, [], ◌∷◌, foldl}
+use mathlib.Core.List.{List, [], ◌∷◌}
 use mathlib.Core.Bool.{Bool, true, false, cond, ◌&&◌, ◌||◌}
-use mathlib.Core.Option.{none, some}
-use mathlib.Core.Path.{◌≡◌, refl, sym, ◌∙◌, ap}
-use lib.ListN.{length, take}
-use lib.Seq.{take-length}
-use lib.Dec.{ltb, leb-suc-suc}
+use mathlib.Core.Option.{some}
+use mathlib.Core.Path.{◌≡◌, refl, ◌∙◌, ap}
+use lib.ListN.{length}
+use lib.Dec.{leb-suc-suc}
 use borrow.Author.Tests.{lt-ltb}
+use Rattle.std.specs.List.{count_by, list_any}
+use Rattle.std.proofs.lemmas.List.Recursion.{is_count_by}
 use Rattle.rows.specs.Checks.{any}
 use Rattle.rows.proofs.Tests.{or_swap}
 use Rattle.store.specs.declared.Entry.{Entry}
@@ -21,7 +21,7 @@ use Rattle.store.specs.Find.{is_wanted, first_of}
 use Rattle.store.specs.Line.{queued_of}
 use Rattle.calls_find.specs.Sought as sought
 use Rattle.calls_find.specs.declared.Sought.{Sought}
-use Rattle.calls_find.specs.Sought.{sought_of, sought_in, contact_wanted, sought_at, queued_among, is_queued_found, queued_found, queued_next, next_among}
+use Rattle.calls_find.specs.Sought.{sought_of, sought_in, contact_wanted, sought_at, queued_among, queued_found}
 use Rattle.calls_find.proofs.Halves.{Rises, found-rising}
 
 -- ---- a contact's first entry: what a search for it finds
@@ -43,7 +43,7 @@ first-at k es = first_of es (contact_wanted k) 0 (length es)
 abbrev there : List Entry → ℕ → Sought
 there es p = sought_at (entry_at es p) p (length es)
 
-first_found : (k : ℕ) (es : List Entry) → there es (first-at k es) ≡ sought_in es k
+pub first_found : (k : ℕ) (es : List Entry) → there es (first-at k es) ≡ sought_in es k
 first_found k [] = refl
 first_found k (e ∷ es) = go (is_of CONTACT k e) (first_found k es)
   where
@@ -53,12 +53,6 @@ first_found k (e ∷ es) = go (is_of CONTACT k e) (first_found k es)
     go false later =
         let p = first-at k es in
         ap (there (e ∷ es)) (one-behind e es (contact_wanted k) 0 (length es)) ∙ (ap (found-if (entry_at es p)) (leb-suc-suc (suc p) (length es)) ∙ later)
-
-pub sought-is : (k n p : ℕ) (w : Wanted) (es : List Entry) (e : Entry) (r : Sought) → n ≡ length es → w ≡ contact_wanted k → p ≡ first_of es w 0 (n - 0) → e ≡ entry_at es p → r ≡ sought_at e p n
-    → r ≡ sought_in es k
-sought-is k n p w es e r is-n is-w is-p is-e is-r =
-    let found : p ≡ first-at k es = is-p ∙ (ap (first_of es w 0) (sub-zero n) ∙ (λ i. first_of es (is-w i) 0 (is-n i))) in
-    is-r ∙ ((λ i. sought_at ((is-e ∙ ap (entry_at es) found) i) (found i) (is-n i)) ∙ first_found k es)
 
 -- found is whether an entry of the contact is among them
 any-front : (n : ℕ) (p : ℕ → Bool) → any_below (suc n) p ≡ (p 0 || any_below n (λ j. p (suc j)))
@@ -73,69 +67,28 @@ found-is k (e ∷ es) = rw (any-front (length es) (λ j. is_of CONTACT k (entry_
     go true later = refl
     go false later = later
 
--- ---- queued rows counted: no more than there are entries
-queued-from : (k n : ℕ) (es : List Entry) → foldl (queued_next k) n es ≡ n + queued_of k es
-queued-from k n [] = omega arith
-queued-from k n (e ∷ es) = go (is_of QUEUED k e) (λ m. queued-from k m es)
-  where
-    go : (b : Bool) → ((m : ℕ) → foldl (queued_next k) m es ≡ m + queued_of k es) → foldl (queued_next k) (cond b (n + 1) n) es ≡ n + cond b (suc (queued_of k es)) (queued_of k es)
-    go true later = omega (arith, later (n + 1))
-    go false later = later n
-
-pub queued-is : (k : ℕ) (es : List Entry) → foldl (queued_next k) 0 es ≡ queued_of k es
-queued-is k es = let from = queued-from k 0 es in omega arith
-
--- ... where that is wanted
-pub wanted-count : (wanted : Bool) (n count : ℕ) → count ≡ cond wanted n 0 → count ≤ n
-wanted-count true n count e = omega arith
-wanted-count false n count e = omega arith
-
-pub queued-wanted : (k : ℕ) (wanted : Bool) (count : ℕ) (es : List Entry) → count ≡ cond wanted (length es) 0 → foldl (queued_next k) 0 (take count es) ≡ cond wanted (queued_of k es) 0
-queued-wanted k true count es e = ap (λ n. foldl (queued_next k) 0 (take n es)) e ∙ (ap (foldl (queued_next k) 0) (take-length es) ∙ queued-is k es)
-queued-wanted k false count es e = ap (λ n. foldl (queued_next k) 0 (take n es)) e
-
-pub none-queued : 0 ≤ 0
-none-queued = omega arith
-
-pub one-fits : (i count n : ℕ) → n ≤ i → i < count → count < 2 ^ 64 → n < 2 ^ 64 - 1
-one-fits i count n l b f = omega arith
-
-pub one_more : (k i n next : ℕ) (e : Entry) → n ≤ i → next ≡ queued_next k n e → next ≤ i + 1
-one_more k i n next e l is = go (is_of QUEUED k e) is
-  where
-    go : (b : Bool) → next ≡ cond b (n + 1) n → next ≤ i + 1
-    go true p = omega arith
-    go false p = omega arith
+-- ---- queued rows counted
+pub queued-is : (k : ℕ) (es : List Entry) → queued_of k es ≡ count_by (is_of QUEUED k) es
+queued-is k es = is_count_by (queued_of k) (is_of QUEUED k) refl (λ x xs. grind arith) es
 
 -- ---- a queued row whose number is found
-among-stays : (k : ℕ) (numbers : List ℕ) (es : List Entry) → foldl (next_among k numbers) true es ≡ true
-among-stays k numbers [] = refl
-among-stays k numbers (e ∷ es) = among-stays k numbers es
-
-pub among-is : (k : ℕ) (numbers : List ℕ) (es : List Entry) → foldl (next_among k numbers) false es ≡ queued_found k numbers es
-among-is k numbers [] = refl
-among-is k numbers (e ∷ es) = go (is_queued_found k numbers e) (among-is k numbers es)
-  where
-    go : (b : Bool) → foldl (next_among k numbers) false es ≡ queued_found k numbers es → foldl (next_among k numbers) b es ≡ (b || queued_found k numbers es)
-    go true later = among-stays k numbers es
-    go false later = later
+pub any-is : {A : Type 0} (p : A → Bool) (xs : List A) → list_any p xs ≡ any p xs
+any-is p [] = refl
+any-is p (x ∷ xs) = ap (λ b. p x || b) (any-is p xs)
 
 -- of no numbers none is found
-none_found : (k : ℕ) (es : List Entry) → queued_found k [] es ≡ false
+of-none : (k : ℕ) (es : List Entry) → false ≡ queued_found k [] es
 unfolding sought.found_in
-none_found k [] = refl
-none_found k (e ∷ es) = go (is_of QUEUED k e) (none_found k es)
+of-none k [] = refl
+of-none k (e ∷ es) = go (is_of QUEUED k e) (of-none k es)
   where
-    go : (b : Bool) → queued_found k [] es ≡ false → ((b && false) || queued_found k [] es) ≡ false
+    go : (b : Bool) → false ≡ queued_found k [] es → false ≡ ((b && false) || queued_found k [] es)
     go true later = later
     go false later = later
 
-pub among-some : (k count n : ℕ) (numbers : List ℕ) (es : List Entry) → n ≡ cond (ltb 0 count) (length es) 0
-    → foldl (next_among k (take count numbers)) false (take n es) ≡ queued_found k (take count numbers) es
-among-some k zero n numbers es e = ap (λ n. foldl (next_among k []) false (take n es)) e ∙ sym (none_found k es)
-among-some k (suc count) n numbers es e =
-    let chosen = take (suc count) numbers in
-    ap (λ n. foldl (next_among k chosen) false (take n es)) (e ∙ ap (λ b. cond b (length es) 0) (lt-ltb 0 (suc count) (omega arith))) ∙ (ap (foldl (next_among k chosen) false) (take-length es) ∙ among-is k chosen es)
+pub none_found : (k : ℕ) (numbers : List ℕ) (es : List Entry) → length numbers ≡ 0 → false ≡ queued_found k numbers es
+none_found k [] es empty = of-none k es
+none_found k (n ∷ numbers) es empty = absurd (omega arith)
 
 -- where the numbers rise, it is a queued row with one of them
 pub among-rising : (k : ℕ) (numbers : List ℕ) → Rises numbers → (es : List Entry) → queued_found k numbers es ≡ queued_among k numbers es

@@ -16,9 +16,7 @@ use calls_session::Session;
 fn most_calls(numbers: usize, room: usize) -> usize
     ensures { (result ≡ most_calls numbers room) × (6 * result ≤ numbers) × (6 * result ≤ room) }
 {
-    let calls = numbers / CALL;
-    let answers = room / ANSWER;
-    if calls <= answers { calls } else { answers }
+    (numbers / CALL).min(room / ANSWER)
 }
 
 fn put_answer(answers: &mut [u64], at: usize, answer: Numbers)
@@ -54,14 +52,12 @@ pub fn replay(
 {
     let most = most_calls(calls.len(), answers.len());
     let mut current = session;
-    let mut i = 0;
-    while i < most {
-        let at = CALL * i;
+    for i in 0..most {
         let left = calls_session::one(
             current,
             run,
             records,
-            &calls[at..],
+            &calls[CALL * i..],
             chains,
             skipped,
             above,
@@ -69,14 +65,11 @@ pub fn replay(
             expired,
             out,
         );
-        let its = left.session;
-        current = its;
+        current = left.session;
         if !left.known {
             return current;
         }
-        let answer = left.answer;
-        put_answer(answers, ANSWER * i, answer);
-        i += 1;
+        put_answer(answers, ANSWER * i, left.answer);
     }
     current
 }

@@ -4,14 +4,10 @@ use Rattle.std.specs.Prelude.{ℕ, ◌+◌, ◌-◌, ◌^◌, min, List, cond, �
 use Rattle.layout.specs.Questions.{CONTACT_STORED, RANGE, MSGNO_LEFT}
 use Rattle.layout.specs.Write as writer
 use Rattle.rows.specs.declared.ContactId.{ContactId}
-use Rattle.rows.specs.declared.Verdict.{Verdict}
-use Rattle.rows.specs.declared.Verdict.TheVariants as verdict
 use Rattle.numbers.specs.Ranges as received
 use Rattle.numbers.specs.Ranges.{Received, is_range}
 use Rattle.numbers.specs.Sets.{size_from}
 use Rattle.received.specs.Lent.{pairs, received_in, plan_of, list_after}
-use Rattle.received.specs.declared.Planned.{Planned}
-use Rattle.received.specs.declared.Planned.TheVariants as planned
 use Rattle.contact.specs.Contact as contacts
 use Rattle.contact.specs.Contact.{Lists, reads}
 use Rattle.contact.specs.declared.Contact.{Contact}
@@ -25,52 +21,64 @@ use Rattle.calls_step.specs.Proved.{HIGHEST}
 use Rattle.calls_open.specs.declared.Answer.{Answer}
 use Rattle.calls_open.specs.declared.Answer.TheVariants as answer
 use Rattle.calls_open.specs.declared.Left.{Left}
+use Rattle.layout.specs.Layout as row
+use Rattle.layout.specs.Layout.{accepted, refused_by}
+use Rattle.layout.specs.Says.{answers}
+use Rattle.received.specs.declared.Change.{Change}
 
--- ---- what is left
-abbrev pub left : Contact → Mark → Answer → Left
+-- ---- what is left by value: fields, mark, and the answer or the refusal
+pub record Outcome : Type 0 where
+  pub contact : Contact
+  pub mark : Mark
+  pub answer : row.Answer Answer
+
+abbrev pub left : Contact → Mark → row.Answer Answer → Outcome
 left c m a = record { contact = c; mark = m; answer = a }
+
+abbrev pub outcome_of : Left → Outcome
+outcome_of r = left r.contact r.mark (answers r.answer)
 
 -- ---- cover, contains, covers
 abbrev pub covered_in : Contact → (above : List ℕ) → Received
 covered_in c above = received_in c.contiguous c.above above
 
-abbrev pub contains_says : Contact → (above : List ℕ) → (msgno : ℕ) → Answer
-contains_says c above n = answer.Truth (received.contains (covered_in c above) n)
+abbrev pub contains_says : Contact → (above : List ℕ) → (msgno : ℕ) → row.Answer Answer
+contains_says c above n = accepted (answer.Truth (received.contains (covered_in c above) n))
 
 -- 37
-abbrev pub covers_says : Contact → (above : List ℕ) → (from to : ℕ) → Answer
-covers_says c above f t = cond (is_range f t) (answer.Truth (received.covers (covered_in c above) f t)) (answer.No RANGE)
+abbrev pub covers_says : Contact → (above : List ℕ) → (from to : ℕ) → row.Answer Answer
+covers_says c above f t = cond (is_range f t) (accepted (answer.Truth (received.covers (covered_in c above) f t))) (refused_by RANGE)
 
 -- 38
-abbrev pub covered_by : Planned → Contact → Mark → Left
-covered_by (planned.Change x) c m = left (renumbered c.sent_msgno x.contiguous x.count c) m (answer.Advanced x.moved x.added)
-covered_by (planned.Refused q) c m = left c m (answer.No q)
+abbrev pub covered_by : row.Answer Change → Contact → Mark → Outcome
+covered_by (accepted x) c m = left (renumbered c.sent_msgno x.contiguous x.count c) m (accepted (answer.Advanced x.moved x.added))
+covered_by (refused_by q) c m = left c m (refused_by q)
 
-abbrev pub cover_leaves : Contact → Mark → (above : List ℕ) → (from to : ℕ) → Left
-cover_leaves c m above f t = cond (is_range f t) (covered_by (plan_of (covered_in c above) (length above) f t) c m) (left c m (answer.No RANGE))
+abbrev pub cover_leaves : Contact → Mark → (above : List ℕ) → (from to : ℕ) → Outcome
+cover_leaves c m above f t = cond (is_range f t) (covered_by (plan_of (covered_in c above) (length above) f t) c m) (left c m (refused_by RANGE))
 
 abbrev pub cover_list : Contact → (above : List ℕ) → (from to : ℕ) → List ℕ
 cover_list c above f t = cond (is_range f t) (list_after (covered_in c above) above f t) above
 
 -- ---- take: 39
-abbrev pub take_leaves : Contact → Mark → Left
+abbrev pub take_leaves : Contact → Mark → Outcome
 take_leaves c m =
     cond (ltb c.sent_msgno HIGHEST)
-    (left (renumbered (c.sent_msgno + 1) c.contiguous c.above c) m (answer.Number (c.sent_msgno + 1)))
-    (left c m (answer.No MSGNO_LEFT))
+    (left (renumbered (c.sent_msgno + 1) c.contiguous c.above c) m (accepted (answer.Number (c.sent_msgno + 1))))
+    (left c m (refused_by MSGNO_LEFT))
 
 -- ---- statement, write: 40
-abbrev pub line_says : writer.Written → Answer
-line_says (writer.wrote n) = answer.Said n
-line_says (writer.refuses q) = answer.No q
+abbrev pub line_says : writer.Written → row.Answer Answer
+line_says (writer.wrote n) = accepted (answer.Said n)
+line_says (writer.refuses q) = refused_by q
 
-abbrev pub row_says : writer.Written → Answer
-row_says (writer.wrote n) = answer.Wrote n
-row_says (writer.refuses q) = answer.No q
+abbrev pub row_says : writer.Written → row.Answer Answer
+row_says (writer.wrote n) = accepted (answer.Wrote n)
+row_says (writer.refuses q) = refused_by q
 
 -- fields and mark stay, the answer is what a writer's would be, and the output as that writer leaves it
-pub record WrittenBy (c : Contact) (m : Mark) (say : writer.Written → Answer) (w : writer.Left) (r : Left) (out : List ℕ) : Type 0 where
-  pub answer : r ≡ left c m (say w.answer)
+pub record WrittenBy (c : Contact) (m : Mark) (say : writer.Written → row.Answer Answer) (w : writer.Left) (r : Left) (out : List ℕ) : Type 0 where
+  pub answer : outcome_of r ≡ left c m (say w.answer)
   pub output : out ≡ w.out
 
 -- how many numbers from `lowest` on the ranges hold, or 2^64 - 1 if more: 65,535 ranges never hold more
@@ -85,19 +93,17 @@ abbrev pub line_left : ContactId → Contact → (queued : ℕ) → (above expir
 line_left id c queued above expired out = writer.stored (line_from id c queued above expired) out
 
 -- ---- open: 36, and what reading the row leaves; if that is a no, the mark and the fields are those handed in
-abbrev pub opened_by : Verdict → ContactId → Mark → (contact read : Contact) → Left
-opened_by verdict.Accepted id m c read = left read (Opened id) answer.Yes
-opened_by (verdict.Refused q) id m c read = left c m (answer.No q)
+abbrev pub opened_by : row.Answer Contact → ContactId → Mark → Contact → Outcome
+opened_by (accepted its) id m c = left its (Opened id) (accepted answer.Yes)
+opened_by (refused_by q) id m c = left c m (refused_by q)
 
 -- what reading the row of the sought entry leaves
 abbrev pub read_of : Sought → (run : List ℕ) → Lists → contacts.Left
 read_of s run l = reads s.entry.version (part_of run s.entry) l
 
 -- 35
-abbrev pub open_leaves : Sought → ContactId → Mark → Contact → (run : List ℕ) → Lists → Left
-open_leaves s id m c run l =
-    let x = (read_of s run l).answer in
-    cond s.found (opened_by x.verdict id m c x.contact) (left c m (answer.No CONTACT_STORED))
+abbrev pub open_leaves : Sought → ContactId → Mark → Contact → (run : List ℕ) → Lists → Outcome
+open_leaves s id m c run l = cond s.found (opened_by (read_of s run l).answer id m c) (left c m (refused_by CONTACT_STORED))
 
 abbrev pub open_lists : Sought → (run : List ℕ) → Lists → Lists
 open_lists s run l = cond s.found (read_of s run l).lists l

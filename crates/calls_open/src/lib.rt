@@ -3,22 +3,22 @@
 #![tactic(auto)]
 
 ghost use Rattle.std.specs.Prelude.{◌≡◌};
-ghost use Rattle.rows.specs.Answers.{written_says};
+ghost use Rattle.layout.specs.Says.{answers, written_says};
 ghost use Rattle.contact.specs.Contact.{lists, lists_before, lists_after};
 ghost use Rattle.contact_image.specs.Row.{writes_contact};
 ghost use Rattle.numbers.specs.Ranges.{is_range};
 ghost use Rattle.calls_step.specs.Step.{renumbered};
-ghost use Rattle.calls_open.specs.Calls.{left, contains_says, covers_says, covered_by, cover_leaves, cover_list, take_leaves, line_says, row_says, WrittenBy, line_left, opened_by, open_leaves, open_lists};
+ghost use Rattle.calls_open.specs.Calls.{left, outcome_of, contains_says, covers_says, covered_by, cover_leaves, cover_list, take_leaves, line_says, row_says, WrittenBy, line_left, opened_by, open_leaves, open_lists};
 
 use calls_find::Sought;
 use calls_step::Mark;
-use contact::{Contact, ContactRead};
-use layout::question;
-use received::Planned;
-use rows::{ContactId, Verdict, Written};
+use contact::Contact;
+use layout::Question;
+use received::Change;
+use rows::ContactId;
 
 // Open answers yes; cover whether contiguous moved, and how many numbers were not covered before; contains and covers a truth; take the
-// number taken; write the length written; statement the length of the line. A no is the question's number.
+// number taken; write the length written; statement the length of the line.
 #[derive(Clone, Copy)]
 pub enum Answer {
     Yes,
@@ -27,7 +27,6 @@ pub enum Answer {
     Number(u32),
     Wrote(usize),
     Said(usize),
-    No(u8),
 }
 
 // What a call leaves by value. What it leaves in lent lists stands there.
@@ -35,12 +34,12 @@ pub enum Answer {
 pub struct Left {
     pub contact: Contact,
     pub mark: Mark,
-    pub answer: Answer,
+    pub answer: Result<Answer, Question>,
 }
 
 // Fields and mark as they were handed in, and an answer.
-pub fn answered(contact: Contact, mark: Mark, answer: Answer) -> Left
-    ensures { result ≡ left contact mark answer }
+pub fn answered(contact: Contact, mark: Mark, answer: Result<Answer, Question>) -> Left
+    ensures { outcome_of result ≡ left contact mark (answers answer) }
 {
     Left {
         contact,
@@ -53,10 +52,7 @@ pub fn answered(contact: Contact, mark: Mark, answer: Answer) -> Left
 fn in_order(from: u32, to: u32) -> bool
     ensures { result ≡ is_range from to }
 {
-    if from < 1 {
-        return false;
-    }
-    from <= to
+    1 <= from && from <= to
 }
 
 // The opened fields with other numbers.
@@ -74,47 +70,43 @@ fn renumbered(contact: Contact, sent: u32, contiguous: u32, above: usize) -> Con
 
 // Whether a number is covered.
 pub fn contains(contact: Contact, mark: Mark, above: &[u32], msgno: u32) -> Left
-    ensures { result ≡ left contact mark (contains_says contact above.now msgno) }
+    ensures { outcome_of result ≡ left contact mark (contains_says contact above.now msgno) }
 {
     let is = received::contains(contact.contiguous, above, contact.above, msgno);
-    answered(contact, mark, Answer::Truth(is))
+    answered(contact, mark, Ok(Answer::Truth(is)))
 }
 
 // Whether all of from..to is covered.
 pub fn covers(contact: Contact, mark: Mark, above: &[u32], from: u32, to: u32) -> Left
-    ensures { result ≡ left contact mark (covers_says contact above.now from to) }
+    ensures { outcome_of result ≡ left contact mark (covers_says contact above.now from to) }
 {
     if !in_order(from, to) {
-        return answered(contact, mark, Answer::No(question::RANGE));
+        return answered(contact, mark, Err(Question::Range));
     }
     let are = received::covers(contact.contiguous, above, contact.above, from, to);
-    answered(contact, mark, Answer::Truth(are))
+    answered(contact, mark, Ok(Answer::Truth(are)))
 }
 
 // The opened fields and what a cover answers, once it is planned.
-fn covered(contact: Contact, mark: Mark, planned: Planned) -> Left
-    ensures { result ≡ covered_by planned contact mark }
+fn covered(contact: Contact, mark: Mark, planned: Result<Change, Question>) -> Left
+    ensures { outcome_of result ≡ covered_by (answers planned) contact mark }
 {
     match planned {
-        Planned::Change(change) => Left {
+        Ok(change) => Left {
             contact: renumbered(contact, contact.sent_msgno, change.contiguous, change.count),
             mark,
-            answer: Answer::Advanced(change.moved, change.added),
+            answer: Ok(Answer::Advanced(change.moved, change.added)),
         },
-        Planned::Refused(q) => Left {
-            contact,
-            mark,
-            answer: Answer::No(q),
-        },
+        Err(refusal) => answered(contact, mark, Err(refusal)),
     }
 }
 
 // Covers from..to. Places that held a range and hold none any more become 0.
 pub fn cover(contact: Contact, mark: Mark, above: &mut [u32], from: u32, to: u32) -> Left
-    ensures { (result ≡ cover_leaves contact mark above.old from to) × (above.new ≡ cover_list contact above.old from to) }
+    ensures { (outcome_of result ≡ cover_leaves contact mark above.old from to) × (above.new ≡ cover_list contact above.old from to) }
 {
     if !in_order(from, to) {
-        return answered(contact, mark, Answer::No(question::RANGE));
+        return answered(contact, mark, Err(Question::Range));
     }
     let planned = received::insert(contact.contiguous, above, contact.above, from, to);
     covered(contact, mark, planned)
@@ -124,37 +116,31 @@ pub fn cover(contact: Contact, mark: Mark, above: &mut [u32], from: u32, to: u32
 
 // The number after the last one sent, which it becomes.
 pub fn take(contact: Contact, mark: Mark) -> Left
-    ensures { result ≡ take_leaves contact mark }
+    ensures { outcome_of result ≡ take_leaves contact mark }
 {
     if contact.sent_msgno == u32::MAX {
-        return answered(contact, mark, Answer::No(question::MSGNO_LEFT));
+        return answered(contact, mark, Err(Question::MsgnoLeft));
     }
     let msgno = contact.sent_msgno + 1;
     Left {
         contact: renumbered(contact, msgno, contact.contiguous, contact.above),
         mark,
-        answer: Answer::Number(msgno),
+        answer: Ok(Answer::Number(msgno)),
     }
 }
 
 // ---- statement, write
 
-fn of_line(written: Written) -> Answer
-    ensures { result ≡ line_says (written_says written) }
+fn of_line(written: Result<usize, Question>) -> Result<Answer, Question>
+    ensures { answers result ≡ line_says (written_says written) }
 {
-    match written {
-        Written::Length(n) => Answer::Said(n),
-        Written::Refused(q) => Answer::No(q),
-    }
+    Ok(Answer::Said(written?))
 }
 
-fn of_row(written: Written) -> Answer
-    ensures { result ≡ row_says (written_says written) }
+fn of_row(written: Result<usize, Question>) -> Result<Answer, Question>
+    ensures { answers result ≡ row_says (written_says written) }
 {
-    match written {
-        Written::Length(n) => Answer::Wrote(n),
-        Written::Refused(q) => Answer::No(q),
-    }
+    Ok(Answer::Wrote(written?))
 }
 
 // Writes the open contact's line to the front of the output, if there is room. Its id and how many queued rows it has come from the store.
@@ -207,22 +193,16 @@ pub fn write(
 // ---- open
 
 // What is open once the row was read.
-fn opened_by(id: ContactId, mark: Mark, contact: Contact, read: ContactRead) -> Left
-    ensures { result ≡ opened_by read.verdict id mark contact read.contact }
+fn opened_by(id: ContactId, mark: Mark, contact: Contact, read: Result<Contact, Question>) -> Left
+    ensures { outcome_of result ≡ opened_by (answers read) id mark contact }
 {
-    let verdict = read.verdict;
-    let Verdict::Refused(q) = verdict else {
-        let its = read.contact;
-        return Left {
+    match read {
+        Ok(its) => Left {
             contact: its,
             mark: Mark::Opened(id),
-            answer: Answer::Yes,
-        };
-    };
-    Left {
-        contact,
-        mark,
-        answer: Answer::No(q),
+            answer: Ok(Answer::Yes),
+        },
+        Err(refusal) => answered(contact, mark, Err(refusal)),
     }
 }
 
@@ -239,11 +219,11 @@ pub fn open(
     unacked: &mut [u32],
     expired: &mut [u32],
 ) -> Left
-    ensures value { result ≡ open_leaves sought id mark contact run.now (lists_before chains skipped above unacked expired) }
+    ensures value { outcome_of result ≡ open_leaves sought id mark contact run.now (lists_before chains skipped above unacked expired) }
     ensures expired_value { lists_after chains skipped above unacked expired ≡ open_lists sought run.now (lists_before chains skipped above unacked expired) }
 {
     if !sought.found {
-        return answered(contact, mark, Answer::No(question::CONTACT_STORED));
+        return answered(contact, mark, Err(Question::ContactStored));
     }
     let e = sought.entry;
     let row = store::part_of(run, e);

@@ -48,9 +48,8 @@ pub struct CallLeft {
 pub fn begin() -> Session
     ensures { result ≡ begun }
 {
-    let contact = Contact::zero();
     Session {
-        contact,
+        contact: Contact::zero(),
         mark: Mark::Fresh,
         start: 0,
         len: 0,
@@ -90,16 +89,12 @@ fn records_from(records: &[u64], first: usize) -> &[u64]
 fn next(session: Session, mark: Mark, contact: Contact, answer: Numbers) -> CallLeft
     ensures { result ≡ next_of session mark contact answer }
 {
-    let its = Session {
-        contact,
-        mark,
-        start: session.start,
-        len: session.len,
-        first: session.first,
-        n: session.n,
-    };
     CallLeft {
-        session: its,
+        session: Session {
+            contact,
+            mark,
+            ..session
+        },
         known: true,
         answer,
     }
@@ -117,26 +112,26 @@ fn restored(
     ensures { (run records : List ℕ) (l : Lists) (out : List ℕ) → (let x = left_by left.answer left.mark (run_at start len run) (entries_at first n records) (input_in session run records l out) in
         LeftAs x (cond (is_granted x.answer) (start ∷ len ∷ first ∷ n ∷ []) (store_at session)) (input_in result.session run records l out) result) }
 {
-    let contact = session.contact;
-    let mark = left.mark;
-    let answer = left.answer;
-    let Restored::Refused(q, i) = answer else {
-        let its = Session {
-            contact,
-            mark,
-            start,
-            len,
-            first,
-            n,
-        };
-        return CallLeft {
-            session: its,
+    match left.answer {
+        Restored::Granted(_, _) => CallLeft {
+            session: Session {
+                contact: session.contact,
+                mark: left.mark,
+                start,
+                len,
+                first,
+                n,
+            },
             known: true,
             answer: calls_code::tagged(YES, 0, 0),
-        };
-    };
-    let refused = calls_code::tagged(NO_AT, q as u64, i as u64);
-    next(session, mark, contact, refused)
+        },
+        Restored::Refused(q, i) => next(
+            session,
+            left.mark,
+            session.contact,
+            calls_code::tagged(NO_AT, q as u64, i as u64),
+        ),
+    }
 }
 
 fn restore(session: Session, run: &[u8], records: &[u64], six: &[u64]) -> CallLeft
@@ -147,12 +142,11 @@ fn restore(session: Session, run: &[u8], records: &[u64], six: &[u64]) -> CallLe
     let len = sheet_entries::number_at(six, 2) as usize;
     let first = sheet_entries::number_at(six, 3) as usize;
     let n = sheet_entries::number_at(six, 4) as usize;
-    let mark = session.mark;
     let left = calls_table::restore(
         run_at(run, start, len),
         records_from(records, first),
         n,
-        mark,
+        session.mark,
     );
     restored(session, left, start, len, first, n)
 }
@@ -173,15 +167,13 @@ fn step(
     ensures { LeftAs (step HIGHEST (call_of call) (input_in session run.now records.now (lists_before chains skipped above unacked expired) out.old)) (store_at session)
         (input_in result.session run.now records.now (lists_after chains skipped above unacked expired) out.new) result }
 {
-    let mark = session.mark;
-    let contact = session.contact;
     let left = calls_table::step(
         run_at(run, session.start, session.len),
         records_from(records, session.first),
         session.n,
         call,
-        mark,
-        contact,
+        session.mark,
+        session.contact,
         chains,
         skipped,
         above,
@@ -189,14 +181,11 @@ fn step(
         expired,
         out,
     );
-    let mark_left = left.mark;
-    let contact_left = left.contact;
-    let answer = left.answer;
     next(
         session,
-        mark_left,
-        contact_left,
-        calls_code::numbers_of(answer),
+        left.mark,
+        left.contact,
+        calls_code::numbers_of(left.answer),
     )
 }
 

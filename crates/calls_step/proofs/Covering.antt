@@ -17,8 +17,6 @@ use Rattle.received.specs.Change as changes
 use Rattle.numbers.specs.Sets.{add, how_many, Records}
 use Rattle.received.specs.Lent.{flat, stored, fits, plan_of, list_after}
 use Rattle.numbers.specs.Lists.{limit_of}
-use Rattle.received.specs.declared.Change.{Change}
-use Rattle.received.specs.declared.Planned.TheVariants as planned
 use Rattle.rows.proofs.Tests.{either}
 use Rattle.received.proofs.Proved.{proved}
 use Rattle.contact.specs.Contact.{Lists, contact_of}
@@ -38,6 +36,7 @@ use Rattle.calls_step.proofs.Laid.{holds-with, laid-stored, holds-stored}
 use Rattle.calls_step.proofs.Good.{Good, refuse-good}
 use Rattle.calls_step.proofs.Asking.{input, stands, lists-hold, covered-now, above-room, asked}
 use Rattle.calls_step.proofs.Calls.{in_order}
+use Rattle.layout.specs.Layout.{accepted, refused_by}
 
 module _ (N : ℕ) (wide : N + 1 ≡ 256 ^ 4) (run : List ℕ) (es : List Entry) (o : Open) (ls : Lists) (out : List ℕ) (sound : Sound N run es o)
     (same : laid_lists (current N o) 0 ls ≡ ls) (f t : ℕ)
@@ -59,7 +58,7 @@ module _ (N : ℕ) (wide : N + 1 ≡ 256 ^ 4) (run : List ℕ) (es : List Entry)
     plan-left : covering f t given (plan_of (covered_in given) (length ls.above) f t) ≡ left_of (covered_in given)
     plan-left = go (fits (covered_in given) (length ls.above) f t)
       where
-        go : (b : Bool) → covering f t given (cond b (planned.Change (change_of (covered_in given) f t)) (planned.Refused RANGES_FIT))
+        go : (b : Bool) → covering f t given (cond b (accepted (change_of (covered_in given) f t)) (refused_by RANGES_FIT))
             ≡ cond b (leaves (advanced (change_of (covered_in given) f t).moved (change_of (covered_in given) f t).added)
             (relisted (renumbered o.n (change_of (covered_in given) f t).contiguous (change_of (covered_in given) f t).count (contact_of (current N o)))
             (above_as (list_after (covered_in given) ls.above f t) ls) given)) (no RANGES_FIT given)

@@ -21,7 +21,6 @@ use Rattle.received.specs.Change.{change_of}
 use Rattle.received.specs.Lent as received
 use Rattle.received.specs.Lent.{flat, fits, stored, list_after}
 use Rattle.received.specs.declared.Change.{Change}
-use Rattle.received.specs.declared.Planned.TheVariants as planned
 use Rattle.contact.specs.Contact.{long_enough}
 use Rattle.contact_image.specs.Row.{image}
 use Rattle.store.specs.declared.Entry.{Entry}
@@ -90,7 +89,7 @@ module _ (h : Input) where
       go true = length-put l 0 _
       go false = refl
 
-  covering-long : (f t : ℕ) (b : Bool) (c : Change) → Same (covering f t h (cond b (planned.Change c) (planned.Refused RANGES_FIT)))
+  covering-long : (f t : ℕ) (b : Bool) (c : Change) → Same (covering f t h (cond b (accepted c) (refused_by RANGES_FIT)))
   covering-long f t true c = record {
     long = λ i. record {
       chains = length h.lists.chains;

@@ -11,8 +11,6 @@ use Rattle.layout.specs.Layout.{Answer, accepted, refused_by, read_row}
 use Rattle.rows.specs.Values as value
 use Rattle.rows.specs.Rows as rows
 use Rattle.received.specs.Lent.{plan_of}
-use Rattle.received.specs.declared.Planned.{Planned}
-use Rattle.received.specs.declared.Planned.TheVariants as planned
 use Rattle.contact.specs.Contact.{long_enough}
 use Rattle.store.specs.declared.Entry.{Entry}
 use Rattle.store.specs.Store.{Outcome, store_of, store_passes, part_of, contact_in}
@@ -24,6 +22,7 @@ use Rattle.calls_step.specs.Input.{Input, Left, leaves}
 use Rattle.calls_step.specs.Step.{restoring, on_store, passes, on_opened, filling, opening, output, covered_in, covering, step}
 use Rattle.numbers.specs.Ranges.{is_range}
 use Rattle.calls_step.specs.Step as steps
+use Rattle.received.specs.declared.Change.{Change}
 
 -- x is the same as y, with this output
 pub record Besides (o : List ℕ) (x y : Left) : Type 0 where
@@ -60,9 +59,9 @@ module _ (o : List ℕ) (h : Input) where
   opened-besides Restored x y p = same refl
   opened-besides (Opened id) x y p = cond-besides (passes id.0 h) (p id.0) (same refl)
 
-  covering-besides : (f t : ℕ) (x : Planned) → Besides o (covering f t (output o h) x) (covering f t h x)
-  covering-besides f t (planned.Change c) = same refl
-  covering-besides f t (planned.Refused q) = same refl
+  covering-besides : (f t : ℕ) (x : Answer Change) → Besides o (covering f t (output o h) x) (covering f t h x)
+  covering-besides f t (accepted c) = same refl
+  covering-besides f t (refused_by q) = same refl
 
   pub output-omitted : (N : ℕ) (c : Call) → has_output c ≡ false → Besides o (step N c (output o h)) (step N c h)
   unfolding steps.step

@@ -15,7 +15,6 @@ use Rattle.rows.specs.Rows.{contact}
 use Rattle.received.specs.Change.{change_of}
 use Rattle.received.specs.Lent.{fits}
 use Rattle.received.specs.declared.Change.{Change}
-use Rattle.received.specs.declared.Planned.TheVariants as planned
 use Rattle.contact.specs.Contact.{long_enough}
 use Rattle.contact_image.specs.Row.{image}
 use Rattle.store.specs.declared.Entry.{Entry}
@@ -73,7 +72,7 @@ module _ (h : Input) where
   opened-keeps Restored l k = same refl
   opened-keeps (Opened id) l k = cond-keeps (passes id.0 h) (k id.0) (same refl)
 
-  covering-keeps : (f t : ℕ) (b : Bool) (c : Change) → Keeps h (covering f t h (cond b (planned.Change c) (planned.Refused RANGES_FIT)))
+  covering-keeps : (f t : ℕ) (b : Bool) (c : Change) → Keeps h (covering f t h (cond b (accepted c) (refused_by RANGES_FIT)))
   covering-keeps f t true c = yes-keeps refl
   covering-keeps f t false c = same refl
 

@@ -18,7 +18,6 @@ use Rattle.rows.proofs.Tests.{either}
 use Rattle.received.specs.Lent.{fits}
 use Rattle.received.specs.Change.{change_of}
 use Rattle.received.specs.declared.Change.{Change}
-use Rattle.received.specs.declared.Planned.TheVariants as planned
 use Rattle.contact.specs.Contact.{Lists, contact_of, long_enough}
 use Rattle.contact.specs.declared.Contact.{Contact as Struct}
 use Rattle.numbers.specs.Lists.{within}
@@ -102,7 +101,7 @@ module _ (run : List ℕ) (es : List Entry) (sound : SoundStore run es) (k : ℕ
   open-other h r = rw sound.going (opening-other h r (contact_in es k) refl)
 
 -- ---- the calls on an open contact, past 34
-covering-other : (f t : ℕ) (h : Input) (b : Bool) (c : Change) → Other (covering f t h (cond b (planned.Change c) (planned.Refused RANGES_FIT)))
+covering-other : (f t : ℕ) (h : Input) (b : Bool) (c : Change) → Other (covering f t h (cond b (accepted c) (refused_by RANGES_FIT)))
 covering-other f t h true c = record { other = refl }
 covering-other f t h false c = record { other = refl }
 

@@ -3,7 +3,7 @@
 use Rattle.std.specs.Prelude.{ℕ, ◌+◌, List, Bool, cond, ◌&&◌, length, ltb}
 use Rattle.std.proofs.Math.Option.{Option, none, some}
 use Rattle.layout.specs.Questions.{STORE, CONTACT_STORED, LISTS, RANGE, MSGNO_LEFT}
-use Rattle.layout.specs.Layout.{read_row}
+use Rattle.layout.specs.Layout.{read_row, accepted, refused_by}
 use Rattle.layout.specs.Layout as layout
 use Rattle.layout.specs.Write as writer
 use Rattle.rows.specs.Values as value
@@ -12,8 +12,6 @@ use Rattle.numbers.specs.Ranges as received
 use Rattle.numbers.specs.Ranges.{Received, is_range}
 use Rattle.numbers.specs.Sets.{size, size_from}
 use Rattle.received.specs.Lent.{pairs, received_in, plan_of, list_after}
-use Rattle.received.specs.declared.Planned.{Planned}
-use Rattle.received.specs.declared.Planned.TheVariants as planned
 use Rattle.contact.specs.Contact.{Lists, contact_of, long_enough, filled}
 use Rattle.contact.specs.declared.Contact.{Contact}
 use Rattle.contact_image.specs.Row.{counted, image}
@@ -25,6 +23,7 @@ use Rattle.calls_step.specs.declared.Mark.TheVariants.{Fresh, Restored, Opened}
 use Rattle.ledger.specs.Call.{Call, restore, opens, cover, contains, covers, take, statement, write, Answer, granted, advanced, truth, number, wrote, said, refused, refused_at}
 use Rattle.calls_step.specs.Input.{Input, Left, leaves, no}
 use Rattle.store.specs.Line.{line_of, queued_of}
+use Rattle.received.specs.declared.Change.{Change}
 
 -- ---- restore writes to nothing lent: it leaves another store, and no contact open
 abbrev pub restoring : (run : List ℕ) → List Entry → Input → store.Outcome → Left
@@ -107,11 +106,11 @@ abbrev pub covered_in : Input → Received
 covered_in h = received_in h.contact.contiguous h.contact.above h.lists.above
 
 -- 38. The answer is whether contiguous moved, and how many numbers are new; list places that cover frees become 0
-abbrev pub covering : (from to : ℕ) → Input → Planned → Left
-covering f t h (planned.Change c) =
+abbrev pub covering : (from to : ℕ) → Input → layout.Answer Change → Left
+covering f t h (accepted c) =
     leaves (advanced c.moved c.added)
     (relisted (renumbered h.contact.sent_msgno c.contiguous c.count h.contact) (above_as (list_after (covered_in h) h.lists.above f t) h.lists) h)
-covering f t h (planned.Refused q) = no q h
+covering f t h (refused_by q) = no q h
 
 -- ---- statement, write: 40
 abbrev pub writing : (writer.Written → Answer) → Input → writer.Left → Left

@@ -11,7 +11,7 @@ ghost use Rattle.calls_store.specs.Passes.{Writable, WritableFor, omitted_for, c
 use calls_find::Sought;
 use contact::Contact;
 use restore::Restored;
-use rows::{ContactId, Written};
+use rows::ContactId;
 use store::{Entry, Omitted};
 
 // A contact's entry, and the answer to 34.
@@ -32,10 +32,7 @@ pub enum Asking {
 fn is_granted(end: Restored) -> bool
     ensures { result ≡ is_granted end }
 {
-    let Restored::Granted(_, _) = end else {
-        return false;
-    };
-    true
+    matches!(end, Restored::Granted(..))
 }
 
 // Whether the opened fields could be written.
@@ -50,12 +47,7 @@ fn is_writable(
     ensures { Writable contact (lists chains.now skipped.now above.now unacked.now expired.now) result }
 {
     contact_image::typed(contact);
-    let Written::Length(_) = contact_row::contact_size(
-        contact, chains, skipped, above, unacked, expired,
-    ) else {
-        return false;
-    };
-    true
+    contact_row::contact_size(contact, chains, skipped, above, unacked, expired).is_ok()
 }
 
 // 34 asks that of opened fields alone; of anything else the answer is no.
@@ -71,8 +63,7 @@ fn is_writable_for(
     ensures { WritableFor asking contact (lists chains.now skipped.now above.now unacked.now expired.now) result }
 {
     match asking {
-        Asking::Nothing => false,
-        Asking::Stored => false,
+        Asking::Nothing | Asking::Stored => false,
         Asking::Opened => is_writable(contact, chains, skipped, above, unacked, expired),
     }
 }
@@ -81,8 +72,7 @@ fn omitted_for(asking: Asking, id: ContactId, contact: Contact) -> Omitted
     ensures { result ≡ omitted_for asking id contact }
 {
     match asking {
-        Asking::Nothing => Omitted::Nothing,
-        Asking::Stored => Omitted::Nothing,
+        Asking::Nothing | Asking::Stored => Omitted::Nothing,
         Asking::Opened => Omitted::Contact(id, contact.sent_msgno),
     }
 }
@@ -91,8 +81,7 @@ fn unacked_count(asking: Asking, contact: Contact) -> usize
     ensures { result ≡ count_for asking contact }
 {
     match asking {
-        Asking::Nothing => 0,
-        Asking::Stored => 0,
+        Asking::Nothing | Asking::Stored => 0,
         Asking::Opened => contact.unacked,
     }
 }
@@ -101,16 +90,7 @@ fn unacked_count(asking: Asking, contact: Contact) -> usize
 fn all_yes(writable: bool, sought: Sought, end: Restored, among: bool) -> bool
     ensures { result ≡ (writable && (sought.found && (is_granted end && not among))) }
 {
-    if !writable {
-        return false;
-    }
-    if !sought.found {
-        return false;
-    }
-    if !is_granted(end) {
-        return false;
-    }
-    !among
+    writable && sought.found && is_granted(end) && !among
 }
 
 fn answer(asking: Asking, writable: bool, sought: Sought, end: Restored, among: bool) -> bool

@@ -3,6 +3,8 @@
 use Prim.Native.Nat.{ℕ}
 use mathlib.Core.List.{List}
 use mathlib.Core.Path.{◌≡◌, refl, sym, ap, ◌∙◌}
+use Rattle.std.specs.Prelude.{Result}
+use Rattle.layout.specs.declared.question.Question.{Question}
 use Rattle.layout.proofs.At.{typed}
 use Rattle.contact.specs.declared.Contact.{Contact}
 use Rattle.contact.specs.Contact.{Lists, lists}
@@ -10,13 +12,12 @@ use Rattle.contact_image.specs.Row.{ContactTyped, ListsTyped}
 use Rattle.calls_step.specs.declared.Mark.{Mark}
 use Rattle.calls_step.specs.Step.{above_as}
 use Rattle.calls_dispatch.specs.declared.Call.{Call}
-use Rattle.calls_dispatch.specs.declared.Gate.{Gate}
 use Rattle.calls_dispatch.specs.declared.Facts.{Facts}
 use Rattle.calls_dispatch.specs.Dispatch.{Done, done, dispatched, Stepped}
 use Rattle.calls_dispatch.proofs.step.Goals as goal
 
 -- what is left, beside what the types say
-kept : {call : Call} {facts : Facts} {m : Mark} {run : List ℕ} {contact : Contact} {l : Lists} {out : List ℕ} (g : Gate) (k : Call) {d : Done} → ContactTyped contact → ListsTyped l → facts.gate ≡ g → call ≡ k
+kept : {call : Call} {facts : Facts} {m : Mark} {run : List ℕ} {contact : Contact} {l : Lists} {out : List ℕ} (g : Result (Unit {0}) Question) (k : Call) {d : Done} → ContactTyped contact → ListsTyped l → facts.gate ≡ g → call ≡ k
     → d ≡ dispatched g k facts m run contact l out → Stepped call facts m run contact l out d
 kept {call} {facts} {m} {run} {contact} {l} {out} g k fields typed-lists asked called is = record {
   is = is ∙ (λ i. dispatched (sym asked i) (sym called i) facts m run contact l out);
@@ -24,8 +25,8 @@ kept {call} {facts} {m} {run} {contact} {l} {out} g k fields typed-lists asked c
   lists = typed-lists;
 }
 
-pub returns-in-Refused : goal.returns-in-Refused
-returns-in-Refused c =
+pub returns-in-Err : goal.returns-in-Err
+returns-in-Err c =
     let lent : Lists = let a = c.args in lists a.chains.now a.skipped.now a.above.now a.unacked.now a.expired.now in
     let typed-lists : ListsTyped lent = let a = c.args in
     record {
@@ -44,7 +45,7 @@ returns-in-Refused c =
       unacked = λ i. (c.type_inv.unacked i).fits;
       expired = λ i. (c.type_inv.expired i).fits;
     })
-    c.in-Refused.is refl (ap (λ r. done r lent a.out.now) c.answered.ensures)
+    c.in-Err.is refl (ap (λ r. done r lent a.out.now) c.answered.ensures)
 
 pub returns-in-Open : goal.returns-in-Open
 returns-in-Open c =

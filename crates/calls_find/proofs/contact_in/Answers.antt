@@ -1,10 +1,14 @@
 -- `calls_find::contact_in` meets its contract: what a search of all entries finds.
 -- Assumes nothing.
-use Rattle.calls_find.proofs.Laws.{sought-is}
+use native.Mathlib.Nat.{sub-zero}
+use Rattle.std.proofs.Common.{◌≡◌, length, ◌∙◌}
+use Rattle.store.specs.Find.{first_of}
+use Rattle.calls_find.specs.Sought.{contact_wanted}
+use Rattle.calls_find.proofs.Laws.{first_found}
 use Rattle.calls_find.proofs.contact_in.Goals as goal
 
 pub returns : goal.returns
 returns c =
-    let a = c.args in
-    sought-is a.id.0 c.entry_count-n.result c.find-p.result c.contact_wanted-wanted.result a.entries.now c.entry_at-e.result c.sought_at.result
-    c.entry_count-n.ensures c.contact_wanted-wanted.ensures c.find-p.ensures c.entry_at-e.ensures c.sought_at.ensures
+    let es = c.args.entries.now in
+    let found : c.find-p.result ≡ first_of es (contact_wanted c.args.id.0) 0 (length es) = c.find-p.ensures ∙ (λ i. first_of es (c.contact_wanted.ensures i) 0 (sub-zero (length es) i)) in
+    rw (c.entry_at.ensures, found) (first_found c.args.id.0 es)

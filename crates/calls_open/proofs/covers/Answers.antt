@@ -1,6 +1,7 @@
 -- `calls_open::covers` meets its contract: 37, and then the covered numbers.
 -- Assumes nothing.
 use mathlib.Core.Path.{sym, ap, ◌∙◌}
+use Rattle.layout.specs.Layout.{accepted}
 use Rattle.calls_open.specs.declared.Answer.TheVariants.{Truth}
 use Rattle.calls_open.specs.Calls.{left}
 use Rattle.calls_open.proofs.covers.Goals as goal
@@ -12,4 +13,4 @@ pub returns : goal.returns
 returns c =
     let a = c.args in
     rw (sym c.in_order.ensures ∙ c.if-not-in_order.false)
-    (c.answered-2.ensures ∙ ap (λ b. left a.contact a.mark (Truth b)) c.covers-are.ensures)
+    (c.answered-2.ensures ∙ ap (λ b. left a.contact a.mark (accepted (Truth b))) c.covers-are.ensures)

@@ -16,4 +16,4 @@ returns c =
     let lent = lists a.chains.now a.skipped.now a.above.now a.unacked.now a.expired.now in
     let read = c.decode-read.ensures ∙ ap (λ row. contacts.reads a.sought.entry.version row lent) c.part_of-row.ensures in
     rw (not-false a.sought.found c.if-not-sought.false)
-    (record { value = c.opened_by.ensures ∙ ap (λ (x : contacts.Left). opened_by x.answer.verdict a.id a.mark a.contact x.answer.contact) read; expired_value = ap (λ (x : contacts.Left). x.lists) read })
+    (record { value = c.opened_by.ensures ∙ ap (λ (x : contacts.Left). opened_by x.answer a.id a.mark a.contact) read; expired_value = ap (λ (x : contacts.Left). x.lists) read })

@@ -4,6 +4,7 @@ use Prim.Native.Nat.{◌+◌}
 use mathlib.Core.Path.{ap}
 use native.Mathlib.Omega.{arith}
 use borrow.Author.Tests.{lt-ltb, le-ltb}
+use Rattle.layout.specs.Layout.{accepted}
 use Rattle.contact.specs.declared.Contact.{Contact}
 use Rattle.calls_step.specs.Proved.{HIGHEST}
 use Rattle.calls_open.specs.declared.Answer.TheVariants.{Number}
@@ -17,4 +18,4 @@ pub returns : goal.returns
 returns c =
     let a = c.args in
     let n = a.contact.sent_msgno in
-    rw (lt-ltb n HIGHEST (omega arith)) (ap (λ (x : Contact). left x a.mark (Number (n + 1))) c.renumbered.ensures)
+    rw (lt-ltb n HIGHEST (omega arith)) (ap (λ (x : Contact). left x a.mark (accepted (Number (n + 1)))) c.renumbered.ensures)
