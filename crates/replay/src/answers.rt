@@ -1,22 +1,27 @@
 // What is printed for a line: the answer to a call, the state, or that the line is none.
 use super::failure::fail;
-use super::{BEGIN, NOTHING, SHOW, STATE, Script, UNKNOWN, least};
+use super::{Asked, Script};
 use ascii::first;
 use calls_session::Session;
 use calls_step::Mark;
 use contact::Contact;
-use rows::{ContactId, Written};
+use layout::Question;
+use rows::ContactId;
 
 // What a line leaves: the session, and the line that is to be printed.
 #[derive(Clone, Copy)]
 pub struct Answered {
     pub session: Session,
-    pub said: Written,
+    pub said: Result<usize, Question>,
 }
 
 // Whether the line was printed whole. A write that fails is said to have failed.
-pub(super) fn print(rt: &(impl Print + Eprint + Alloc), written: Written, line: &[u8]) -> bool {
-    let Written::Length(n) = written else {
+pub(super) fn print(
+    rt: &(impl Print + Eprint + Alloc),
+    written: Result<usize, Question>,
+    line: &[u8],
+) -> bool {
+    let Ok(n) = written else {
         return true;
     };
     match rt.write_all(first(line, n)) {
@@ -39,14 +44,14 @@ fn opened_state(
     unacked: &[u32],
     expired: &[u32],
     line: &mut [u8],
-) -> Written {
+) -> Result<usize, Question> {
     let mut row = [0u8; 131072];
     let size = contact_row::write_contact(
         contact, chains, skipped, above, unacked, expired, &mut row,
     );
     match size {
-        Written::Length(n) => replay_answer::state_line(id, first(&row, n), above, written, line),
-        Written::Refused(number) => replay_answer::number_line(b"no ", number as u64, line),
+        Ok(n) => replay_answer::state_line(id, first(&row, n), above, written, line),
+        Err(refusal) => replay_answer::number_line(b"no ", u64::from(refusal.number()), line),
     }
 }
 
@@ -59,7 +64,7 @@ fn state(
     unacked: &[u32],
     expired: &[u32],
     line: &mut [u8],
-) -> Written {
+) -> Result<usize, Question> {
     let mark = session.mark;
     let contact = session.contact;
     let Mark::Opened(id) = mark else {
@@ -74,6 +79,7 @@ fn state(
 fn make_call(
     session: Session,
     s: Script,
+    call: [u64; calls_code::CALL],
     run: &[u8],
     records: &[u64],
     chains: &mut [u8],
@@ -84,19 +90,18 @@ fn make_call(
     out: &mut [u8],
     line: &mut [u8],
 ) -> Answered {
-    let calls = [s.code, s.a, s.b, s.c, s.d, 0];
     let mut answers = [0u64; calls_code::ANSWER];
-    let c = least(s.chains, chains.len());
-    let k = least(s.skipped, skipped.len());
-    let a = least(s.above, above.len());
-    let u = least(s.unacked, unacked.len());
-    let e = least(s.expired, expired.len());
-    let o = least(s.out, out.len());
+    let c = s.chains.min(chains.len());
+    let k = s.skipped.min(skipped.len());
+    let a = s.above.min(above.len());
+    let u = s.unacked.min(unacked.len());
+    let e = s.expired.min(expired.len());
+    let o = s.out.min(out.len());
     let after = calls_list::replay(
         session,
         run,
         records,
-        &calls,
+        &call,
         &mut chains[0..c],
         &mut skipped[0..k],
         &mut above[0..a],
@@ -126,36 +131,33 @@ pub(super) fn answer(
     out: &mut [u8],
     line: &mut [u8],
 ) -> Answered {
-    if s.code == NOTHING {
-        return Answered {
+    match s.asked {
+        Asked::Nothing => Answered {
             session,
-            said: Written::Length(0),
-        };
+            said: Ok(0),
+        },
+        Asked::Begin => Answered {
+            session: calls_session::begin(),
+            said: Ok(0),
+        },
+        Asked::Unknown => Answered {
+            session,
+            said: replay_answer::number_line(b"? ", s.number, line),
+        },
+        Asked::Show(tag, a, b) => Answered {
+            session,
+            said: replay_answer::answer_line(tag, a, b, out, line),
+        },
+        Asked::State => Answered {
+            session,
+            said: state(
+                session, s.written, chains, skipped, above, unacked, expired, line,
+            ),
+        },
+        Asked::Call(call) => make_call(
+            session, s, call, run, records, chains, skipped, above, unacked, expired, out, line,
+        ),
     }
-    if s.code == BEGIN {
-        let begun = calls_session::begin();
-        return Answered {
-            session: begun,
-            said: Written::Length(0),
-        };
-    }
-    if s.code == UNKNOWN {
-        let said = replay_answer::number_line(b"? ", s.number, line);
-        return Answered { session, said };
-    }
-    if s.code == SHOW {
-        let said = replay_answer::answer_line(s.a, s.b, s.c, out, line);
-        return Answered { session, said };
-    }
-    if s.code == STATE {
-        let said = state(
-            session, s.written, chains, skipped, above, unacked, expired, line,
-        );
-        return Answered { session, said };
-    }
-    make_call(
-        session, s, run, records, chains, skipped, above, unacked, expired, out, line,
-    )
 }
 
 // How many pairs above contiguous the open contact has.

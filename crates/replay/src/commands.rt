@@ -1,9 +1,9 @@
 // What a line of a script asks for: a command, or a line behind a restore.
 ghost use Rattle.std.specs.Prelude.{◌≤◌};
 
-use super::{ABOVE, CHAINS, EXPIRED, NOTHING, SKIPPED, STATE, Script, UNACKED, at_most, least};
+use super::{ABOVE, Asked, CHAINS, EXPIRED, SKIPPED, Script, UNACKED, at_most};
 use ascii::first;
-use rows::Written;
+use layout::Question;
 use sheet::{Answer, State};
 
 // ---- lines of a restore
@@ -12,7 +12,7 @@ use sheet::{Answer, State};
 fn place_of(first: usize, entry: usize) -> usize
     ensures { result ≤ 6144 }
 {
-    (least(first, sheet::LINES) + least(entry, sheet::LINES)) * sheet::RECORD
+    (first.min(sheet::LINES) + entry.min(sheet::LINES)) * sheet::RECORD
 }
 
 fn put_number(records: &mut [u64], at: usize, n: u64) {
@@ -33,8 +33,8 @@ fn put_entry(line: &[u8], records: &mut [u64], first: usize, entry: usize) {
 
 // Feeds a part of a line to the sheet's reader, which writes to the free half.
 fn fed(s: Script, part: &[u8], run: &mut [u8], records: &mut [u64]) -> State {
-    let start = least(s.start, run.len());
-    let place = least(place_of(s.first, 0), records.len());
+    let start = s.start.min(run.len());
+    let place = place_of(s.first, 0).min(records.len());
     let before = s.sheet;
     sheet::read_chunk(before, part, &mut run[start..], &mut records[place..])
 }
@@ -105,16 +105,16 @@ fn restore_of(s: Script, count: u64) -> Script {
 }
 
 // The bytes that a word is, at the front of the free half of the run.
-fn bytes_of(s: Script, word: &[u8], run: &mut [u8]) -> Written {
-    let start = least(s.start, run.len());
-    let room = least(run.len() - start, sheet::BLOB_BYTES);
+fn bytes_of(s: Script, word: &[u8], run: &mut [u8]) -> Result<usize, Question> {
+    let start = s.start.min(run.len());
+    let room = (run.len() - start).min(sheet::BLOB_BYTES);
     let end = start + room;
     ascii::bytes(word, &mut run[start..end])
 }
 
 // The row that bytes_of left.
 fn row_in(s: Script, run: &[u8], n: usize) -> &[u8] {
-    let start = least(s.start, run.len());
+    let start = s.start.min(run.len());
     first(&run[start..], n)
 }
 
@@ -123,7 +123,7 @@ fn raw_restore_of(s: Script, line: &[u8], run: &mut [u8]) -> Script {
     if (sheet::LINES as u64) < count {
         return s.unknown();
     }
-    let Written::Length(n) = bytes_of(s, ascii::word(line, b' ', 2), run) else {
+    let Ok(n) = bytes_of(s, ascii::word(line, b' ', 2), run) else {
         return s.unknown();
     };
     let mut next = s;
@@ -148,7 +148,13 @@ fn lend(s: Script, line: &[u8]) -> Script {
     )
 }
 
-fn veil_row(s: Script, line: &[u8], run: &[u8], n: usize, out: &mut [u8]) -> Written {
+fn veil_row(
+    s: Script,
+    line: &[u8],
+    run: &[u8],
+    n: usize,
+    out: &mut [u8],
+) -> Result<usize, Question> {
     let kind = narrow(ascii::number(line, b' ', 1));
     let version = narrow(ascii::number(line, b' ', 2));
     let room = at_most(ascii::number(line, b' ', 3), out.len());
@@ -156,14 +162,14 @@ fn veil_row(s: Script, line: &[u8], run: &[u8], n: usize, out: &mut [u8]) -> Wri
 }
 
 fn veil_line(s: Script, line: &[u8], run: &mut [u8], out: &mut [u8]) -> Script {
-    let Written::Length(n) = bytes_of(s, ascii::word(line, b' ', 4), run) else {
+    let Ok(n) = bytes_of(s, ascii::word(line, b' ', 4), run) else {
         return s.unknown();
     };
     s.shows(veil_row(s, line, run, n, out))
 }
 
 // What reading a contact row and writing it again answers, with lists of these lengths, which a word has with commas.
-fn read_contact(version: u32, word: &[u8], row: &[u8], out: &mut [u8]) -> Written {
+fn read_contact(version: u32, word: &[u8], row: &[u8], out: &mut [u8]) -> Result<usize, Question> {
     let mut chains = [0u8; 13056];
     let mut skipped = [0u8; 23000];
     let mut above = [0u32; 15360];
@@ -187,7 +193,13 @@ fn read_contact(version: u32, word: &[u8], row: &[u8], out: &mut [u8]) -> Writte
 }
 
 // What reading a row and writing it again answers.
-fn read_row(kind: u64, version: u32, word: &[u8], row: &[u8], out: &mut [u8]) -> Written {
+fn read_row(
+    kind: u64,
+    version: u32,
+    word: &[u8],
+    row: &[u8],
+    out: &mut [u8],
+) -> Result<usize, Question> {
     if kind == store::DEVICE as u64 {
         return rewrite::rewrite_device(version, row, out);
     }
@@ -212,7 +224,7 @@ fn read_line(s: Script, line: &[u8], run: &mut [u8], out: &mut [u8]) -> Script {
     if !replay_script::lengths_for(kind, ascii::word(line, b' ', 3)) {
         return s.unknown();
     }
-    let Written::Length(n) = bytes_of(s, ascii::word(line, b' ', 4), run) else {
+    let Ok(n) = bytes_of(s, ascii::word(line, b' ', 4), run) else {
         return s.unknown();
     };
     read_bytes(s, line, run, n, out)
@@ -222,69 +234,40 @@ fn narrow(n: u64) -> u32 {
     (n % 4294967296) as u32
 }
 
-// The code of a call that a command is; NOTHING where it is none.
-fn code_of(command: u8) -> u64 {
-    if command == replay_script::OPEN {
-        return calls_code::OPEN;
-    }
-    if command == replay_script::COVER {
-        return calls_code::COVER;
-    }
-    if command == replay_script::CONTAINS {
-        return calls_code::CONTAINS;
-    }
-    if command == replay_script::COVERS {
-        return calls_code::COVERS;
-    }
-    if command == replay_script::TAKE {
-        return calls_code::TAKE;
-    }
-    if command == replay_script::STATEMENT {
-        return calls_code::STATEMENT;
-    }
-    if command == replay_script::WRITE {
-        return calls_code::WRITE;
-    }
-    if command == replay_script::STATE {
-        return STATE;
-    }
-    NOTHING
+// The call that a command is, with the numbers behind its name.
+fn call_of(command: u8, line: &[u8]) -> Asked {
+    let code = match command {
+        replay_script::OPEN => calls_code::OPEN,
+        replay_script::COVER => calls_code::COVER,
+        replay_script::CONTAINS => calls_code::CONTAINS,
+        replay_script::COVERS => calls_code::COVERS,
+        replay_script::TAKE => calls_code::TAKE,
+        replay_script::STATEMENT => calls_code::STATEMENT,
+        replay_script::WRITE => calls_code::WRITE,
+        _ => return Asked::Nothing,
+    };
+    let a = ascii::number(line, b' ', 1);
+    let b = ascii::number(line, b' ', 2);
+    Asked::Call([code, a, b, 0, 0, 0])
 }
 
 fn command_line(s: Script, line: &[u8], run: &mut [u8], out: &mut [u8]) -> Script {
-    let command = replay_script::command(line);
-    if command == replay_script::UNKNOWN {
-        return s.unknown();
+    match replay_script::command(line) {
+        replay_script::UNKNOWN => s.unknown(),
+        replay_script::SCRIPT => s.begins(),
+        replay_script::RESTORE => restore_of(s, ascii::number(line, b' ', 1)),
+        replay_script::RAWRESTORE => raw_restore_of(s, line, run),
+        replay_script::LEND => lend(s, line),
+        replay_script::VEIL => veil_line(s, line, run, out),
+        replay_script::READ => read_line(s, line, run, out),
+        replay_script::STATE => s.asks(Asked::State),
+        command => s.asks(call_of(command, line)),
     }
-    if command == replay_script::SCRIPT {
-        return s.begins();
-    }
-    if command == replay_script::RESTORE {
-        return restore_of(s, ascii::number(line, b' ', 1));
-    }
-    if command == replay_script::RAWRESTORE {
-        return raw_restore_of(s, line, run);
-    }
-    if command == replay_script::LEND {
-        return lend(s, line);
-    }
-    if command == replay_script::VEIL {
-        return veil_line(s, line, run, out);
-    }
-    if command == replay_script::READ {
-        return read_line(s, line, run, out);
-    }
-    let a = ascii::number(line, b' ', 1);
-    let b = ascii::number(line, b' ', 2);
-    s.asks(code_of(command), a, b, 0, 0)
 }
 
 // Lines that start so are passed over.
 fn is_passed(b: u8) -> bool {
-    if b == b'#' {
-        return true;
-    }
-    b == b'='
+    b == b'#' || b == b'='
 }
 
 pub(super) fn one_line(
@@ -294,7 +277,7 @@ pub(super) fn one_line(
     records: &mut [u64],
     out: &mut [u8],
 ) -> Script {
-    let mut next = s.asks(NOTHING, 0, 0, 0, 0);
+    let mut next = s.asks(Asked::Nothing);
     next.number = std::num::wrapping_add_u64(s.number, 1);
     if 0 < next.left {
         return restore_line(next, line, run, records);

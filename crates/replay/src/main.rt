@@ -13,10 +13,10 @@ ghost use Rattle.std.specs.Prelude.{◌≡◌, ◌≤◌, length};
 use answers::{answer, pairs_open, print};
 use calls_session::Session;
 use commands::one_line;
-use rows::Written;
+use layout::Question;
 use sheet::State;
 use std::io::Read;
-use window::{END, LINE, Window, line_in, look};
+use window::{Found, Window, line_in, look};
 
 // What there is to be lent: chains, skipped keys, pairs above contiguous, unacked numbers, expired pairs, bytes of output.
 const CHAINS: usize = 256;
@@ -31,17 +31,21 @@ const EXPIRED: usize = 7680;
 
 const OUT: usize = 65536;
 
-// What a line asks for that is no call: nothing; that a script begins; that the state is printed, or an answer that is known; and that the program
-// ends, since it is none.
-const NOTHING: u64 = 0;
-
-const BEGIN: u64 = 100;
-
-const STATE: u64 = 101;
-
-const SHOW: u64 = 102;
-
-const UNKNOWN: u64 = 103;
+// What a line asks for.
+#[derive(Clone, Copy)]
+enum Asked {
+    Nothing,
+    // that a script begins
+    Begin,
+    // that the state is printed
+    State,
+    // that an answer is printed which is known: its tag and two numbers
+    Show(u64, u64, u64),
+    // that the program ends, since the line is none
+    Unknown,
+    // a call, as its code and numbers
+    Call([u64; calls_code::CALL]),
+}
 
 // ---- what is kept between lines, beside the session and the memory
 
@@ -49,12 +53,8 @@ const UNKNOWN: u64 = 103;
 struct Script {
     // the number of the last line
     number: u64,
-    // what the line asks for: a call's code and numbers, or one of the above
-    code: u64,
-    a: u64,
-    b: u64,
-    c: u64,
-    d: u64,
+    // what the line asks for
+    asked: Asked,
     // the restore that is being read: lines to come, bytes of the run and entries so far, and where they go
     left: u64,
     len: usize,
@@ -74,12 +74,6 @@ struct Script {
     written: usize,
 }
 
-fn least(a: usize, b: usize) -> usize
-    ensures { (result ≤ a) × (result ≤ b) }
-{
-    if a < b { a } else { b }
-}
-
 // So many, or all that there are.
 fn at_most(count: u64, has: usize) -> usize
     ensures { result ≤ has }
@@ -95,11 +89,7 @@ impl Script {
         let sheet = sheet::begin();
         Script {
             number: 0,
-            code: NOTHING,
-            a: 0,
-            b: 0,
-            c: 0,
-            d: 0,
+            asked: Asked::Nothing,
             left: 0,
             len: 0,
             entries: 0,
@@ -140,41 +130,38 @@ impl Script {
         self
     }
 
-    fn asks(mut self, code: u64, a: u64, b: u64, c: u64, d: u64) -> Script {
-        self.code = code;
-        self.a = a;
-        self.b = b;
-        self.c = c;
-        self.d = d;
+    fn asks(mut self, asked: Asked) -> Script {
+        self.asked = asked;
         self
     }
 
     fn restores(self, len: usize, n: usize) -> Script {
-        self.asks(
+        self.asks(Asked::Call([
             calls_code::RESTORE,
             self.start as u64,
             len as u64,
             self.first as u64,
             n as u64,
-        )
+            0,
+        ]))
     }
 
     // Nothing is restored, everything is lent.
     fn begins(mut self) -> Script {
         self.written = 0;
-        self.lends_all().asks(BEGIN, 0, 0, 0, 0)
+        self.lends_all().asks(Asked::Begin)
     }
 
     fn unknown(self) -> Script {
-        self.asks(UNKNOWN, 0, 0, 0, 0)
+        self.asks(Asked::Unknown)
     }
 
     // A row that was written, or why it was not.
-    fn shows(self, written: Written) -> Script {
-        match written {
-            Written::Length(n) => self.asks(SHOW, calls_code::WROTE, n as u64, 0, 0),
-            Written::Refused(number) => self.asks(SHOW, calls_code::NO, number as u64, 0, 0),
-        }
+    fn shows(self, written: Result<usize, Question>) -> Script {
+        self.asks(match written {
+            Ok(n) => Asked::Show(calls_code::WROTE, n as u64, 0),
+            Err(refusal) => Asked::Show(calls_code::NO, u64::from(refusal.number()), 0),
+        })
     }
 
     // Behind a call that leaves a store from this entry on, and so many pairs above contiguous.
@@ -185,9 +172,7 @@ impl Script {
             self.start = 0;
             self.first = 0;
         }
-        if self.written < above {
-            self.written = above;
-        }
+        self.written = self.written.max(above);
         self
     }
 }
@@ -212,11 +197,8 @@ struct Left {
     over: bool,
 }
 
-fn ends(code: u64, printed: bool) -> bool {
-    if printed {
-        return code == UNKNOWN;
-    }
-    true
+fn ends(asked: Asked, printed: bool) -> bool {
+    !printed || matches!(asked, Asked::Unknown)
 }
 
 // What a line asks for, where there is one.
@@ -236,7 +218,7 @@ fn turn(
     out: &mut [u8],
     line: &mut [u8],
 ) -> Left {
-    if w.found != LINE {
+    if w.found != Found::Line {
         return Left {
             session,
             s,
@@ -255,11 +237,11 @@ fn turn(
     Left {
         session: after,
         s: next,
-        over: ends(next.code, printed),
+        over: ends(next.asked, printed),
     }
 }
 
-// A proved loop has to end, and nothing says that the input does: the turns are counted down from a number that no run uses up.
+// A proved loop has to end, and nothing says that the input does: the turns have a number that no run uses up.
 fn replay<R: Read>(
     rt: &(impl Print + Eprint + Alloc),
     input: &mut R,
@@ -277,11 +259,9 @@ fn replay<R: Read>(
     let mut session = calls_session::begin();
     let mut s = Script::new();
     let mut w = Window::new();
-    let mut turns = u64::MAX;
-    while 0 < turns {
-        turns -= 1;
+    for _ in 0..u64::MAX {
         w = look(rt, input, w, text);
-        if w.found == END {
+        if w.found == Found::End {
             finish(rt, s, w.failed, line);
             return;
         }

@@ -2,15 +2,15 @@
 ghost use Rattle.std.specs.Prelude.{◌≤◌, length};
 
 use super::failure::fail;
-use super::least;
 use std::io::Read;
 
 // Whether there is a line, or none comes any more.
-const NOT_YET: u8 = 0;
-
-pub const LINE: u8 = 1;
-
-pub const END: u8 = 2;
+#[derive(Clone, Copy, PartialEq, Eq)]
+pub enum Found {
+    NotYet,
+    Line,
+    End,
+}
 
 #[derive(Clone, Copy)]
 pub struct Window {
@@ -20,7 +20,7 @@ pub struct Window {
     // the line
     start: usize,
     end: usize,
-    pub found: u8,
+    pub found: Found,
     // the input has no more
     over: bool,
     // a read failed, so that the input has no end: what is held is no line
@@ -36,7 +36,7 @@ impl Window {
             held: 0,
             start: 0,
             end: 0,
-            found: NOT_YET,
+            found: Found::NotYet,
             over: false,
             failed: false,
             passing: false,
@@ -48,11 +48,12 @@ impl Window {
         self.start = at;
         self.end = end;
         self.at = next;
-        self.found = LINE;
-        if self.passing {
-            self.found = NOT_YET;
-            self.passing = false;
-        }
+        self.found = if self.passing {
+            Found::NotYet
+        } else {
+            Found::Line
+        };
+        self.passing = false;
         self
     }
 
@@ -63,21 +64,21 @@ impl Window {
         next
     }
 
-    fn finds(mut self, found: u8) -> Window {
+    fn finds(mut self, found: Found) -> Window {
         self.found = found;
         self
     }
 
     fn fails(mut self) -> Window {
         self.failed = true;
-        self.finds(END)
+        self.finds(Found::End)
     }
 
     fn holds(mut self, held: usize, over: bool) -> Window {
         self.at = 0;
         self.held = held;
         self.over = over;
-        self.found = NOT_YET;
+        self.found = Found::NotYet;
         self
     }
 }
@@ -87,13 +88,8 @@ fn move_front(text: &mut [u8], at: usize, held: usize) -> usize
     requires { (at ≤ held) × (held ≤ length text.old) }
     ensures { result ≤ length text.old }
 {
-    let n = held - at;
-    let mut i = 0;
-    while i < n {
-        text[i] = text[at + i];
-        i += 1;
-    }
-    n
+    text.copy_within(at..held, 0);
+    held - at
 }
 
 // Reads once, behind the bytes that are held.
@@ -124,8 +120,8 @@ pub(super) fn look<R: Read>(
     w: Window,
     text: &mut [u8],
 ) -> Window {
-    let held = least(w.held, text.len());
-    let at = least(w.at, held);
+    let held = w.held.min(text.len());
+    let at = w.at.min(held);
     let n = ascii::until(&text[at..held], b'\n');
     let end = at + n;
     if end < held {
@@ -133,20 +129,18 @@ pub(super) fn look<R: Read>(
     }
     if w.over {
         if n == 0 {
-            return w.finds(END);
+            return w.finds(Found::End);
         }
         return w.line(at, end, held);
     }
-    if at == 0 {
-        if held == text.len() {
-            return w.long_line(held);
-        }
+    if at == 0 && held == text.len() {
+        return w.long_line(held);
     }
     read_more(rt, input, w, text, at, held)
 }
 
 pub(super) fn line_in(w: Window, text: &[u8]) -> &[u8] {
-    let end = least(w.end, text.len());
-    let start = least(w.start, end);
+    let end = w.end.min(text.len());
+    let start = w.start.min(end);
     &text[start..end]
 }

@@ -3,7 +3,7 @@
 
 ghost use Rattle.std.specs.Prelude.{◌≡◌, [], ◌∷◌, ◌++◌, ◌+◌, ◌-◌, ◌*◌, ◌≤◌, ◌<◌, length, leb};
 ghost use Rattle.layout.specs.Write.{stored};
-ghost use Rattle.rows.specs.Answers.{leaves};
+ghost use Rattle.layout.specs.Says.{leaves};
 ghost use Rattle.put.specs.Put.{Wrote};
 ghost use Rattle.numbers.specs.Ranges.{range};
 ghost use Rattle.received.specs.Lent.{pairs};
@@ -14,8 +14,8 @@ ghost use Rattle.ascii.specs.Words as texts;
 ghost use Rattle.replay_answer.specs.Transcript as transcript;
 
 use calls_code::{ADVANCED, NO, NUMBER, SAID, TRUTH, WROTE, YES};
-use layout::question;
-use rows::{ContactId, Written};
+use layout::Question;
+use rows::ContactId;
 
 const EQUALS: u8 = b'=';
 
@@ -38,82 +38,73 @@ fn begin(out: &mut [u8]) -> usize
     put::put_byte(out, at, SPACE)
 }
 
-pub fn text_line(text: &[u8], out: &mut [u8]) -> Written
+pub fn text_line(text: &[u8], out: &mut [u8]) -> Result<usize, Question>
     ensures { leaves result out.new ≡ stored (line_of text.now) out.old }
 {
     if out.len() < AROUND {
-        return Written::Refused(question::OUTPUT);
+        return Err(Question::Output);
     }
     if out.len() - AROUND < text.len() {
-        return Written::Refused(question::OUTPUT);
+        return Err(Question::Output);
     }
     let at = begin(out);
     let end = put::put_run(out, at, text, 0, text.len());
-    Written::Length(put::put_byte(out, end, LF))
+    Ok(put::put_byte(out, end, LF))
 }
 
 // A word and a number behind it.
-pub fn number_line(word: &[u8], n: u64, out: &mut [u8]) -> Written
+pub fn number_line(word: &[u8], n: u64, out: &mut [u8]) -> Result<usize, Question>
     ensures { leaves result out.new ≡ stored (line_of (word.now ++ decimal n)) out.old }
 {
     let fixed = ascii::decimal_len(n) + AROUND;
     if out.len() < fixed {
-        return Written::Refused(question::OUTPUT);
+        return Err(Question::Output);
     }
     if out.len() - fixed < word.len() {
-        return Written::Refused(question::OUTPUT);
+        return Err(Question::Output);
     }
     let at = begin(out);
     let number_at = put::put_run(out, at, word, 0, word.len());
     let end = ascii::put_decimal(out, number_at, n);
-    Written::Length(put::put_byte(out, end, LF))
+    Ok(put::put_byte(out, end, LF))
 }
 
 // A refusal with its place.
-pub fn place_line(number: u64, place: u64, out: &mut [u8]) -> Written
+pub fn place_line(number: u64, place: u64, out: &mut [u8]) -> Result<usize, Question>
     ensures { leaves result out.new ≡ stored (line_of (place_text number place)) out.old }
 {
     let len = ascii::decimal_len(number) + ascii::decimal_len(place) + 4 + AROUND;
     if out.len() < len {
-        return Written::Refused(question::OUTPUT);
+        return Err(Question::Output);
     }
     let at = begin(out);
     let number_at = put::put_run(out, at, b"no ", 0, 3);
     let space_at = ascii::put_decimal(out, number_at, number);
     let place_at = put::put_byte(out, space_at, SPACE);
     let end = ascii::put_decimal(out, place_at, place);
-    Written::Length(put::put_byte(out, end, LF))
+    Ok(put::put_byte(out, end, LF))
 }
 
 // Bytes in hexadecimal.
-pub fn hex_line(bytes: &[u8], out: &mut [u8]) -> Written
+pub fn hex_line(bytes: &[u8], out: &mut [u8]) -> Result<usize, Question>
     ensures { leaves result out.new ≡ stored (line_of (hex_of bytes.now)) out.old }
 {
     if bytes.len() == 0 {
         return text_line(b"-", out);
     }
     if out.len() < AROUND {
-        return Written::Refused(question::OUTPUT);
+        return Err(Question::Output);
     }
     if (out.len() - AROUND) / 2 < bytes.len() {
-        return Written::Refused(question::OUTPUT);
+        return Err(Question::Output);
     }
     let at = begin(out);
     let end = ascii::put_pairs(out, at, bytes);
-    Written::Length(put::put_byte(out, end, LF))
-}
-
-fn less_one(n: usize) -> usize
-    ensures { result ≡ n - 1 }
-{
-    if n == 0 {
-        return 0;
-    }
-    n - 1
+    Ok(put::put_byte(out, end, LF))
 }
 
 // A truth as a number: 0 is false.
-fn truth_line(a: u64, out: &mut [u8]) -> Written
+fn truth_line(a: u64, out: &mut [u8]) -> Result<usize, Question>
     ensures { leaves result out.new ≡ stored (line_of (truth_text a)) out.old }
 {
     if a == 0 {
@@ -123,7 +114,7 @@ fn truth_line(a: u64, out: &mut [u8]) -> Written
 }
 
 // The answer of a cover: a truth as a number, and how many numbers are new.
-fn added_line(a: u64, added: u64, out: &mut [u8]) -> Written
+fn added_line(a: u64, added: u64, out: &mut [u8]) -> Result<usize, Question>
     ensures { leaves result out.new ≡ stored (line_of (added_text a added)) out.old }
 {
     if a == 0 {
@@ -133,32 +124,26 @@ fn added_line(a: u64, added: u64, out: &mut [u8]) -> Written
 }
 
 // The line of a call's answer: its tag and two numbers. What the call wrote stands at the front of the bytes.
-pub fn answer_line(tag: u64, a: u64, b: u64, bytes: &[u8], out: &mut [u8]) -> Written
+pub fn answer_line(
+    tag: u64,
+    a: u64,
+    b: u64,
+    bytes: &[u8],
+    out: &mut [u8],
+) -> Result<usize, Question>
     ensures { leaves result out.new ≡ stored (line_of (answer_text tag a b bytes.now)) out.old }
 {
     let n = a as usize;
-    if tag == YES {
-        return text_line(b"yes", out);
+    match tag {
+        YES => text_line(b"yes", out),
+        ADVANCED => added_line(a, b, out),
+        TRUTH => truth_line(a, out),
+        NUMBER => number_line(b"", a, out),
+        WROTE => hex_line(ascii::first(bytes, n), out),
+        SAID => text_line(ascii::first(bytes, n.saturating_sub(1)), out),
+        NO => number_line(b"no ", a, out),
+        _ => place_line(a, b, out),
     }
-    if tag == ADVANCED {
-        return added_line(a, b, out);
-    }
-    if tag == TRUTH {
-        return truth_line(a, out);
-    }
-    if tag == NUMBER {
-        return number_line(b"", a, out);
-    }
-    if tag == WROTE {
-        return hex_line(ascii::first(bytes, n), out);
-    }
-    if tag == SAID {
-        return text_line(ascii::first(bytes, less_one(n)), out);
-    }
-    if tag == NO {
-        return number_line(b"no ", a, out);
-    }
-    place_line(a, b, out)
 }
 
 // ---- the state of an open contact
@@ -176,16 +161,14 @@ fn listed_fit(above: &[u32], count: usize, room: usize) -> bool
     ensures { result ≡ leb (length (listed texts.SPACE (pairs count above.now))) room }
 {
     let mut left = room;
-    let mut i = 0;
-    while i < count {
-        let from = width::wide(above[2 * i]);
-        let to = width::wide(above[2 * i + 1]);
+    for i in 0..count {
+        let from = u64::from(above[2 * i]);
+        let to = u64::from(above[2 * i + 1]);
         let n = range_len(from, to);
         if left < n {
             return false;
         }
         left -= n;
-        i += 1;
     }
     true
 }
@@ -216,13 +199,11 @@ fn put_listed(out: &mut [u8], at: usize, above: &[u32], count: usize) -> usize
 {
     let mut mark = SPACE;
     let mut here = at;
-    let mut i = 0;
-    while i < count {
-        let from = width::wide(above[2 * i]);
-        let to = width::wide(above[2 * i + 1]);
+    for i in 0..count {
+        let from = u64::from(above[2 * i]);
+        let to = u64::from(above[2 * i + 1]);
         here = put_range(out, here, mark, from, to);
         mark = SEMICOLON;
-        i += 1;
     }
     here
 }
@@ -238,7 +219,13 @@ fn put_ranges(out: &mut [u8], at: usize, above: &[u32], count: usize) -> usize
 }
 
 // The line with so many ranges, which are there, where there is room for it.
-fn write_state(id: ContactId, row: &[u8], above: &[u32], count: usize, out: &mut [u8]) -> Written
+fn write_state(
+    id: ContactId,
+    row: &[u8],
+    above: &[u32],
+    count: usize,
+    out: &mut [u8],
+) -> Result<usize, Question>
     requires { (2 * count ≤ length above.now) × (length (state_text id.0 row.now (pairs count above.now)) + 3 ≤ length out.old) }
     ensures { leaves result out.new ≡ stored (line_of (state_text id.0 row.now (pairs count above.now))) out.old }
 {
@@ -247,29 +234,41 @@ fn write_state(id: ContactId, row: &[u8], above: &[u32], count: usize, out: &mut
     let row_at = put::put_byte(out, space_at, SPACE);
     let ranges_at = ascii::put_pairs(out, row_at, row);
     let end = put_ranges(out, ranges_at, above, count);
-    Written::Length(put::put_byte(out, end, LF))
+    Ok(put::put_byte(out, end, LF))
 }
 
-fn opened_line(id: ContactId, row: &[u8], above: &[u32], count: usize, out: &mut [u8]) -> Written
+fn opened_line(
+    id: ContactId,
+    row: &[u8],
+    above: &[u32],
+    count: usize,
+    out: &mut [u8],
+) -> Result<usize, Question>
     requires { 2 * count ≤ length above.now }
     ensures { leaves result out.new ≡ stored (line_of (state_text id.0 row.now (pairs count above.now))) out.old }
 {
     let fixed = ascii::decimal_len(id.0) + 1 + AROUND;
     if out.len() < fixed {
-        return Written::Refused(question::OUTPUT);
+        return Err(Question::Output);
     }
     let room = out.len() - fixed;
     if room / 2 < row.len() {
-        return Written::Refused(question::OUTPUT);
+        return Err(Question::Output);
     }
     if ranges_fit(above, count, room - 2 * row.len()) {
         return write_state(id, row, above, count, out);
     }
-    Written::Refused(question::OUTPUT)
+    Err(Question::Output)
 }
 
 // The line of `state` where a contact is open: its id, its row, and so many pairs of the list above contiguous, or as many as there are.
-pub fn state_line(id: ContactId, row: &[u8], above: &[u32], count: usize, out: &mut [u8]) -> Written
+pub fn state_line(
+    id: ContactId,
+    row: &[u8],
+    above: &[u32],
+    count: usize,
+    out: &mut [u8],
+) -> Result<usize, Question>
     ensures { leaves result out.new ≡ stored (line_of (state_text id.0 row.now (pairs count above.now))) out.old }
 {
     let lent = above.len() / 2;

@@ -7,7 +7,7 @@ use mathlib.Core.Path.{◌≡◌, refl, sym, ap, subst, ◌∙◌}
 use native.Mathlib.Nat.{add-zero, zero-add, add-suc, suc-add, le_of_suc-le-suc, not-suc-le-zero}
 use native.Mathlib.Omega.{arith}
 use lib.Dec.{T, eqb, eqb→eq}
-use lib.ListN.{length, get_or, take, drop, get_or-eq_default}
+use lib.ListN.{length, get_or, take, drop}
 use Rattle.ascii.specs.Words as text
 use Rattle.ascii.specs.Words.{before}
 use Rattle.store.proofs.Tests.{both}
@@ -83,7 +83,3 @@ module _ {t : List ℕ} (e : t ≡ TABLE) (code : ℕ) (h : code < length with_u
   pub others-digit : Digit (get_or t (code * ROW + OTHER) 0) (others_of code)
   unfolding table.TABLE
   others-digit = rw e (digit-of OTHER (λ c. c.others) tt code h)
-
--- ---- behind the table
-pub no-command : (code : ℕ) → length with_unknown ≤ code → of_code code ≡ unknown
-no-command code h = get_or-eq_default with_unknown unknown {n = code} h

@@ -2,13 +2,11 @@
 // A line that is no command is `UNKNOWN`. Behind `rawrestore` stand lines of six decimals, and the lent lengths of `read` are five with commas.
 #![tactic(auto)]
 
-ghost use Rattle.std.specs.Prelude.{◌≡◌, ◌&&◌, ◌≤◌};
+ghost use Rattle.std.specs.Prelude.{◌≡◌, ◌≤◌, ◌<◌, length};
 ghost use Rattle.ascii.specs.Words.{SPACE, before, parted};
-ghost use Rattle.replay_script.specs.Script.{same, code_of, narrow_of, wide_of, others_of, highest_at, is_decimal_at, decimals_from, command_of, is_entry, are_lengths, lengths_for};
+ghost use Rattle.replay_script.specs.Script.{same, code_of, narrow_of, wide_of, others_of, highest_at, is_decimal_at, decimals_from, decimals_up_to, command_of, is_entry, are_lengths, lengths_for};
 ghost use Rattle.replay_script.specs.Table.{DOT};
 ghost use Rattle.replay_script.specs.Table as commands;
-
-use ascii::Said;
 
 // The highest numbers of 32 and of 64 bits.
 const U32: u64 = 0xFFFFFFFF;
@@ -77,60 +75,41 @@ const TABLE: [u8; CODES * ROW] = *b"\
     state............000\
 ";
 
-fn narrow_of(table: &[u8], code: u8) -> usize
-    requires { table.now ≡ commands.TABLE }
-    ensures { (result ≡ narrow_of code) × (result ≤ 255) }
-{
-    let i = width::index(code);
-    if i < CODES {
-        return width::index(table[i * ROW + NARROW] - b'0');
-    }
-    0
+// How many decimals of 32 bits, decimals of 64 bits and other words stand behind a name.
+#[derive(Clone, Copy)]
+struct Counts {
+    narrow: usize,
+    wide: usize,
+    others: usize,
 }
 
-fn wide_of(table: &[u8], code: u8) -> usize
+fn counts_of(table: &[u8], code: u8) -> Counts
     requires { table.now ≡ commands.TABLE }
-    ensures { (result ≡ wide_of code) × (result ≤ 255) }
+    ensures narrow { (result.narrow ≡ narrow_of code) × (result.narrow ≤ 255) }
+    ensures wide { (result.wide ≡ wide_of code) × (result.wide ≤ 255) }
+    ensures others { (result.others ≡ others_of code) × (result.others ≤ 255) }
 {
     let i = width::index(code);
     if i < CODES {
-        return width::index(table[i * ROW + WIDE] - b'0');
+        Counts {
+            narrow: width::index(table[i * ROW + NARROW] - b'0'),
+            wide: width::index(table[i * ROW + WIDE] - b'0'),
+            others: width::index(table[i * ROW + OTHER] - b'0'),
+        }
+    } else {
+        Counts {
+            narrow: 0,
+            wide: 0,
+            others: 0,
+        }
     }
-    0
-}
-
-fn others_of(table: &[u8], code: u8) -> usize
-    requires { table.now ≡ commands.TABLE }
-    ensures { (result ≡ others_of code) × (result ≤ 255) }
-{
-    let i = width::index(code);
-    if i < CODES {
-        return width::index(table[i * ROW + OTHER] - b'0');
-    }
-    0
 }
 
 // Whether a word is what stands before the first dot.
 fn is(word: &[u8], dotted: &[u8]) -> bool
     ensures { result ≡ same word.now (before DOT dotted.now) }
 {
-    let mut i = 0;
-    while i < word.len() {
-        if dotted.len() <= i {
-            return false;
-        }
-        if dotted[i] == b'.' {
-            return false;
-        }
-        if dotted[i] != word[i] {
-            return false;
-        }
-        i += 1;
-    }
-    if i < dotted.len() {
-        return dotted[i] == b'.';
-    }
-    true
+    word == &dotted[..ascii::until(dotted, b'.')]
 }
 
 // The command with this name.
@@ -138,13 +117,11 @@ fn code_of(table: &[u8], word: &[u8]) -> u8
     requires { table.now ≡ commands.TABLE }
     ensures { result ≡ code_of word.now }
 {
-    let mut code = 1;
-    while code < CODES {
+    for code in 1..CODES {
         let at = code * ROW;
         if is(word, &table[at..at + NARROW]) {
             return code as u8;
         }
-        code += 1;
     }
     UNKNOWN
 }
@@ -154,40 +131,25 @@ fn code_of(table: &[u8], word: &[u8]) -> u8
 fn is_decimal_at(text: &[u8], mark: u8, i: usize, highest: u64) -> bool
     ensures { result ≡ is_decimal_at highest i (parted mark text.now) }
 {
-    let Said::Number(_) = ascii::decimal(ascii::word(text, mark, i), highest) else {
-        return false;
-    };
-    true
-}
-
-fn both(a: bool, b: bool) -> bool
-    ensures { result ≡ (a && b) }
-{
-    if a { b } else { false }
+    ascii::decimal(ascii::word(text, mark, i), highest).is_some()
 }
 
 fn highest(narrow: usize, i: usize) -> u64
     ensures { result ≡ highest_at narrow i }
 {
-    if i <= narrow {
-        return U32;
-    }
-    U64
+    if i <= narrow { U32 } else { U64 }
 }
 
 fn are_decimals(line: &[u8], narrow: usize, count: usize) -> bool
     requires { count ≤ 510 }
     ensures { result ≡ decimals_from narrow 1 count (parted SPACE line.now) }
 {
-    let mut right = true;
-    let mut i = 1;
-    let mut left = count;
-    while 0 < left {
-        right = both(right, is_decimal_at(line, b' ', i, highest(narrow, i)));
-        i += 1;
-        left -= 1;
+    for i in 1..count + 1 {
+        if !is_decimal_at(line, b' ', i, highest(narrow, i)) {
+            return false;
+        }
     }
-    right
+    true
 }
 
 // The command that a line is.
@@ -197,48 +159,49 @@ pub fn command(line: &[u8]) -> u8
     // lent to the functions that look into it: in each of them a constant would be laid out anew
     let table: &[u8] = &TABLE;
     let code = code_of(table, ascii::word(line, b' ', 0));
-    let narrow = narrow_of(table, code);
-    let count = narrow + wide_of(table, code);
-    if ascii::marks(line, b' ') == count + others_of(table, code) {
-        if are_decimals(line, narrow, count) {
-            return code;
-        }
-        return UNKNOWN;
+    let Counts {
+        narrow,
+        wide,
+        others,
+    } = counts_of(table, code);
+    let count = narrow + wide;
+    if ascii::marks(line, b' ') == count + others && are_decimals(line, narrow, count) {
+        code
+    } else {
+        UNKNOWN
     }
-    UNKNOWN
 }
 
 // ---- other lines and words
+
+// Whether the words of a text are as many decimals as there are numbers here, each up to its number.
+fn are_decimals_up_to(text: &[u8], mark: u8, highest: &[u64]) -> bool
+    requires { 0 < length highest.now }
+    ensures { result ≡ decimals_up_to highest.now (parted mark text.now) }
+{
+    if ascii::marks(text, mark) != highest.len() - 1 {
+        return false;
+    }
+    for (i, number) in highest.iter().enumerate() {
+        if !is_decimal_at(text, mark, i, *number) {
+            return false;
+        }
+    }
+    true
+}
 
 // Whether a line behind `rawrestore` is an entry: kind, id, msgno, version, start, length.
 pub fn is_entry(line: &[u8]) -> bool
     ensures { result ≡ is_entry line.now }
 {
-    if ascii::marks(line, b' ') != 5 {
-        return false;
-    }
-    let kind = is_decimal_at(line, b' ', 0, U32);
-    let id = is_decimal_at(line, b' ', 1, U64);
-    let msgno = is_decimal_at(line, b' ', 2, U32);
-    let version = is_decimal_at(line, b' ', 3, U32);
-    let start = is_decimal_at(line, b' ', 4, U64);
-    let len = is_decimal_at(line, b' ', 5, U64);
-    both(kind, both(id, both(msgno, both(version, both(start, len)))))
+    are_decimals_up_to(line, b' ', &[U32, U64, U32, U32, U64, U64])
 }
 
-// Whether a word is five lengths with commas.
+// Whether a word is five lengths with commas: chains, skipped keys, pairs above, unacked numbers, expired pairs.
 fn are_lengths(word: &[u8]) -> bool
     ensures { result ≡ are_lengths word.now }
 {
-    if ascii::marks(word, b',') != 4 {
-        return false;
-    }
-    let chains = is_decimal_at(word, b',', 0, U64);
-    let skipped = is_decimal_at(word, b',', 1, U64);
-    let above = is_decimal_at(word, b',', 2, U64);
-    let unacked = is_decimal_at(word, b',', 3, U64);
-    let expired = is_decimal_at(word, b',', 4, U64);
-    both(chains, both(skipped, both(above, both(unacked, expired))))
+    are_decimals_up_to(word, b',', &[U64; 5])
 }
 
 // Whether a word is the lent lengths of a `read` of this kind: of a contact five, of another row `-`.
@@ -248,8 +211,5 @@ pub fn lengths_for(kind: u64, word: &[u8]) -> bool
     if kind == store::CONTACT as u64 {
         return are_lengths(word);
     }
-    if kind <= store::COURIER as u64 {
-        return ascii::is_dash(word);
-    }
-    false
+    kind <= store::COURIER as u64 && ascii::is_dash(word)
 }

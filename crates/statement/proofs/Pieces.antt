@@ -48,9 +48,9 @@ pub record Reads (run₀ records₀ : List ℕ) (r : Reading) (run records : Lis
   pub fed-are : held_by r run records ≡ fed_by pieces run₀ records₀
   pub more-is : r.more ≡ all has_bytes pieces
   pub failed-is : r.failed ≡ any has_failed pieces
-  pub counted : length pieces + turns ≡ 2 ^ 64 - 1
+  pub counted : length pieces ≡ turns
 
-pub reads-start : (run records : List ℕ) {r : Reading} {turns : ℕ} → (r.state ≡ at_line 0 0) × (r.more ≡ true) × (r.failed ≡ false) → turns ≡ 2 ^ 64 - 1 → Reads run records r run records turns
+pub reads-start : (run records : List ℕ) {r : Reading} {turns : ℕ} → (r.state ≡ at_line 0 0) × (r.more ≡ true) × (r.failed ≡ false) → turns ≡ 0 → Reads run records r run records turns
 reads-start run records e t = record {
   pieces = [];
   fed-are = ap (λ (s : State). held s run records) e.0;
@@ -60,7 +60,7 @@ reads-start run records e t = record {
 }
 
 pub reads-turn : {run₀ records₀ run records run' records' buffer : List ℕ} {r r' : Reading} {turns next : ℕ}
-    → Reads run₀ records₀ r run records turns → r.more ≡ true → ReadOne buffer (held_by r run records) r' run' records' → turns ≡ next + 1 → Reads run₀ records₀ r' run' records' next
+    → Reads run₀ records₀ r run records turns → r.more ≡ true → ReadOne buffer (held_by r run records) r' run' records' → next ≡ turns + 1 → Reads run₀ records₀ r' run' records' next
 reads-turn {run₀} {records₀} {buffer = buffer} s more o t =
     let ps = s.pieces in
     let p : Piece = record { got = o.got; buffer = buffer } in
@@ -82,7 +82,7 @@ reads_over s e = record {
   failed-is = s.failed-is;
 }
 
-pub reads_all : {run₀ records₀ run records : List ℕ} {r : Reading} {turns : ℕ} → Reads run₀ records₀ r run records turns → turns ≡ 0 → ReadAll run₀ records₀ r run records
+pub reads_all : {run₀ records₀ run records : List ℕ} {r : Reading} {turns : ℕ} → Reads run₀ records₀ r run records turns → turns ≡ 2 ^ 64 - 1 → ReadAll run₀ records₀ r run records
 reads_all s e = record {
   pieces = s.pieces;
   ended = λ b. omega (arith, s.counted, e);

@@ -7,10 +7,10 @@ use mathlib.Core.Path.{◌≡◌, sym, ap, ◌∙◌}
 use native.Mathlib.Omega.{arith}
 use lib.ListN.{length}
 use borrow.Author.Tests.{le-leb}
+use Rattle.std.specs.Prelude.{Result, Ok}
+use Rattle.layout.specs.declared.question.Question.{Question}
+use Rattle.layout.specs.Says.{leaves}
 use Rattle.layout.specs.Write.{stored}
-use Rattle.rows.specs.Answers.{leaves}
-use Rattle.rows.specs.declared.Written.{Written}
-use Rattle.rows.specs.declared.Written.TheVariants.{Length}
 use Rattle.sheet.specs.Sheet.{BLOB_BYTES, LINES}
 use Rattle.sheet.specs.Machine.{Held, state_in, run_in, records_in, answer_of}
 use Rattle.statement_report.specs.Report.{report_of}
@@ -19,7 +19,7 @@ use Rattle.statement.specs.declared.Reading.{Reading}
 use Rattle.statement.specs.Pieces.{bytes_of, ReadAll, Reports}
 
 module _ {run₀ records₀ run records : List ℕ} {r : Reading} (s : ReadAll run₀ records₀ r run records) (text₀ : List ℕ) where
-  pub reports-none : r.failed ≡ true → Reports run₀ records₀ text₀ (record { written = Length 0; failed = true }) run records text₀
+  pub reports-none : r.failed ≡ true → Reports run₀ records₀ text₀ (record { written = Ok 0; failed = true }) run records text₀
   reports-none e = record {
     pieces = s.pieces;
     ended = s.ended;
@@ -29,7 +29,7 @@ module _ {run₀ records₀ run records : List ℕ} {r : Reading} (s : ReadAll r
     failed-is = sym e ∙ s.failed-is;
   }
 
-  pub reports-text : {w : Written} {text : List ℕ} → r.failed ≡ false → BLOB_BYTES ≤ length run₀ → 6 * LINES ≤ length records₀
+  pub reports-text : {w : Result ℕ Question} {text : List ℕ} → r.failed ≡ false → BLOB_BYTES ≤ length run₀ → 6 * LINES ≤ length records₀
       → leaves w text ≡ stored (report_of (answer_of r.state) run records) text₀ → Reports run₀ records₀ text₀ (record { written = w; failed = false }) run records text
   reports-text {w} {text} e room lines left =
       let reported = ap (λ (h : Held). report_of (answer_of (state_in h)) (run_in h) (records_in h)) s.fed-are ∙ proved.reports (map bytes_of s.pieces) run₀ records₀ room lines in

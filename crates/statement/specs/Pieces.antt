@@ -1,9 +1,9 @@
 -- What the program reads of its input, and what it leaves to be printed: the text of all that was read, whatever pieces it came in.
 -- Assumes nothing.
 use Rattle.std.specs.Prelude.{ℕ, ◌-◌, ◌^◌, ◌≤◌, min, List, [], map, Bool, true, false, cond, ◌≡◌, length, take, ltb, ℤ, pos, negsuc}
+use Rattle.layout.specs.Says.{leaves}
 use Rattle.layout.specs.Write.{stored}
 use Rattle.rows.specs.Checks.{all, any}
-use Rattle.rows.specs.Answers.{leaves}
 use Rattle.sheet.specs.Machine.{Held, held, at_line, fed, run_in, records_in}
 use Rattle.sheet.specs.Proved.{in_chunks, whole}
 use Rattle.statement_text.specs.Text.{sheet_text}

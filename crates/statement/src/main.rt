@@ -10,7 +10,7 @@ ghost use Rattle.statement.specs.Pieces.{Moved, clamp_len, Taken, ReadOne, ReadA
 ghost use Rattle.sheet.specs.Sheet as sheets;
 
 use failure::fail;
-use rows::Written;
+use layout::Question;
 use sheet::{BLOB_BYTES, LINES, RECORD, State};
 use statement_text::TEXT_BYTES;
 use std::io::Read;
@@ -29,7 +29,7 @@ struct Reading {
 // What is to be printed, in the text; nothing where a read failed.
 #[derive(Drop)]
 struct Reported {
-    written: Written,
+    written: Result<usize, Question>,
     failed: bool,
 }
 
@@ -127,7 +127,7 @@ fn read_some<R: Read>(
     take_piece(got, chunk, state, run, records)
 }
 
-// A proved loop has to end, and nothing says that the input does. So the loop counts its turns down, from a number that no run uses up.
+// A proved loop has to end, and nothing says that the input does: the turns have a number that no run uses up.
 fn read_all<R: Read>(
     rt: &(impl Eprint + Alloc),
     input: &mut R,
@@ -138,12 +138,10 @@ fn read_all<R: Read>(
     ensures { ReadAll run.old records.old result run.new records.new }
 {
     let mut reading = begin();
-    let mut turns = u64::MAX;
-    while turns > 0 {
+    for _ in 0..u64::MAX {
         if reading.more {
             let state = reading.state;
             reading = read_some(rt, input, state, chunk, run, records);
-            turns -= 1;
         } else {
             return reading;
         }
@@ -159,8 +157,8 @@ fn write_out(rt: &(impl Print + Eprint + Alloc), text: &[u8]) {
 }
 
 // The output is long enough for every text, so there is no refusal.
-fn print(rt: &(impl Print + Eprint + Alloc), text: &[u8], written: Written) {
-    if let Written::Length(n) = written {
+fn print(rt: &(impl Print + Eprint + Alloc), text: &[u8], written: Result<usize, Question>) {
+    if let Ok(n) = written {
         if n <= text.len() {
             write_out(rt, &text[..n]);
         }
@@ -182,7 +180,7 @@ fn report_input<R: Read>(
     let reading = read_all(rt, input, chunk, run, records);
     if reading.failed {
         return Reported {
-            written: Written::Length(0),
+            written: Ok(0),
             failed: true,
         };
     }

@@ -3,69 +3,64 @@
 // the lent lists have room for: as many count as there is room for.
 #![tactic(auto)]
 
-ghost use Rattle.std.specs.Prelude.{◌≡◌, ◌≤◌, min, length};
+ghost use Rattle.std.specs.Prelude.{◌≡◌, ◌≤◌, length};
 ghost use Rattle.layout.specs.Write.{stored};
-ghost use Rattle.rows.specs.Answers.{leaves};
+ghost use Rattle.layout.specs.Says.{leaves};
 ghost use Rattle.sheet.specs.Machine.{answer_of};
 ghost use Rattle.sheet_entries.specs.Table.{entries_from};
 ghost use Rattle.statement_text.specs.Text.{text_of};
 ghost use Rattle.statement_text.specs.Lines.{TEXT_BYTES};
 ghost use Rattle.statement_report.specs.Report.{read_text, report_of};
 
+use layout::Question;
 use restore::Restored;
-use rows::Written;
 use sheet::{Answer, BLOB_BYTES, LINES, RECORD, State};
 
 const LETTER_R: u8 = 0x52;
 
 const LETTER_X: u8 = 0x58;
 
-fn least(a: usize, b: usize) -> usize
-    ensures { (result ≡ min a b) × (result ≤ b) }
-{
-    if a <= b {
-        return a;
-    }
-    b
-}
-
 // The text of a store of n entries.
-fn report_store(run: &[u8], records: &[u64], n: usize, out: &mut [u8]) -> Written
+fn report_store(run: &[u8], records: &[u64], n: usize, out: &mut [u8]) -> Result<usize, Question>
     requires { (length run.now ≤ 61440) × (n ≤ 512) }
     ensures out_after { leaves result out.new ≡ stored (text_of run.now (entries_from n records.now)) out.old }
     ensures records_len_bound { length (text_of run.now (entries_from n records.now)) ≤ TEXT_BYTES }
 {
-    let answer = sheet_entries::restore(run, records, n);
-    match answer {
+    match sheet_entries::restore(run, records, n) {
         Restored::Granted(_, next_slot) => statement_text::write_granted(
             run, records, n, next_slot, out,
         ),
         Restored::Refused(number, place) => {
-            statement_text::write_refused(LETTER_R, width::wide_byte(number), place as u64, out)
+            statement_text::write_refused(LETTER_R, u64::from(number), place as u64, out)
         }
     }
 }
 
 // The text of so many lines and blob bytes.
-fn report_read(run: &[u8], records: &[u64], lines: usize, used: usize, out: &mut [u8]) -> Written
+fn report_read(
+    run: &[u8],
+    records: &[u64],
+    lines: usize,
+    used: usize,
+    out: &mut [u8],
+) -> Result<usize, Question>
     ensures out_after { leaves result out.new ≡ stored (read_text lines used run.now records.now) out.old }
     ensures records_len_bound { length (read_text lines used run.now records.now) ≤ TEXT_BYTES }
 {
-    let bytes = least(used, sheet::room_for(BLOB_BYTES, run.len()));
-    let n = least(lines, sheet::room_for(LINES, records.len() / RECORD));
+    let bytes = used.min(sheet::room_for(BLOB_BYTES, run.len()));
+    let n = lines.min(sheet::room_for(LINES, records.len() / RECORD));
     report_store(&run[..bytes], records, n, out)
 }
 
 // The whole text that the program `statement` prints.
-pub fn report(state: State, run: &[u8], records: &[u64], out: &mut [u8]) -> Written
+pub fn report(state: State, run: &[u8], records: &[u64], out: &mut [u8]) -> Result<usize, Question>
     ensures out_after { leaves result out.new ≡ stored (report_of (answer_of state) run.now records.now) out.old }
     ensures records_len_bound { length (report_of (answer_of state) run.now records.now) ≤ TEXT_BYTES }
 {
-    let answer = sheet::finish(state);
-    match answer {
+    match sheet::finish(state) {
         Answer::Read(lines, used) => report_read(run, records, lines, used, out),
         Answer::Refused(number, line) => {
-            statement_text::write_refused(LETTER_X, width::wide_byte(number), line as u64, out)
+            statement_text::write_refused(LETTER_X, u64::from(number), line as u64, out)
         }
     }
 }

@@ -5,6 +5,7 @@ use mathlib.Core.List.{List, [], ◌∷◌, ◌++◌}
 use mathlib.Core.Bool.{Bool, true, false, cond}
 use mathlib.Core.Path.{◌≡◌, refl, ap, subst, ◌∙◌}
 use native.Mathlib.Omega.{arith}
+use mir.Val.{bool_byte}
 use lib.ListN.{length, drop, length-append}
 use lib.Seq.{drop-drop}
 use lib.Dec.{eqb}
@@ -51,9 +52,10 @@ module _ {of : Entry → ℕ} {sum : List Entry → ℕ} (law : Sum of sum) (rec
       omega arith
 
 -- ---- what is counted
-pub at_most_one : (t : Bool) → cond t 1 0 ≤ 1
-at_most_one true = omega arith
-at_most_one false = omega arith
+-- a test as a number
+pub one_or_none : (t : Bool) → (bool_byte t ≡ cond t 1 0) × (bool_byte t ≤ 1)
+one_or_none true = (refl, omega arith)
+one_or_none false = (refl, omega arith)
 
 one_of : (t : Bool) (n : ℕ) → cond t (suc n) n ≡ cond t 1 0 + n
 one_of true n = omega arith

@@ -7,21 +7,22 @@ use mathlib.Core.Path.{◌≡◌, refl, subst, ap, ◌∙◌}
 use native.Mathlib.Omega.{arith}
 use lib.ListN.{length, take, drop, length-take, length-drop}
 use borrow.Author.Tests.{eq-eqb, ne_eqb}
-use Rattle.layout.specs.Layout.{read_row, group}
+use Rattle.std.specs.Prelude.{Result, Ok, Err}
+use Rattle.layout.specs.declared.question.Question.{Question}
+use Rattle.layout.specs.Says.{answers, made}
+use Rattle.layout.specs.Layout.{accepted, read_row, group}
+use Rattle.layout.specs.RowLaws.{Bytes}
 use Rattle.rows.specs.Rows.{contact, range}
 use Rattle.rows.specs.Values.{Range}
 use Rattle.contact_lists.specs.declared.ListAt.{ListAt}
 use Rattle.contact_lists.specs.Lists.{items}
 use Rattle.numbers.specs.Sets.{size_from}
 use Rattle.contact.specs.declared.ContactAt.{ContactAt}
-use Rattle.contact.specs.declared.ContactCheck.{ContactCheck}
-use Rattle.contact.specs.declared.ContactCheck.TheVariants as check
-use Rattle.contact.specs.Check.{Offsets}
-use Rattle.contact.proofs.Placed.{check_says, Placed}
+use Rattle.contact.specs.Check.{contact_at}
+use Rattle.contact.proofs.Placed.{placed, unplaced}
 use Rattle.store.specs.declared.Entry.{Entry}
 use Rattle.store.specs.Kinds.{CONTACT}
 use Rattle.store.specs.Store.{part_of, within}
-use Rattle.store.specs.Line as line
 use Rattle.store.specs.Line.{queued_of}
 use Rattle.statement_line.proofs.Text.{same_line}
 use Rattle.statement_text.specs.declared.Line.{Line}
@@ -33,19 +34,19 @@ use Rattle.statement_text.specs.Lines.{row_text, row_count, entry_text, entry_co
 abbrev pub ranges_in : (row : List ℕ) → ListAt → List Range
 ranges_in row l = items (group range) l.count (drop l.first row)
 
-module _ (row : List ℕ) (version id queued : ℕ) {r : ContactCheck} (says : check_says row r ≡ read_row (contact version) row) where
-  pub refused-line : {q : ℕ} {l : Line} → r ≡ check.Refused q → Lined [] 0 l → Lined (row_text id queued (read_row (contact version) row)) (row_count (read_row (contact version) row)) l
-  refused-line e w = rw (← says) (rw e w)
+module _ (row : List ℕ) (by : Bytes row) (version id queued : ℕ) where
+  pub refused-line : (r : Result ContactAt Question) → answers r ≡ made (contact_at version) (read_row (contact version) row) → ((at : ContactAt) → r ≡ Ok at → ⊥)
+      → {l : Line} → Lined [] 0 l → Lined (row_text id queued (read_row (contact version) row)) (row_count (read_row (contact version) row)) l
+  refused-line (Ok at) told other w = absurd (other at refl)
+  refused-line (Err q) told other w = rw (unplaced row by version told) w
 
-  pub read-line : {at : ContactAt} {s a c b x : ℕ} → r ≡ check.Fields at → s ≡ at.keys.sent_msgno → a ≡ at.numbers.peer_acked → c ≡ at.numbers.contiguous
+  pub read-line : {at : ContactAt} {s a c b x : ℕ} → accepted at ≡ made (contact_at version) (read_row (contact version) row)
+      → s ≡ at.keys.sent_msgno → a ≡ at.numbers.peer_acked → c ≡ at.numbers.contiguous
       → b ≡ size_from 0 (ranges_in row at.numbers.above) → x ≡ size_from (a + 1) (ranges_in row at.numbers.expired)
       → Lined (row_text id queued (read_row (contact version) row)) (row_count (read_row (contact version) row)) (record { fields = id ∷ s ∷ a ∷ c ∷ b ∷ queued ∷ x ∷ []; held = true })
-  read-line {at} e p q t u v =
+  read-line {at} told p q t u v =
       let expired = v ∙ ap (λ (acked : ℕ). size_from (acked + 1) (ranges_in row at.numbers.expired)) q in
-      rw (← says) (rw e (record { text-is = same_line id queued p q t u expired; count-is = refl }))
-
-pub placed : {row : List ℕ} {r : ContactCheck} {at : ContactAt} → r ≡ check.Fields at → Placed row r → Offsets row at
-placed {row} e p = subst (λ (r : ContactCheck). Placed row r) e p
+      rw (placed row by version told).0 (record { text-is = same_line id queued p q t u expired; count-is = refl })
 
 -- ---- an entry
 pub part-short : (run : List ℕ) (e : Entry) → length (part_of run e) ≤ length run

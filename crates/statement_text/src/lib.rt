@@ -1,10 +1,10 @@
 // The text of a store: the S line of each contact, and the T line. Entries stand as six numbers each, as the sheet leaves them (`table`). A text is measured first and then written, so that nothing is written where the output is too short.
 #![tactic(auto)]
 
-ghost use Rattle.std.specs.Prelude.{◌≡◌, ◌∷◌, [], ◌++◌, cond, ◌+◌, ◌*◌, ◌^◌, ◌≤◌, ◌<◌, length, drop};
+ghost use Rattle.std.specs.Prelude.{◌≡◌, ◌∷◌, [], ◌++◌, ◌+◌, ◌*◌, ◌≤◌, ◌<◌, length, drop};
 ghost use Rattle.layout.specs.Layout.{read_row, group};
 ghost use Rattle.layout.specs.Write.{stored};
-ghost use Rattle.rows.specs.Answers.{leaves};
+ghost use Rattle.layout.specs.Says.{leaves};
 ghost use Rattle.rows.specs.Rows as layouts;
 ghost use Rattle.rows.specs.Rows.{range};
 ghost use Rattle.contact_lists.specs.Lists.{items, Stands};
@@ -18,9 +18,8 @@ ghost use Rattle.statement_text.specs.Text.{how_many, last_line};
 ghost use Rattle.statement_text.specs.Lines.{row_text, row_count, entry_text, entry_count, lines_from, count_from, fields_of, text_in, Lined, Measures};
 ghost use Rattle.statement_text.specs.Lines as texts;
 
-use contact::ContactCheck;
-use layout::question;
-use rows::{ContactId, Written};
+use layout::Question;
+use rows::ContactId;
 use store::Entry;
 
 const LETTER_T: u8 = 0x54;
@@ -47,29 +46,15 @@ pub struct Measured {
 
 // ---- entries
 
-// One more, if this one counts.
-fn one_more(found: u64, counts: bool) -> u64
-    requires { found < 2 ^ 32 }
-    ensures { result ≡ found + cond counts 1 0 }
-{
-    if counts {
-        return found + 1;
-    }
-    found
-}
-
 // How many of the first n entries are of this kind.
 fn how_many(records: &[u64], n: usize, kind: u32) -> u64
     requires { n ≤ 512 }
     ensures { result ≡ how_many kind (entries_from n records.now) }
 {
-    let mut i = 0;
     let mut found: u64 = 0;
-    while i < n {
+    for i in 0..n {
         let e = sheet_entries::entry_from(records, i);
-        i += 1;
-        let same = e.kind == kind;
-        found = one_more(found, same);
+        found += u64::from(e.kind == kind);
     }
     found
 }
@@ -77,10 +62,7 @@ fn how_many(records: &[u64], n: usize, kind: u32) -> u64
 fn is_queued(e: Entry, id: ContactId) -> bool
     ensures { result ≡ is_of QUEUED id.0 e }
 {
-    if e.kind != store::QUEUED {
-        return false;
-    }
-    e.id == id.0
+    e.kind == store::QUEUED && e.id == id.0
 }
 
 // How many of the first n entries are queued rows of this contact.
@@ -88,13 +70,10 @@ fn queued_in(records: &[u64], n: usize, id: ContactId) -> u64
     requires { n ≤ 512 }
     ensures { result ≡ queued_of id.0 (entries_from n records.now) }
 {
-    let mut i = 0;
     let mut found: u64 = 0;
-    while i < n {
+    for i in 0..n {
         let e = sheet_entries::entry_from(records, i);
-        i += 1;
-        let same = is_queued(e, id);
-        found = one_more(found, same);
+        found += u64::from(is_queued(e, id));
     }
     found
 }
@@ -107,14 +86,11 @@ fn numbers_in_row(row: &[u8], first: usize, count: usize, lowest: u64) -> u64
     ensures { result ≡ size_from lowest (items (group range) count (drop first row.now)) }
 {
     let mut sum: u64 = 0;
-    let mut p = first;
-    let mut i: usize = 0;
-    while i < count {
+    for i in 0..count {
+        let p = first + 8 * i;
         let a = fields::be32(row, p);
         let b = fields::be32(row, p + 4);
         sum += statement_line::size_from(a as u32, b as u32, lowest);
-        p += 8;
-        i += 1;
     }
     sum
 }
@@ -133,14 +109,13 @@ fn row_line(row: &[u8], version: u32, id: ContactId, queued: u64) -> Line
     requires { length row.now ≤ 61440 }
     ensures { Lined (row_text id.0 queued (read_row (layouts.contact version) row.now)) (row_count (read_row (layouts.contact version) row.now)) result }
 {
-    let check = contact::check_contact(version, row);
-    let ContactCheck::Fields(at) = check else {
+    let Ok(at) = contact::check_contact(version, row) else {
         return no_line();
     };
-    let sent = width::wide(at.keys.sent_msgno);
+    let sent = u64::from(at.keys.sent_msgno);
     let numbers = at.numbers;
-    let acked = width::wide(numbers.peer_acked);
-    let contiguous = width::wide(numbers.contiguous);
+    let acked = u64::from(numbers.peer_acked);
+    let contiguous = u64::from(numbers.contiguous);
     let above = numbers.above;
     let beyond = numbers_in_row(row, above.first, above.count, 0);
     let gone = numbers.expired;
@@ -168,9 +143,10 @@ fn line_len(line: Line) -> usize
 {
     if line.held {
         let fields = line.fields;
-        return 1 + ascii::fields_len(fields, statement_line::FIELDS);
+        1 + ascii::fields_len(fields, statement_line::FIELDS)
+    } else {
+        0
     }
-    0
 }
 
 fn put_entry(out: &mut [u8], at: usize, line: Line) -> usize
@@ -209,14 +185,12 @@ fn measure(run: &[u8], records: &[u64], n: usize) -> Measured
     requires { (length run.now ≤ 61440) × (n ≤ 512) }
     ensures { Measures run.now (entries_from n records.now) result }
 {
-    let mut i = 0;
     let mut len: usize = 0;
     let mut contacts: u64 = 0;
-    while i < n {
+    for i in 0..n {
         let line = line_at(run, records, n, i);
         len += line_len(line);
-        contacts = one_more(contacts, line.held);
-        i += 1;
+        contacts += u64::from(line.held);
     }
     Measured { len, contacts }
 }
@@ -226,11 +200,9 @@ fn put_lines(run: &[u8], records: &[u64], n: usize, out: &mut [u8]) -> usize
     requires { (length run.now ≤ 61440) × (n ≤ 512) × (length (lines_from run.now (entries_from n records.now) (entries_from n records.now)) ≤ length out.old) }
     ensures { Wrote out.old 0 (lines_from run.now (entries_from n records.now) (entries_from n records.now)) out.new result }
 {
-    let mut i = 0;
     let mut here = 0;
-    while i < n {
+    for i in 0..n {
         let line = line_at(run, records, n, i);
-        i += 1;
         here = put_entry(out, here, line);
     }
     here
@@ -243,7 +215,7 @@ pub fn write_granted(
     n: usize,
     next_slot: u64,
     out: &mut [u8],
-) -> Written
+) -> Result<usize, Question>
     requires { (length run.now ≤ 61440) × (n ≤ 512) }
     ensures out_after { leaves result out.new ≡ stored (lines_from run.now (entries_from n records.now) (entries_from n records.now)
         ++ last_line (count_from run.now (entries_from n records.now)) (entries_from n records.now) next_slot) out.old }
@@ -256,23 +228,23 @@ pub fn write_granted(
     let fields = [measured.contacts, queued, held, next_slot, 0, 0, 0];
     let len = measured.len + 1 + ascii::fields_len(fields, LAST_FIELDS);
     if out.len() < len {
-        return Written::Refused(question::OUTPUT);
+        return Err(Question::Output);
     }
     let at = put_lines(run, records, n, out);
     ascii::put_line(out, at, LETTER_T, fields, LAST_FIELDS);
-    Written::Length(len)
+    Ok(len)
 }
 
 // A letter and two numbers: of a refusal.
-pub fn write_refused(letter: u8, number: u64, place: u64, out: &mut [u8]) -> Written
+pub fn write_refused(letter: u8, number: u64, place: u64, out: &mut [u8]) -> Result<usize, Question>
     ensures out_after { leaves result out.new ≡ stored (letter ∷ fields_of (number ∷ place ∷ []) 2) out.old }
     ensures place_len_bound { length (letter ∷ fields_of (number ∷ place ∷ []) 2) ≤ texts.TEXT_BYTES }
 {
     let fields = [number, place, 0, 0, 0, 0, 0];
     let len = 1 + ascii::fields_len(fields, 2);
     if out.len() < len {
-        return Written::Refused(question::OUTPUT);
+        return Err(Question::Output);
     }
     ascii::put_line(out, 0, letter, fields, 2);
-    Written::Length(len)
+    Ok(len)
 }

@@ -5,12 +5,9 @@
 ghost use Rattle.std.specs.Prelude.{◌≡◌, ◌+◌, ◌*◌, ◌<◌, ◌≤◌, min, length};
 ghost use Rattle.sheet_entries.specs.Table as tables;
 
-use ascii::Said;
 use card::Card;
-use data::Leb128Field;
-use fields::{U32Field, U64Field};
+use layout::Question;
 use restore::Restored;
-use rows::{Verdict, Written};
 use sheet::RECORD;
 use sheet_entries::ENTRIES;
 use std::io::Read;
@@ -122,7 +119,7 @@ fn narrow(n: u64) -> u32 {
 }
 
 fn is_number(text: &[u8], n: u64) -> bool {
-    let Said::Number(m) = ascii::decimal(text, HIGHEST_32) else {
+    let Some(m) = ascii::decimal(text, HIGHEST_32) else {
         return false;
     };
     m == n
@@ -135,29 +132,29 @@ fn is_value(text: &[u8], value: u32, taken: usize) -> bool {
 
 // `- NUMBER`.
 fn is_refusal(text: &[u8], number: u8) -> bool {
-    ascii::is_dash(ascii::field(text)) && is_number(ascii::rest(text), number as u64)
+    ascii::is_dash(ascii::field(text)) && is_number(ascii::rest(text), u64::from(number))
 }
 
 // `HEX VALUE TAKEN` or `HEX - NUMBER`: LEB128 at the front of the bytes.
 fn leb128_read(case: &[u8], bytes: &mut [u8]) -> bool {
-    let Written::Length(n) = ascii::bytes(ascii::field(case), bytes) else {
+    let Ok(n) = ascii::bytes(ascii::field(case), bytes) else {
         return false;
     };
     match data::read_leb128(ascii::first(bytes, n)) {
-        Leb128Field::Value(value, taken) => is_value(ascii::rest(case), value, taken),
-        Leb128Field::Refused(number) => is_refusal(ascii::rest(case), number),
+        Ok((value, taken)) => is_value(ascii::rest(case), value, taken),
+        Err(refusal) => is_refusal(ascii::rest(case), refusal.number()),
     }
 }
 
 // `VALUE HEX`: the value in LEB128.
 fn leb128_written(case: &[u8], bytes: &mut [u8], again: &mut [u8]) -> bool {
-    let Said::Number(value) = ascii::decimal(ascii::field(case), HIGHEST_32) else {
+    let Some(value) = ascii::decimal(ascii::field(case), HIGHEST_32) else {
         return false;
     };
-    let Written::Length(n) = ascii::bytes(ascii::rest(case), bytes) else {
+    let Ok(n) = ascii::bytes(ascii::rest(case), bytes) else {
         return false;
     };
-    let Written::Length(size) = data::leb128(narrow(value), again) else {
+    let Ok(size) = data::leb128(narrow(value), again) else {
         return false;
     };
     ascii::first(bytes, n) == ascii::first(again, size)
@@ -165,7 +162,7 @@ fn leb128_written(case: &[u8], bytes: &mut [u8], again: &mut [u8]) -> bool {
 
 // `HEX 1` or `HEX 0`: whether the bytes are UTF-8.
 fn name(case: &[u8], bytes: &mut [u8]) -> bool {
-    let Written::Length(n) = ascii::bytes(ascii::field(case), bytes) else {
+    let Ok(n) = ascii::bytes(ascii::field(case), bytes) else {
         return false;
     };
     let is = utf8::is_utf8(ascii::first(bytes, n));
@@ -174,7 +171,7 @@ fn name(case: &[u8], bytes: &mut [u8]) -> bool {
 
 // Whether the card is written as this row.
 fn writes(card: Card, row: &[u8], again: &mut [u8]) -> bool {
-    let Written::Length(n) = card.encode(again) else {
+    let Ok(n) = card.encode(again) else {
         return false;
     };
     row == ascii::first(again, n)
@@ -182,20 +179,18 @@ fn writes(card: Card, row: &[u8], again: &mut [u8]) -> bool {
 
 // `HEX 0`: a card, written again as the same bytes; or `HEX NUMBER`.
 fn card(case: &[u8], bytes: &mut [u8], again: &mut [u8]) -> bool {
-    let Written::Length(n) = ascii::bytes(ascii::field(case), bytes) else {
+    let Ok(n) = ascii::bytes(ascii::field(case), bytes) else {
         return false;
     };
     let row = ascii::first(bytes, n);
-    let decoded = Card::decode(row);
-    let verdict = decoded.verdict;
-    match verdict {
-        Verdict::Accepted => is_number(ascii::rest(case), 0) && writes(decoded.card, row, again),
-        Verdict::Refused(number) => is_number(ascii::rest(case), number as u64),
+    match Card::decode(row) {
+        Ok(card) => is_number(ascii::rest(case), 0) && writes(card, row, again),
+        Err(refusal) => is_number(ascii::rest(case), u64::from(refusal.number())),
     }
 }
 
 // Reads a contact row and writes it again, with lists that are long enough for a row of 2,048 bytes.
-fn contact_again(version: u32, row: &[u8], again: &mut [u8]) -> Written {
+fn contact_again(version: u32, row: &[u8], again: &mut [u8]) -> Result<usize, Question> {
     let mut chains = [0u8; 2448];
     let mut skipped = [0u8; 2048];
     let mut above = [0u32; 512];
@@ -214,7 +209,7 @@ fn contact_again(version: u32, row: &[u8], again: &mut [u8]) -> Written {
 }
 
 // Reads a row of the letter's kind and writes it again.
-fn row_again(letter: u8, version: u32, row: &[u8], again: &mut [u8]) -> Written {
+fn row_again(letter: u8, version: u32, row: &[u8], again: &mut [u8]) -> Result<usize, Question> {
     match letter {
         b'D' => rewrite::rewrite_device(version, row, again),
         b'Q' => rewrite::rewrite_queued(version, row, again),
@@ -225,19 +220,17 @@ fn row_again(letter: u8, version: u32, row: &[u8], again: &mut [u8]) -> Written 
 
 // `VERSION HEX 0`: a row, written again as the same bytes; or `VERSION HEX NUMBER`.
 fn row(letter: u8, case: &[u8], bytes: &mut [u8], again: &mut [u8]) -> bool {
-    let Said::Number(version) = ascii::decimal(ascii::field(case), HIGHEST_32) else {
+    let Some(version) = ascii::decimal(ascii::field(case), HIGHEST_32) else {
         return false;
     };
     let blob = ascii::rest(case);
-    let Written::Length(n) = ascii::bytes(ascii::field(blob), bytes) else {
+    let Ok(n) = ascii::bytes(ascii::field(blob), bytes) else {
         return false;
     };
     let row = ascii::first(bytes, n);
     match row_again(letter, narrow(version), row, again) {
-        Written::Length(size) => {
-            is_number(ascii::rest(blob), 0) && row == ascii::first(again, size)
-        }
-        Written::Refused(number) => is_number(ascii::rest(blob), number as u64),
+        Ok(size) => is_number(ascii::rest(blob), 0) && row == ascii::first(again, size),
+        Err(refusal) => is_number(ascii::rest(blob), u64::from(refusal.number())),
     }
 }
 
@@ -252,16 +245,16 @@ const RECORDS: usize = 3072;
 // A big-endian number of four bytes; 0 where they are not all there.
 fn number_32(bytes: &[u8], at: usize) -> u32 {
     match fields::u32_at(bytes, at) {
-        U32Field::Value(number, _) => number,
-        U32Field::Short => 0,
+        Ok((number, _)) => number,
+        Err(_) => 0,
     }
 }
 
 // The same of eight bytes.
 fn number_64(bytes: &[u8], at: usize) -> u64 {
     match fields::u64_at(bytes, at) {
-        U64Field::Value(number, _) => number,
-        U64Field::Short => 0,
+        Ok((number, _)) => number,
+        Err(_) => 0,
     }
 }
 
@@ -285,11 +278,8 @@ fn records_of(bytes: &[u8], count: usize) -> [u64; RECORDS]
     requires { count ≤ tables.ENTRIES }
 {
     let mut records = [0u64; RECORDS];
-    let n = RECORD * count;
-    let mut k = 0;
-    while k < n {
+    for k in 0..RECORD * count {
         records[k] = place(bytes, k);
-        k += 1;
     }
     records
 }
@@ -297,7 +287,7 @@ fn records_of(bytes: &[u8], count: usize) -> [u64; RECORDS]
 // Whether the text is these two numbers, of eight bytes each.
 fn is_pair(text: &[u8], one: u64, other: u64) -> bool {
     let mut pair = [0u8; 16];
-    let Written::Length(n) = ascii::bytes(text, &mut pair) else {
+    let Ok(n) = ascii::bytes(text, &mut pair) else {
         return false;
     };
     n == 16 && number_64(&pair, 0) == one && number_64(&pair, 8) == other
@@ -315,7 +305,7 @@ fn is_restored(text: &[u8], answer: Restored) -> bool {
 
 // `RUN ANSWER`: the run of a store with these entries, and what restore answers.
 fn restored(case: &[u8], records: &[u64], count: usize, bytes: &mut [u8]) -> bool {
-    let Written::Length(n) = ascii::bytes(ascii::field(case), bytes) else {
+    let Ok(n) = ascii::bytes(ascii::field(case), bytes) else {
         return false;
     };
     let answer = sheet_entries::restore(ascii::first(bytes, n), records, count);
@@ -324,7 +314,7 @@ fn restored(case: &[u8], records: &[u64], count: usize, bytes: &mut [u8]) -> boo
 
 // `ENTRIES RUN ANSWER`.
 fn store(case: &[u8], bytes: &mut [u8], again: &mut [u8]) -> bool {
-    let Written::Length(n) = ascii::bytes(ascii::field(case), bytes) else {
+    let Ok(n) = ascii::bytes(ascii::field(case), bytes) else {
         return false;
     };
     let count = n / ENTRY;
@@ -355,7 +345,7 @@ fn no_records() -> [u64; 3072]
 }
 
 // Writes the text that a statement of the sheet is.
-fn statement(sheet: &[u8], out: &mut [u8]) -> Written {
+fn statement(sheet: &[u8], out: &mut [u8]) -> Result<usize, Question> {
     let mut run = run_bytes();
     let mut records = no_records();
     let state = sheet::read_chunk(sheet::begin(), sheet, &mut run, &mut records);
@@ -364,7 +354,7 @@ fn statement(sheet: &[u8], out: &mut [u8]) -> Written {
 
 // Whether the field is these bytes.
 fn is_bytes(text: &[u8], expected: &[u8], bytes: &mut [u8]) -> bool {
-    let Written::Length(n) = ascii::bytes(text, bytes) else {
+    let Ok(n) = ascii::bytes(text, bytes) else {
         return false;
     };
     expected == ascii::first(bytes, n)
@@ -372,10 +362,10 @@ fn is_bytes(text: &[u8], expected: &[u8], bytes: &mut [u8]) -> bool {
 
 // `SHEET TEXT`: a sheet, and the text of its statement.
 fn sheet(case: &[u8], bytes: &mut [u8], again: &mut [u8]) -> bool {
-    let Written::Length(n) = ascii::bytes(ascii::field(case), bytes) else {
+    let Ok(n) = ascii::bytes(ascii::field(case), bytes) else {
         return false;
     };
-    let Written::Length(size) = statement(ascii::first(bytes, n), again) else {
+    let Ok(size) = statement(ascii::first(bytes, n), again) else {
         return false;
     };
     is_bytes(ascii::rest(case), ascii::first(again, size), bytes)
@@ -424,24 +414,16 @@ fn count(
     tallies.with(kind, false)
 }
 
-// The place behind a line's end, within the text.
-fn past(end: usize, len: usize) -> usize
-    ensures { result ≡ min (end + 1) len }
-{
-    if end < len { end + 1 } else { len }
-}
-
 fn lines(rt: &impl Print, text: &[u8], bytes: &mut [u8], again: &mut [u8]) -> Tallies {
     let mut tallies = Tallies::new();
     let mut number: u64 = 0;
-    let mut at: usize = 0;
-    while at < text.len() {
-        let rest = &text[at..];
+    let mut rest = text;
+    // Kept: the new form is no plainer: std has no `split` for slices, and an iterator of our own would be longer than this loop
+    while !rest.is_empty() {
         let n = ascii::until(rest, b'\n');
-        let next = past(at + n, text.len());
         number += 1;
-        tallies = count(rt, tallies, number, &rest[0..n], bytes, again);
-        at = next;
+        tallies = count(rt, tallies, number, &rest[..n], bytes, again);
+        rest = &rest[(n + 1).min(rest.len())..];
     }
     tallies
 }
@@ -465,6 +447,7 @@ fn read_full<R: Read>(input: &mut R, text: &mut [u8]) -> usize
     ensures { result ≤ length text.new }
 {
     let mut done = 0;
+    // Kept: the new form is no plainer: a turn goes on by as many bytes as the read answers, which neither `for` nor an iterator counts
     while done < text.len() {
         let Ok(n) = input.read(&mut text[done..]) else {
             break;

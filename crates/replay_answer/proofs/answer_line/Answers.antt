@@ -1,56 +1,44 @@
--- `replay_answer::answer_line` meets its contract: each tag has its line.
--- Assumes nothing.
+-- Each tag has its line.
+use native.Mathlib.Omega.{arith}
 use Rattle.replay_answer.specs.Transcript.{answer_text}
 use Rattle.replay_answer.proofs.Lines.{as_line}
 use Rattle.replay_answer.proofs.Answers.{of-tag, is_row, is_said, is-other}
 use Rattle.replay_answer.proofs.answer_line.Goals as goal
 
-pub returns-then-tag-eq-YES : goal.returns-then-tag-eq-YES
+pub returns-in-0 : goal.returns-in-0
 unfolding answer_text
-returns-then-tag-eq-YES c =
-    let s = c.args in
-    as_line s.out.now (of-tag s.a s.b s.bytes.now c.if-tag-eq-YES.true) c.text_line.ensures
+returns-in-0 c = let s = c.args in as_line s.out.now (of-tag s.a s.b s.bytes.now c.in-0.is) c.text_line.ensures
 
-pub returns-then-tag-eq-ADVANCED : goal.returns-then-tag-eq-ADVANCED
+pub returns-in-1 : goal.returns-in-1
 unfolding answer_text
-returns-then-tag-eq-ADVANCED c =
-    let s = c.args in
-    as_line s.out.now (of-tag s.a s.b s.bytes.now c.if-tag-eq-ADVANCED.true) c.added_line.ensures
+returns-in-1 c = let s = c.args in as_line s.out.now (of-tag s.a s.b s.bytes.now c.in-1.is) c.added_line.ensures
 
-pub returns-then-tag-eq-TRUTH : goal.returns-then-tag-eq-TRUTH
+pub returns-in-2 : goal.returns-in-2
 unfolding answer_text
-returns-then-tag-eq-TRUTH c =
-    let s = c.args in
-    as_line s.out.now (of-tag s.a s.b s.bytes.now c.if-tag-eq-TRUTH.true) c.truth_line.ensures
+returns-in-2 c = let s = c.args in as_line s.out.now (of-tag s.a s.b s.bytes.now c.in-2.is) c.truth_line.ensures
 
-pub returns-then-tag-eq-NUMBER : goal.returns-then-tag-eq-NUMBER
+pub returns-in-3 : goal.returns-in-3
 unfolding answer_text
-returns-then-tag-eq-NUMBER c =
-    let s = c.args in
-    as_line s.out.now (of-tag s.a s.b s.bytes.now c.if-tag-eq-NUMBER.true) c.number_line.ensures
+returns-in-3 c = let s = c.args in as_line s.out.now (of-tag s.a s.b s.bytes.now c.in-3.is) c.number_line.ensures
 
-pub returns-then-tag-eq-WROTE : goal.returns-then-tag-eq-WROTE
+pub returns-in-4 : goal.returns-in-4
 unfolding answer_text
-returns-then-tag-eq-WROTE c =
-    let s = c.args in
-    as_line s.out.now (is_row s.a s.b s.bytes.now c.if-tag-eq-WROTE.true c.first.ensures) c.hex_line.ensures
+returns-in-4 c = let s = c.args in as_line s.out.now (is_row s.a s.b s.bytes.now c.in-4.is c.first.ensures) c.hex_line.ensures
 
-pub returns-then-tag-eq-SAID : goal.returns-then-tag-eq-SAID
+pub returns-in-5 : goal.returns-in-5
 unfolding answer_text
-returns-then-tag-eq-SAID c =
+returns-in-5 c =
     let s = c.args in
-    as_line s.out.now (is_said s.a s.b s.bytes.now c.if-tag-eq-SAID.true c.less_one.ensures c.first-then-tag-eq-SAID.ensures) c.text_line-then-tag-eq-SAID.ensures
+    as_line s.out.now (is_said s.a s.b s.bytes.now c.in-5.is c.saturating_sub.ensures c.first-in-5.ensures) c.text_line-in-5.ensures
 
-pub returns-then-tag-eq-NO : goal.returns-then-tag-eq-NO
+pub returns-in-6 : goal.returns-in-6
 unfolding answer_text
-returns-then-tag-eq-NO c =
-    let s = c.args in
-    as_line s.out.now (of-tag s.a s.b s.bytes.now c.if-tag-eq-NO.true) c.number_line-then-tag-eq-NO.ensures
+returns-in-6 c = let s = c.args in as_line s.out.now (of-tag s.a s.b s.bytes.now c.in-6.is) c.number_line-in-6.ensures
 
-pub returns : goal.returns
+pub returns-in_default : goal.returns-in_default
 unfolding answer_text
-returns c =
+returns-in_default c =
     let s = c.args in
     as_line s.out.now
-    (is-other s.a s.b s.bytes.now c.if-tag-eq-YES.false c.if-tag-eq-ADVANCED.false c.if-tag-eq-TRUTH.false c.if-tag-eq-NUMBER.false c.if-tag-eq-WROTE.false c.if-tag-eq-SAID.false c.if-tag-eq-NO.false)
+    (is-other s.a s.b s.bytes.now {tag = s.tag} (λ e. omega (arith, e)) (λ e. omega (arith, e)) (λ e. omega (arith, e)) (λ e. omega (arith, e)) (λ e. omega (arith, e)) (λ e. omega (arith, e)) (λ e. omega (arith, e)))
     c.place_line.ensures

@@ -1,17 +1,20 @@
--- `replay_script::are_decimals` meets its contract. The invariant: the words so far, and those to come, are decimals exactly where all are. The measure is how many are to come.
--- Assumes nothing.
-use mathlib.Core.Path.{refl, sym, ◌∙◌}
+-- The i-th word is asked, and then those behind it.
+use mathlib.Core.Bool.{true, false}
+use mathlib.Core.Path.{sym, ◌∙◌}
 use native.Mathlib.Omega.{arith}
-use Rattle.replay_script.proofs.Numbers.{one-decimal, no-decimals}
+use Rattle.ascii.specs.Words.{SPACE, parted}
+use Rattle.replay_script.proofs.Numbers.{decimal-next, decimals-end}
 use Rattle.replay_script.proofs.are_decimals.Goals as goal
 
-pub loop-left-init : goal.loop-left-init
-loop-left-init c = (omega arith, refl)
+pub returns-then-not-is_decimal_at : goal.returns-then-not-is_decimal_at
+returns-then-not-is_decimal_at c =
+    let e = rw c.highest.ensures at c.if-not-is_decimal_at.ensures in
+    sym (decimal-next c.args.narrow c.loop-i.i c.args.count (parted SPACE c.args.line.now) c.loop-i-test.true false e) ∙ c.loop-i.invariant
 
-pub loop-left-preserved : goal.loop-left-preserved
-loop-left-preserved c =
-    (omega arith, rw (c.both-right.ensures, c.is_decimal_at.ensures, c.highest.ensures) (one-decimal _ c.loop-left.i _ c.loop-left.right c.loop-left.left (omega arith) ∙ c.loop-left.invariant.1))
+pub loop-i-preserved : goal.loop-i-preserved
+loop-i-preserved c =
+    let e = rw c.highest.ensures at c.if-not-is_decimal_at.ensures in
+    sym (decimal-next c.args.narrow c.loop-i.i c.args.count (parted SPACE c.args.line.now) c.loop-i-test.true true e) ∙ c.loop-i.invariant
 
 pub returns : goal.returns
-returns c =
-    sym (no-decimals _ c.loop-left.i _ c.loop-left.right c.loop-left.left (omega arith)) ∙ c.loop-left.invariant.1
+returns c = sym (decimals-end c.args.narrow c.loop-i.i c.args.count _ (omega arith)) ∙ c.loop-i.invariant

@@ -2,8 +2,5 @@
 use Rattle.statement.proofs.Pieces.{Reads}
 use Rattle.statement.proofs.read_all.Given as goal
 
-abbrev pub invariant-loop-turns : goal.invariant-loop-turns
-invariant-loop-turns g l = Reads l.fn.run l.fn.records l.reading l.run l.records l.turns
-
-abbrev pub decreases-loop-turns : goal.decreases-loop-turns
-decreases-loop-turns g l = l.turns
+abbrev pub invariant-loop : goal.invariant-loop
+invariant-loop g l = Reads l.fn.run l.fn.records l.reading l.run l.records l.counter

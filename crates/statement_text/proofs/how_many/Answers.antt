@@ -7,20 +7,20 @@ use native.Mathlib.Omega.{arith}
 use native.Mathlib.Nat.{sub-zero}
 use lib.Dec.{eqb}
 use Rattle.store.specs.declared.Entry.{Entry}
-use Rattle.statement_text.proofs.Lines.{kinds, at_most_one, sum-turn, sum-end}
+use Rattle.statement_text.proofs.Lines.{kinds, one_or_none, sum-turn, sum-end}
 use Rattle.statement_text.proofs.how_many.Goals as goal
 
 pub loop-i-init : goal.loop-i-init
-loop-i-init c = rw sub-zero (omega arith, omega arith, omega arith)
+loop-i-init c = rw sub-zero (omega arith, omega arith)
 
 pub loop-i-preserved : goal.loop-i-preserved
 loop-i-preserved c =
     let a = c.args in
     let x = ap {B = ℕ} (λ (e : Entry). cond (eqb e.kind a.kind) 1 0) c.entry_from-e.ensures in
-    let o = c.one_more-found.ensures in
-    (omega arith, omega (arith, o, at_most_one (eqb c.entry_from-e.result.kind a.kind)), omega (arith, o, sum-turn (kinds a.kind) a.records.now a.n c.loop-i.i c.loop-i.found c.loop-i.invariant.2 c.loop-i-test.true x))
+    let o = one_or_none (eqb c.entry_from-e.result.kind a.kind) in
+    (omega (arith, o.1), omega (arith, o.0, sum-turn (kinds a.kind) a.records.now a.n c.loop-i.i c.loop-i.found c.loop-i.invariant.1 c.loop-i-test.true x))
 
 pub returns : goal.returns
 returns c =
     let a = c.args in
-    sum-end (kinds a.kind) a.records.now a.n c.loop-i.i c.loop-i.found c.loop-i.invariant.2 c.loop-i-test.false
+    sum-end (kinds a.kind) a.records.now a.n c.loop-i.i c.loop-i.found c.loop-i.invariant.1 c.loop-i-test.false

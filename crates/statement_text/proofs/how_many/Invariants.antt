@@ -8,7 +8,4 @@ use Rattle.sheet_entries.specs.Table.{entries_from}
 use Rattle.statement_text.proofs.how_many.Given as goal
 
 abbrev pub invariant-loop-i : goal.invariant-loop-i
-invariant-loop-i l = (l.i ≤ l.n) × (l.found ≤ l.i) × (l.found + how_many l.kind (entries_from (l.n - l.i) (drop (6 * l.i) l.records)) ≡ how_many l.kind (entries_from l.n l.records))
-
-abbrev pub decreases-loop-i : goal.decreases-loop-i
-decreases-loop-i l = l.n - l.i
+invariant-loop-i l = (l.found ≤ l.i) × (l.found + how_many l.kind (entries_from (l.n - l.i) (drop (6 * l.i) l.records)) ≡ how_many l.kind (entries_from l.n l.records))

@@ -8,9 +8,6 @@ use Rattle.statement_text.specs.Lines.{lines_from, count_from}
 use Rattle.statement_text.proofs.measure.Given as goal
 
 abbrev pub invariant-loop-i : goal.invariant-loop-i
-invariant-loop-i l = (l.i ≤ l.n) × (l.len ≤ 149 * l.i) × (l.contacts ≤ l.i)
+invariant-loop-i l = (l.len ≤ 149 * l.i) × (l.contacts ≤ l.i)
     × (l.len + length (lines_from l.run (entries_from l.n l.records) (entries_from (l.n - l.i) (drop (6 * l.i) l.records))) ≡ length (lines_from l.run (entries_from l.n l.records) (entries_from l.n l.records)))
     × (l.contacts + count_from l.run (entries_from (l.n - l.i) (drop (6 * l.i) l.records)) ≡ count_from l.run (entries_from l.n l.records))
-
-abbrev pub decreases-loop-i : goal.decreases-loop-i
-decreases-loop-i l = l.n - l.i

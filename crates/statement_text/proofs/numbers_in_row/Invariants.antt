@@ -12,8 +12,5 @@ use Rattle.contact_checks.proofs.Fields.{ranges}
 use Rattle.statement_text.proofs.numbers_in_row.Given as goal
 
 abbrev pub invariant-loop-i : goal.invariant-loop-i
-invariant-loop-i l = (l.i ≤ l.count) × (8 * l.i ≤ l.p) × (l.p ≤ length l.row) × (l.sum ≤ l.i * 2 ^ 32) × Rooms (λ l. 8) (l.count - l.i) (drop l.p l.row)
-    × (l.sum + size_from l.lowest (ranges (l.count - l.i) (drop l.p l.row)) ≡ size_from l.lowest (items (group range) l.count (drop l.first l.row)))
-
-abbrev pub decreases-loop-i : goal.decreases-loop-i
-decreases-loop-i l = l.count - l.i
+invariant-loop-i l = (l.first + 8 * l.i ≤ length l.row) × (l.sum ≤ l.i * 2 ^ 32) × Rooms (λ l. 8) (l.count - l.i) (drop (l.first + 8 * l.i) l.row)
+    × (l.sum + size_from l.lowest (ranges (l.count - l.i) (drop (l.first + 8 * l.i) l.row)) ≡ size_from l.lowest (items (group range) l.count (drop l.first l.row)))

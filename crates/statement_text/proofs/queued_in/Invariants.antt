@@ -8,7 +8,4 @@ use Rattle.sheet_entries.specs.Table.{entries_from}
 use Rattle.statement_text.proofs.queued_in.Given as goal
 
 abbrev pub invariant-loop-i : goal.invariant-loop-i
-invariant-loop-i l = (l.i ≤ l.n) × (l.found ≤ l.i) × (l.found + queued_of l.id.0 (entries_from (l.n - l.i) (drop (6 * l.i) l.records)) ≡ queued_of l.id.0 (entries_from l.n l.records))
-
-abbrev pub decreases-loop-i : goal.decreases-loop-i
-decreases-loop-i l = l.n - l.i
+invariant-loop-i l = (l.found ≤ l.i) × (l.found + queued_of l.id.0 (entries_from (l.n - l.i) (drop (6 * l.i) l.records)) ≡ queued_of l.id.0 (entries_from l.n l.records))
