@@ -3,13 +3,11 @@
 #![tactic(auto)]
 
 ghost use Rattle.std.specs.Prelude.{◌≡◌};
-ghost use Rattle.rows.specs.Answers.{written_says};
+ghost use Rattle.layout.specs.Says.{written_says};
 ghost use Rattle.c_card.specs.Faces.{leaves, zero_or, length_or, read_leb128, write_leb128, is_utf8, rewrite_card};
 
 use card::Card;
-use data::Leb128Field;
-use layout::question;
-use rows::{Verdict, Written};
+use layout::Question;
 
 // Granted: number is 0, and length is how many bytes were written. Refused: number is the question's, and length is 0.
 #[repr(C)]
@@ -19,25 +17,25 @@ pub struct WriteAnswer {
     pub number: u32,
 }
 
-fn length_or(written: Written) -> WriteAnswer
+fn length_or(written: Result<usize, Question>) -> WriteAnswer
     ensures { result ≡ length_or (written_says written) }
 {
     match written {
-        Written::Length(length) => WriteAnswer { length, number: 0 },
-        Written::Refused(number) => WriteAnswer {
+        Ok(length) => WriteAnswer { length, number: 0 },
+        Err(refusal) => WriteAnswer {
             length: 0,
-            number: number as u32,
+            number: u32::from(refusal.number()),
         },
     }
 }
 
 // 0 where the call was granted, the question's number otherwise: what other crates' faces answer too.
-pub fn zero_or(written: Written) -> u32
+pub fn zero_or(written: Result<usize, Question>) -> u32
     ensures { result ≡ zero_or (written_says written) }
 {
     match written {
-        Written::Length(_) => 0,
-        Written::Refused(number) => number as u32,
+        Ok(_) => 0,
+        Err(question) => u32::from(question.number()),
     }
 }
 
@@ -46,15 +44,15 @@ pub fn sicklestar_read_leb128(input: &[u8], answer: &mut [u64]) -> u32
     ensures { leaves result answer.new ≡ read_leb128 input.now answer.old }
 {
     match data::read_leb128(input) {
-        Leb128Field::Value(value, taken) => {
+        Ok((value, taken)) => {
             if answer.len() < 2 {
-                return question::OUTPUT as u32;
+                return u32::from(Question::Output.number());
             }
-            answer[0] = value as u64;
+            answer[0] = u64::from(value);
             answer[1] = taken as u64;
-            return 0;
+            0
         }
-        Leb128Field::Refused(number) => return number as u32,
+        Err(refusal) => u32::from(refusal.number()),
     }
 }
 
@@ -76,10 +74,8 @@ pub fn sicklestar_utf8(name: &[u8]) -> u32
 pub fn sicklestar_card(input: &[u8], out: &mut [u8]) -> u32
     ensures { leaves result out.new ≡ rewrite_card input.now out.old }
 {
-    let decoded = Card::decode(input);
-    let verdict = decoded.verdict;
-    if let Verdict::Refused(number) = verdict {
-        return number as u32;
+    match Card::decode(input) {
+        Ok(card) => zero_or(card.encode(out)),
+        Err(refusal) => u32::from(refusal.number()),
     }
-    zero_or(decoded.card.encode(out))
 }

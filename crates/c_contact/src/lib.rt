@@ -7,16 +7,14 @@ ghost use Rattle.contact.specs.Contact.{lists_before, lists_after};
 ghost use Rattle.rewrite.specs.Rewrite.{rewrites};
 ghost use Rattle.c_contact.specs.Faces.{check_number, leaves, shown};
 
-use rows::Verdict;
-
 // Whether a contact row is accepted; nothing is copied.
 #[unsafe(no_mangle)]
 pub extern "C" fn sicklestar_check_contact(version: u32, row: &[u8]) -> u32
     ensures { result ≡ check_number version row.now }
 {
     match contact::ask_contact(version, row) {
-        Verdict::Accepted => return 0,
-        Verdict::Refused(number) => return number as u32,
+        Ok(()) => 0,
+        Err(refusal) => u32::from(refusal.number()),
     }
 }
 

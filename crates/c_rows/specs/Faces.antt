@@ -5,8 +5,8 @@ use Rattle.layout.specs.Form.{flag_byte}
 use Rattle.layout.specs.Write.{Written, wrote, refuses, Left, stored}
 use Rattle.c_card.specs.Faces.{zero_or}
 use Rattle.received.specs.Lent.{received_in, plan_of, list_after}
-use Rattle.received.specs.declared.Planned.{Planned}
-use Rattle.received.specs.declared.Planned.TheVariants.{Change, Refused}
+use Rattle.layout.specs.Layout.{Answer, accepted, refused_by}
+use Rattle.received.specs.declared.Change.{Change}
 
 -- the number answered, and both lent lists whole
 pub record Covered : Type 0 where
@@ -18,9 +18,9 @@ abbrev pub covered : ℕ → List ℕ → List ℕ → Covered
 covered number above answer = record { number = number; above = above; answer = answer }
 
 -- the answer's places: contiguous, how many ranges lie above it, whether it moved, how many numbers are new
-abbrev pub answered : Planned → List ℕ → Left
-answered (Change c) answer = stored (c.contiguous ∷ c.count ∷ flag_byte c.moved ∷ c.added ∷ []) answer
-answered (Refused q) answer = record { answer = refuses q; out = answer }
+abbrev pub answered : Answer Change → List ℕ → Left
+answered (accepted c) answer = stored (c.contiguous ∷ c.count ∷ flag_byte c.moved ∷ c.added ∷ []) answer
+answered (refused_by q) answer = record { answer = refuses q; out = answer }
 
 -- a refused call changes neither list
 abbrev pub after_or : Written → List ℕ → List ℕ → List ℕ

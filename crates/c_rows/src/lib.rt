@@ -8,12 +8,12 @@ ghost use Rattle.layout.specs.Write.{wrote, writes};
 ghost use Rattle.rows.specs.Rows.{device, queued, courier};
 ghost use Rattle.numbers.specs.Ranges.{contains, covers};
 ghost use Rattle.received.specs.Lent.{received_in};
-ghost use Rattle.received.specs.declared.Planned.TheVariants as planned;
+ghost use Rattle.layout.specs.Layout.{accepted};
 ghost use Rattle.c_card.specs.Faces.{leaves, shown, zero_or};
 ghost use Rattle.c_rows.specs.Faces.{covered, answered, insert_range};
 
-use layout::question;
-use received::{Change, Planned};
+use layout::Question;
+use received::Change;
 
 // How many places of its answer a cover fills.
 const PLACES: usize = 4;
@@ -42,13 +42,6 @@ pub extern "C" fn sicklestar_courier(version: u32, row: &[u8], out: &mut [u8]) -
     c_card::zero_or(rewrite::rewrite_courier(version, row, out))
 }
 
-// 1 or 0.
-fn flag(yes: bool) -> u32
-    ensures { result ≡ flag_byte yes }
-{
-    if yes { 1 } else { 0 }
-}
-
 // Whether a number is covered: 1 or 0.
 #[unsafe(no_mangle)]
 pub extern "C" fn sicklestar_contains(
@@ -59,7 +52,7 @@ pub extern "C" fn sicklestar_contains(
 ) -> u32
     ensures { result ≡ flag_byte (contains (received_in contiguous count above.now) msgno) }
 {
-    flag(received::contains(contiguous, above, count, msgno))
+    u32::from(received::contains(contiguous, above, count, msgno))
 }
 
 // Whether from..to is covered: 1 or 0.
@@ -73,18 +66,17 @@ pub extern "C" fn sicklestar_covers(
 ) -> u32
     ensures { result ≡ flag_byte (covers (received_in contiguous count above.now) from to) }
 {
-    flag(received::covers(contiguous, above, count, from, to))
+    u32::from(received::covers(contiguous, above, count, from, to))
 }
 
 // Writes contiguous, how many ranges lie above it, whether it moved (1 or 0), and how many numbers are new to the answer's first four places.
 fn put_change(answer: &mut [u64], change: Change)
     requires { 4 ≤ length answer.old }
-    ensures { record { answer = wrote 4; out = answer.exit.now } ≡ answered (planned.Change change) answer.entry.now }
+    ensures { record { answer = wrote 4; out = answer.exit.now } ≡ answered (accepted change) answer.entry.now }
 {
-    let moved = flag(change.moved);
-    answer[0] = change.contiguous as u64;
+    answer[0] = u64::from(change.contiguous);
     answer[1] = change.count as u64;
-    answer[2] = moved as u64;
+    answer[2] = u64::from(change.moved);
     answer[3] = change.added;
 }
 
@@ -103,16 +95,16 @@ pub extern "C" fn sicklestar_insert(
 {
     // without room for the answer nothing is covered, and 38 is asked first
     if answer.len() < PLACES {
-        match received::plan(contiguous, above, count, from, to) {
-            Planned::Refused(number) => return number as u32,
-            Planned::Change(_) => return question::OUTPUT as u32,
-        }
+        return match received::plan(contiguous, above, count, from, to) {
+            Ok(_) => u32::from(Question::Output.number()),
+            Err(refusal) => u32::from(refusal.number()),
+        };
     }
     match received::insert(contiguous, above, count, from, to) {
-        Planned::Refused(number) => return number as u32,
-        Planned::Change(change) => {
+        Ok(change) => {
             put_change(answer, change);
-            return 0;
+            0
         }
+        Err(refusal) => u32::from(refusal.number()),
     }
 }

@@ -1,27 +1,26 @@
 -- `c_rows::sicklestar_insert` meets its contract: where the answer has no room `plan` says which question refuses, else `insert` and `put_change` leave what the definition has.
--- Assumes nothing.
 use Rattle.c_rows.proofs.Cover.{refused, kept, short, granted}
 use Rattle.c_rows.proofs.sicklestar_insert.Goals as goal
 
-pub returns-in-Refused : goal.returns-in-Refused
-returns-in-Refused c =
+pub returns-in-Ok : goal.returns-in-Ok
+returns-in-Ok c =
     let a = c.args in
-    refused a.contiguous a.count a.from a.to a.above.now a.answer.now c.plan.ensures c.in-Refused.is
+    rw (c.from.ensures, c.number.ensures) (short a.contiguous a.count a.from a.to a.above.now a.answer.now c.in-Ok.ensures c.if-answer-lt-PLACES.true)
 
-pub returns-in-Change : goal.returns-in-Change
-returns-in-Change c =
+pub returns-in-Err : goal.returns-in-Err
+returns-in-Err c =
     let a = c.args in
-    short a.contiguous a.count a.from a.to a.above.now a.answer.now c.plan.ensures c.in-Change.is c.if-answer-lt-PLACES.true
+    rw (c.from-in-Err.ensures, c.number-in-Err.ensures) (refused a.contiguous a.count a.from a.to a.above.now a.answer.now c.in-Err.ensures)
 
 -- what `insert` answers, and the list afterwards
-pub returns-in-Refused-insert : goal.returns-in-Refused-insert
-returns-in-Refused-insert c =
+pub returns-in-Ok-insert : goal.returns-in-Ok-insert
+returns-in-Ok-insert c =
     let a = c.args in
-    rw c.insert.ensures.above_after
-    (kept a.contiguous a.count a.from a.to a.above.now a.answer.now c.insert.ensures.value c.in-Refused-insert.is)
+    let e = c.in-Ok-insert.ensures in
+    rw e.above_after (granted a.contiguous a.count a.from a.to a.above.now a.answer.now e.value c.put_change.ensures)
 
-pub returns-in-Change-insert : goal.returns-in-Change-insert
-returns-in-Change-insert c =
+pub returns-in-Err-insert : goal.returns-in-Err-insert
+returns-in-Err-insert c =
     let a = c.args in
-    rw c.insert.ensures.above_after
-    (granted a.contiguous a.count a.from a.to a.above.now a.answer.now c.insert.ensures.value c.in-Change-insert.is c.put_change.ensures)
+    let e = c.in-Err-insert.ensures in
+    rw (c.from-in-Err-insert.ensures, c.number-in-Err-insert.ensures, e.above_after) (kept a.contiguous a.count a.from a.to a.above.now a.answer.now e.value)
