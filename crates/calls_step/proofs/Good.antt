@@ -7,8 +7,8 @@ use mathlib.Core.Path.{◌≡◌, refl, sym, ap}
 use lib.ListN.{length, drop}
 use Rattle.layout.specs.RowLaws.{Bytes}
 use Rattle.store.specs.declared.Entry.{Entry}
-use Rattle.store.specs.declared.Asked.{Asked}
-use Rattle.store.specs.declared.Asked.TheVariants as asks
+use Rattle.store.specs.Rounds.{Asked}
+use Rattle.store.specs.Rounds as asks
 use Rattle.store.specs.Store as store
 use Rattle.store.specs.Store.{store_of, asked, found, outcome}
 use Rattle.ledger.specs.Call.{Answer, is_granted, refused, refused_at}

@@ -18,9 +18,8 @@ use Rattle.contact_image.specs.Row.{counted, image, contact_in, ContactTyped, Li
 use Rattle.contact_image.proofs.Counts.{all-counted}
 use Rattle.contact_laws.proofs.RoundTrip.{image-value}
 use Rattle.store.specs.declared.Entry.{Entry}
-use Rattle.store.specs.declared.Asked.{Asked}
-use Rattle.store.specs.declared.Asked.TheVariants as asks
-use Rattle.store.specs.Rounds.{ask, first_no, turns, rounds}
+use Rattle.store.specs.Rounds.{Asked, ask, first_no, turns, rounds}
+use Rattle.store.specs.Rounds as asks
 use Rattle.store.specs.Kinds.{CONTACT, contact, kind_of, layout_of, Seen, nothing, seen_of, seen_in, refusal_in}
 use Rattle.store.specs.Store as store
 use Rattle.store.specs.Store.{Store, store_of, replaced_in, entry_at, is_of, part_of, answer_of, seen, order, bounds, across, begun, asked, before, going}

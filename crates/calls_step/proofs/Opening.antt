@@ -19,7 +19,7 @@ use Rattle.rows.proofs.Tests.{either}
 use Rattle.contact.specs.Contact.{Lists, contact_of, long_enough, filled}
 use Rattle.contact.specs.declared.Contact.{Contact as Struct}
 use Rattle.store.specs.declared.Entry.{Entry}
-use Rattle.store.specs.declared.Asked.TheVariants.{Going}
+use Rattle.store.specs.Rounds.{Going}
 use Rattle.store.specs.Kinds.{CONTACT}
 use Rattle.store.specs.Store.{entry_at, is_of, part_of, store_passes, opened_in, asked, before, contact_in}
 use Rattle.store.proofs.Tests.{truth, holds, found-any}

@@ -24,8 +24,8 @@ use Rattle.numbers.specs.Lists.{within}
 use Rattle.contact_image.specs.Row.{image}
 use Rattle.contact_laws.proofs.Back.{fits-of}
 use Rattle.store.specs.declared.Entry.{Entry}
-use Rattle.store.specs.declared.Asked.{Asked}
-use Rattle.store.specs.declared.Asked.TheVariants as asks
+use Rattle.store.specs.Rounds.{Asked}
+use Rattle.store.specs.Rounds as asks
 use Rattle.store.specs.Kinds.{CONTACT, kind_of, layout_of, refusal_in}
 use Rattle.store.specs.Store as store
 use Rattle.store.specs.Store.{store_of, part_of, store_passes, asked, found, outcome, contact_in}

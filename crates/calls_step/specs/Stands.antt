@@ -12,7 +12,7 @@ use Rattle.received.specs.Lent.{flat}
 use Rattle.numbers.specs.Sets.{Records}
 use Rattle.contact.specs.Contact.{Lists, contact_of}
 use Rattle.store.specs.declared.Entry.{Entry}
-use Rattle.store.specs.declared.Asked.TheVariants.{Going}
+use Rattle.store.specs.Rounds.{Going}
 use Rattle.store.specs.Kinds.{CONTACT}
 use Rattle.store.specs.Store.{store_of, opened_in, asked, before}
 use Rattle.calls_step.specs.declared.Mark.TheVariants.{Fresh, Restored, Opened}

@@ -11,9 +11,7 @@ use lib.Dec.{T, leb, ltb, eqb, eqb→eq}
 use Rattle.layout.specs.Questions.{CONTACT_BELOW_NEXT, CONTACT_NEW, DEPOSITOR, SLOT_NEW, SLOT_BELOW_LAST}
 use Rattle.rows.specs.Checks.{any}
 use Rattle.store.specs.declared.Entry.{Entry}
-use Rattle.store.specs.declared.Asked.{Asked}
-use Rattle.store.specs.declared.Asked.TheVariants.{Going, Refused}
-use Rattle.store.specs.Rounds.{ask, first_no, Round, turns, rounds}
+use Rattle.store.specs.Rounds.{Asked, Going, Refused, ask, first_no, Round, turns, rounds}
 use Rattle.store.specs.Kinds.{CONTACT, QUEUED, COURIER, Kind, device, contact, queued, courier, unknown, kind_of, Seen, contact_sight}
 use Rattle.store.specs.Store.{store_of, entry_at, is_of, seen, before, contact_before, next_in, last_slot, low_depositor, across_as, order, bounds, begun, going}
 use Rattle.store.specs.Omitted.{read_omitted, seen_omitted, across_omitted, asked_omitted}

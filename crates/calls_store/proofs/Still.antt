@@ -24,14 +24,12 @@ use Rattle.contact_image.specs.Row.{counted, image, contact_in, asked_contact, C
 use Rattle.contact_image.proofs.Counts.{all-counted}
 use Rattle.contact_laws.proofs.RoundTrip.{image-consistent}
 use Rattle.store.specs.declared.Entry.{Entry}
-use Rattle.store.specs.declared.Omitted.{Omitted}
+use Rattle.store.specs.Omitted.{Omitted, is_omitted, omitted_seen, seen_omitted, asked_omitted}
 use Rattle.store.specs.declared.Omitted.TheVariants as left
-use Rattle.store.specs.declared.Asked.{Asked}
-use Rattle.store.specs.declared.Asked.TheVariants as so
-use Rattle.store.specs.Rounds.{ask}
+use Rattle.store.specs.Rounds.{Asked, ask}
+use Rattle.store.specs.Rounds as so
 use Rattle.store.specs.Kinds.{CONTACT}
 use Rattle.store.specs.Store.{is_of, before, next_in, slots_below, going, replaced_passes}
-use Rattle.store.specs.Omitted.{is_omitted, omitted_seen, seen_omitted, asked_omitted}
 use Rattle.store.proofs.Tests.{all_yes}
 use Rattle.restore.specs.declared.Restored.{Restored}
 use Rattle.restore.specs.Restored.{granting, questioned, is_granted}

@@ -6,7 +6,7 @@ use Rattle.contact.specs.Contact.{Lists}
 use Rattle.contact.specs.declared.Contact.{Contact}
 use Rattle.contact_image.specs.Row.{counted, image, asked_contact, ContactTyped, ListsTyped}
 use Rattle.store.specs.declared.Entry.{Entry}
-use Rattle.store.specs.declared.Omitted.{Omitted}
+use Rattle.store.specs.Omitted.{Omitted}
 use Rattle.store.specs.declared.Omitted.TheVariants as left
 use Rattle.store.specs.Store.{store_passes, replaced_passes}
 use Rattle.calls_step.specs.Omitted.{is_length}

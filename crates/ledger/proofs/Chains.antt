@@ -19,8 +19,8 @@ use Rattle.numbers.specs.Ranges.{is_range}
 use Rattle.numbers.specs.Lists.{CHAIN_PLACE, limit_of}
 use Rattle.numbers.specs.Sets.{add, record_of}
 use Rattle.store.specs.declared.Entry.{Entry}
-use Rattle.store.specs.declared.Asked.{Asked}
-use Rattle.store.specs.declared.Asked.TheVariants as asks
+use Rattle.store.specs.Rounds.{Asked}
+use Rattle.store.specs.Rounds as asks
 use Rattle.store.specs.Store.{store_of, contact_in, part_of, store_passes, asked, found, outcome}
 use Rattle.store.proofs.Parts.{bytes-part}
 use Rattle.ledger.specs.Call.{Call, restore, opens, cover, contains, covers, take, statement, write, Lent}

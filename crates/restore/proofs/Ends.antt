@@ -7,12 +7,11 @@ use mathlib.Core.Path.{◌≡◌, refl, ap, subst}
 use lib.Dec.{T}
 use lib.ListN.{length}
 use Rattle.store.specs.declared.Entry.{Entry}
-use Rattle.store.specs.declared.Omitted.{Omitted}
+use Rattle.store.specs.Omitted.{Omitted, is_omitted, omitted_seen, asked_omitted}
 use Rattle.store.specs.declared.Omitted.TheVariants.{Nothing}
-use Rattle.store.specs.declared.Asked.{Asked}
-use Rattle.store.specs.declared.Asked.TheVariants as so
+use Rattle.store.specs.Rounds.{Asked}
+use Rattle.store.specs.Rounds as so
 use Rattle.store.specs.Store.{store_of, seen, next_in, slots_below, asked, found, outcome, restore, going}
-use Rattle.store.specs.Omitted.{is_omitted, omitted_seen, asked_omitted}
 use Rattle.restore_across.specs.declared.Across.{Across}
 use Rattle.restore_across.specs.declared.Across.TheVariants.{Going, Refused}
 use Rattle.restore_across.specs.At.{sight, At}

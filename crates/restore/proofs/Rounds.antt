@@ -2,9 +2,8 @@
 -- Assumes nothing.
 use Rattle.std.proofs.Common.{◌≡◌, ℕ, suc, ◌+◌, ◌-◌, ◌<◌, List, refl, ap, ◌∙◌, arith, add-one}
 use Rattle.store.specs.declared.Entry.{Entry}
-use Rattle.store.specs.declared.Omitted.{Omitted}
-use Rattle.store.specs.declared.Asked.{Asked}
-use Rattle.store.specs.Rounds.{Round, turn, turns}
+use Rattle.store.specs.Omitted.{Omitted}
+use Rattle.store.specs.Rounds.{Asked, Round, turn, turns}
 use Rattle.store.specs.Store.{entry_at}
 use Rattle.restore_rounds.specs.Rounds.{round_of, round_asks}
 use Rattle.restore_rounds.proofs.Laws.{asks-is}

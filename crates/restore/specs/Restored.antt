@@ -3,11 +3,10 @@
 use Rattle.std.specs.Prelude.{ℕ, List, Bool, true, false, cond, length, eqb}
 use Rattle.layout.specs.Questions.{ORDER}
 use Rattle.store.specs.declared.Entry.{Entry}
-use Rattle.store.specs.declared.Omitted.{Omitted}
-use Rattle.store.specs.declared.Asked.{Asked}
-use Rattle.store.specs.declared.Asked.TheVariants as asked
+use Rattle.store.specs.Omitted.{Omitted, is_omitted, omitted_seen, seen_omitted, asked_omitted}
+use Rattle.store.specs.Rounds.{Asked}
+use Rattle.store.specs.Rounds as asked
 use Rattle.store.specs.Store.{Outcome, granted, refused, next_in, slots_below}
-use Rattle.store.specs.Omitted.{is_omitted, omitted_seen, seen_omitted, asked_omitted}
 use Rattle.restore_across.specs.declared.Across.{Across}
 use Rattle.restore_across.specs.declared.Across.TheVariants as across
 use Rattle.restore.specs.declared.Restored.{Restored}

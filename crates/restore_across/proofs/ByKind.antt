@@ -11,8 +11,8 @@ use lib.Dec.{leb, ltb, eqb, T, ltb→lt, nltb→le, eqb→eq}
 use Rattle.layout.specs.Questions.{CONTACT_BELOW_NEXT, CONTACT_NEW, QUEUED_CONTACT, QUEUED_MSGNO, QUEUED_UNACKED, QUEUED_NEW, DEPOSITOR, SLOT_NEW, SLOT_BELOW_LAST}
 use Rattle.rows.specs.Checks.{any}
 use Rattle.store.specs.declared.Entry.{Entry}
-use Rattle.store.specs.declared.Omitted.{Omitted}
-use Rattle.store.specs.declared.Asked.TheVariants as so
+use Rattle.store.specs.Omitted.{Omitted}
+use Rattle.store.specs.Rounds as so
 use Rattle.store.specs.Rounds.{ask, first_no, turn, turns}
 use Rattle.store.specs.Kinds.{DEVICE, CONTACT, QUEUED, COURIER, Kind, device, contact, queued, courier, unknown, kind_of, Seen}
 use Rattle.store.specs.Store.{entry_at, is_of, part_of, before, contact_before, next_in, low_depositor, last_slot, slots_below, across_as}

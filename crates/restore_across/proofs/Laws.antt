@@ -9,10 +9,9 @@ use native.Mathlib.Numerals.{add-one}
 use lib.ListN.{length}
 use borrow.Author.Tests.{lt-ltb}
 use Rattle.store.specs.declared.Entry.{Entry}
-use Rattle.store.specs.declared.Omitted.{Omitted}
-use Rattle.store.specs.declared.Asked.{Asked}
-use Rattle.store.specs.declared.Asked.TheVariants as so
-use Rattle.store.specs.Rounds.{turn}
+use Rattle.store.specs.Omitted.{Omitted}
+use Rattle.store.specs.Rounds.{Asked, turn}
+use Rattle.store.specs.Rounds as so
 use Rattle.store.specs.Kinds.{DEVICE, CONTACT, kind_of, nothing}
 use Rattle.store.specs.Store.{entry_at, part_of}
 use Rattle.store.specs.Duplicates.{first_duplicate}

@@ -27,9 +27,8 @@ use Rattle.contact.specs.declared.ContactAt.{ContactAt}
 use Rattle.contact.proofs.Placed.{placed}
 use Rattle.contact_known.specs.Known.{Sent}
 use Rattle.contact_known.specs.declared.SentAt.{SentAt}
-use Rattle.store.specs.declared.Omitted.{Omitted}
+use Rattle.store.specs.Omitted.{Omitted, omitted_seen}
 use Rattle.store.specs.declared.Omitted.TheVariants as left
-use Rattle.store.specs.Omitted.{omitted_seen}
 use Rattle.restore_across.specs.Owner.{contact_seen, owner_at, owner_read, owner_in, owner_omitted, OwnerStands, OwnerIn}
 use Rattle.restore_across.specs.declared.Owner.{Owner}
 

@@ -11,13 +11,11 @@ use lib.Dec.{leb, leb→le, eqb→eq}
 use Rattle.layout.specs.Questions.{ORDER}
 use Rattle.layout.specs.Layout.{read_row}
 use Rattle.store.specs.declared.Entry.{Entry}
-use Rattle.store.specs.declared.Omitted.{Omitted}
-use Rattle.store.specs.declared.Asked.{Asked}
-use Rattle.store.specs.declared.Asked.TheVariants as so
-use Rattle.store.specs.Rounds.{ask, Round, turn, turns, Quiet}
+use Rattle.store.specs.Omitted.{Omitted, is_omitted, read_omitted}
+use Rattle.store.specs.Rounds.{Asked, ask, Round, turn, turns, Quiet}
+use Rattle.store.specs.Rounds as so
 use Rattle.store.specs.Kinds.{DEVICE, CONTACT, COURIER, kind_of, layout_of, refusal_in}
 use Rattle.store.specs.Store.{entry_at, part_of, store_of, in_order, order, bounds, begun}
-use Rattle.store.specs.Omitted.{is_omitted, read_omitted}
 use Rattle.store.proofs.Rounds.{rounds-going, rounds-quiet}
 use Rattle.store.proofs.Tests.{both, all_yes}
 use Rattle.store.proofs.Duplicates.{across_by}

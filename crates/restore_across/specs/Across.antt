@@ -7,10 +7,9 @@ use Rattle.layout.specs.Layout.{read_row}
 use Rattle.rows.specs.Checks.{any}
 use Rattle.rows.specs.Rows as rows
 use Rattle.store.specs.declared.Entry.{Entry}
-use Rattle.store.specs.declared.Omitted.{Omitted}
-use Rattle.store.specs.declared.Asked.{Asked}
-use Rattle.store.specs.declared.Asked.TheVariants as so
-use Rattle.store.specs.Rounds.{ask, first_no}
+use Rattle.store.specs.Omitted.{Omitted}
+use Rattle.store.specs.Rounds.{Asked, ask, first_no}
+use Rattle.store.specs.Rounds as so
 use Rattle.store.specs.Kinds.{CONTACT, QUEUED, Kind, device, contact, queued, courier, unknown, kind_of, seen_of}
 use Rattle.store.specs.Store.{entry_at, is_of, part_of, last_slot}
 use Rattle.store.specs.declared.Wanted.{Wanted}

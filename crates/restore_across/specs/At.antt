@@ -2,13 +2,11 @@
 -- Assumes nothing.
 use Rattle.std.specs.Prelude.{ℕ, ◌<◌, List, [], ◌∷◌, ◌≡◌, length}
 use Rattle.store.specs.declared.Entry.{Entry}
-use Rattle.store.specs.declared.Omitted.{Omitted}
-use Rattle.store.specs.declared.Asked.{Asked}
-use Rattle.store.specs.declared.Asked.TheVariants as so
-use Rattle.store.specs.Rounds.{turns, rounds}
+use Rattle.store.specs.Omitted.{Omitted, is_omitted, omitted_seen, read_omitted, seen_omitted, across_omitted}
+use Rattle.store.specs.Rounds.{Asked, turns, rounds}
+use Rattle.store.specs.Rounds as so
 use Rattle.store.specs.Kinds.{CONTACT, Seen}
 use Rattle.store.specs.Store.{entry_at, part_of, store_of, next_in, slots_below, order, bounds, begun}
-use Rattle.store.specs.Omitted.{is_omitted, omitted_seen, read_omitted, seen_omitted, across_omitted}
 use Rattle.restore_across.specs.declared.Progress.{Progress}
 use Rattle.restore_across.specs.declared.Across.{Across}
 use Rattle.restore_across.specs.declared.Across.TheVariants.{Going, Refused}

@@ -11,10 +11,9 @@ use Rattle.contact_lists.specs.Lists.{items, Stands}
 use Rattle.contact.specs.Check.{contact_at}
 use Rattle.contact.specs.declared.ContactAt.{ContactAt}
 use Rattle.store.specs.declared.Entry.{Entry}
-use Rattle.store.specs.declared.Omitted.{Omitted}
+use Rattle.store.specs.Omitted.{Omitted, is_omitted, omitted_seen}
 use Rattle.store.specs.Kinds.{contact, Seen, nothing, contact_sight, seen_of, refusal_in}
 use Rattle.store.specs.Store.{part_of}
-use Rattle.store.specs.Omitted.{is_omitted, omitted_seen}
 use Rattle.restore_across.specs.declared.Owner.{Owner}
 
 -- what is seen of a contact's row

@@ -9,10 +9,9 @@ use native.Mathlib.Numerals.{unary_clauses}
 use lib.Dec.{eqb}
 use Rattle.layout.specs.Questions.{ORDER, BOUNDS}
 use Rattle.store.specs.declared.Entry.{Entry}
-use Rattle.store.specs.declared.Omitted.{Omitted}
+use Rattle.store.specs.Omitted.{Omitted, is_omitted, read_omitted}
 use Rattle.store.specs.Rounds.{ask, first_no, Round}
 use Rattle.store.specs.Store.{entry_at, store_of, in_order, order, bounds}
-use Rattle.store.specs.Omitted.{is_omitted, read_omitted}
 use Rattle.restore_rounds.specs.Rounds.{follows, round_of, round_asks}
 
 follows_is : (es : List Entry) (i : ℕ) → follows i (entry_at es (i - 1)).kind (entry_at es i).kind ≡ in_order es i

@@ -6,11 +6,10 @@ use Rattle.layout.specs.declared.question.Question.{Question}
 use Rattle.layout.specs.Questions.{number_of, ORDER, BOUNDS, VERSION}
 use Rattle.layout.specs.Layout.{read_row}
 use Rattle.store.specs.declared.Entry.{Entry}
-use Rattle.store.specs.declared.Omitted.{Omitted}
+use Rattle.store.specs.Omitted.{Omitted, is_omitted, read_omitted}
 use Rattle.store.specs.Rounds.{ask, first_no, Round}
 use Rattle.store.specs.Kinds.{DEVICE, CONTACT, COURIER, kind_of, layout_of, refusal_in}
 use Rattle.store.specs.Store.{store_of, within, part_of, order, bounds}
-use Rattle.store.specs.Omitted.{is_omitted, read_omitted}
 
 -- the question that an answer names
 abbrev pub verdict_in : Result (Unit {0}) Question → Option ℕ

@@ -19,8 +19,8 @@ use Rattle.received.proofs.Proved as numbers
 use Rattle.numbers.specs.Lists.{within}
 use Rattle.contact_laws.proofs.Back.{fits-of}
 use Rattle.store.specs.declared.Entry.{Entry}
-use Rattle.store.specs.declared.Asked.{Asked}
-use Rattle.store.specs.declared.Asked.TheVariants as asks
+use Rattle.store.specs.Rounds.{Asked}
+use Rattle.store.specs.Rounds as asks
 use Rattle.store.specs.Store as store
 use Rattle.store.specs.Store.{store_of, entry_at, ContactRow, Found, asked, found, outcome}
 use Rattle.calls_step.specs.declared.Mark.TheVariants.{Fresh, Restored}

@@ -14,7 +14,7 @@ use Rattle.layout.specs.RowLaws.{Bytes}
 use Rattle.rows.specs.Values.{Contact}
 use Rattle.rows.specs.Rows as rows
 use Rattle.store.specs.declared.Entry.{Entry}
-use Rattle.store.specs.declared.Asked.TheVariants.{Going}
+use Rattle.store.specs.Rounds.{Going}
 use Rattle.store.specs.Kinds.{CONTACT, contact, kind_of}
 use Rattle.store.specs.Store.{store_of, entry_at, is_of, part_of, ContactRow, contacts_as, contacts_in, answer_of, asked, contact_in}
 use Rattle.store.proofs.Parts.{bytes-part}

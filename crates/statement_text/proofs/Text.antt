@@ -13,8 +13,7 @@ use Rattle.rows.specs.Values.{Contact}
 use Rattle.rows.specs.Rows as rows
 use Rattle.numbers.specs.Decimal.{fields_text}
 use Rattle.store.specs.Line.{queued_of}
-use Rattle.store.specs.declared.Asked.{Asked}
-use Rattle.store.specs.declared.Asked.TheVariants.{Going, Refused}
+use Rattle.store.specs.Rounds.{Asked, Going, Refused}
 use Rattle.store.specs.declared.Entry.{Entry}
 use Rattle.store.specs.Kinds.{CONTACT, Kind, device, contact, queued, courier, unknown, kind_of, ValueOf, layout_of}
 use Rattle.store.specs.Store.{store_of, part_of, ContactRow, contacts_as, contacts_in, answer_of, Found, found, granted, refused, outcome, asked, restore}

@@ -13,8 +13,7 @@ use Rattle.layout.specs.Questions.{ORDER, BOUNDS}
 use Rattle.layout.specs.Layout.{Answer, accepted, refused_by, read_row}
 use Rattle.layout.specs.RowLaws.{Bytes}
 use Rattle.store.specs.declared.Entry.{Entry}
-use Rattle.store.specs.declared.Asked.TheVariants.{Going, Refused}
-use Rattle.store.specs.Rounds.{ask, first_no, Quiet}
+use Rattle.store.specs.Rounds.{Going, Refused, ask, first_no, Quiet}
 use Rattle.store.specs.Kinds.{DEVICE, CONTACT, COURIER, Kind, kind_of, ValueOf, layout_of, Seen, seen_of, refusal_in}
 use Rattle.store.specs.Store.{Store, entry_at, within, answer_of, seen, in_order, across_as, across, all_rounds, begun, asked}
 use Rattle.store.specs.Accepted.{Across, Follows, Shows, Accepted}

@@ -12,8 +12,7 @@ use Rattle.layout.specs.Layout as layout
 use Rattle.layout.specs.RowLaws.{Alike}
 use Rattle.layout.proofs.Hide.{length-hide, hide-hide, hide-outside}
 use Rattle.store.specs.declared.Entry.{Entry}
-use Rattle.store.specs.declared.Asked.{Asked}
-use Rattle.store.specs.declared.Asked.TheVariants.{Going, Refused}
+use Rattle.store.specs.Rounds.{Asked, Going, Refused}
 use Rattle.store.specs.Kinds.{Kind, device, contact, queued, courier, unknown, kind_of, ValueOf, layout_of}
 use Rattle.store.specs.Store.{Store, entry_at, part_of, store_of, answer_of, seen, asked, ContactRow, contacts_as, contacts_in, found, outcome, restore}
 use Rattle.store.specs.Veiled.{veiled_in, VeilEqual, ContactsAlike, FoundAlike, OutcomesAlike, copied}

@@ -10,8 +10,7 @@ use lib.ListN.{length}
 use lib.Dec.{eqb, T}
 use Rattle.layout.specs.Questions.{ORDER, BOUNDS}
 use Rattle.store.specs.declared.Entry.{Entry}
-use Rattle.store.specs.declared.Asked.TheVariants.{Going, Refused}
-use Rattle.store.specs.Rounds.{ask, first_no}
+use Rattle.store.specs.Rounds.{Going, Refused, ask, first_no}
 use Rattle.store.specs.Kinds.{QUEUED, kind_of, Seen, refusal_in}
 use Rattle.store.specs.Store.{Store, entry_at, within, answer_of, seen, next_in, across_as, read, all_rounds, begun, asked}
 use Rattle.store.specs.Accepted.{NotIn, Owner, Twice, Across, Follows}

@@ -10,9 +10,7 @@ use native.Mathlib.Omega.{arith}
 use lib.ListN.{length}
 use lib.Dec.{eqb, T, eqb-suc-zero}
 use Rattle.layout.specs.Questions.{ORDER}
-use Rattle.store.specs.declared.Asked.{Asked}
-use Rattle.store.specs.declared.Asked.TheVariants.{Going, Refused}
-use Rattle.store.specs.Rounds.{Question, first_no, Round, rounds, FirstIn, First}
+use Rattle.store.specs.Rounds.{Asked, Going, Refused, Question, first_no, Round, rounds, FirstIn, First}
 use Rattle.store.specs.Store.{Store, all_rounds, asked}
 use Rattle.store.specs.Accepted.{NoEntries, FirstNo}
 use Rattle.store.proofs.Rounds.{some≢none, refused-first, first-refused, rounds-refused}

@@ -14,8 +14,7 @@ use Rattle.layout.specs.RowLaws.{Valid}
 use Rattle.rows.specs.Values.{Contact}
 use Rattle.rows.specs.Rows as rows
 use Rattle.store.specs.declared.Entry.{Entry}
-use Rattle.store.specs.declared.Asked.TheVariants.{Going}
-use Rattle.store.specs.Rounds.{ask}
+use Rattle.store.specs.Rounds.{Going, ask}
 use Rattle.store.specs.Kinds.{CONTACT, kind_of, layout_of, seen_of, refusal_in}
 use Rattle.store.specs.Store.{Store, entry_at, is_of, within, part_of, opened_in, answer_of, seen, read, asked}
 use Rattle.store.proofs.Rounds.{some≢none}

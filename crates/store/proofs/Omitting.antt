@@ -7,16 +7,15 @@ use mathlib.Core.Path.{◌≡◌, refl, ap, ◌∙◌}
 use lib.Dec.{eqb}
 use Rattle.layout.specs.Layout.{read_row}
 use Rattle.store.specs.declared.Entry.{Entry}
-use Rattle.store.specs.declared.Omitted.{Omitted}
-use Rattle.store.specs.declared.Omitted.TheVariants.{Nothing, Contact}
+use Rattle.store.specs.Omitted.{Omitted, is_omitted, omitted_seen, seen_omitted}
+use Rattle.std.specs.Prelude.{None, Some}
 use Rattle.store.specs.Kinds.{CONTACT, Kind, contact, kind_of, layout_of, Seen, seen_of}
 use Rattle.store.specs.Store.{store_of, part_of, seen}
-use Rattle.store.specs.Omitted.{is_omitted, omitted_seen, seen_omitted}
 
 -- only a contact is left out
 pub not-omitted : (omitted : Omitted) (e : Entry) (k : ℕ) → e.kind ≡ k → eqb k CONTACT ≡ false → is_omitted omitted e ≡ false
-not-omitted Nothing e k is other = refl
-not-omitted (Contact id sent) e k is other = ap (λ (n : ℕ). eqb n CONTACT && eqb e.id id.0) is ∙ ap (λ (t : Bool). t && eqb e.id id.0) other
+not-omitted None e k is other = refl
+not-omitted (Some o) e k is other = ap (λ (n : ℕ). eqb n CONTACT && eqb e.id o.contact.0) is ∙ ap (λ (t : Bool). t && eqb e.id o.contact.0) other
 
 -- ---- what is seen of an entry, by its kind
 module _ (run : List ℕ) (es : List Entry) (omitted : Omitted) (e : Entry) where

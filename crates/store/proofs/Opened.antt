@@ -18,7 +18,7 @@ use Rattle.rows.specs.Values.{Contact}
 use Rattle.rows.specs.Rows as rows
 use Rattle.rows.proofs.Proved.{proved}
 use Rattle.store.specs.declared.Entry.{Entry}
-use Rattle.store.specs.declared.Asked.TheVariants.{Going}
+use Rattle.store.specs.Rounds.{Going}
 use Rattle.store.specs.Kinds.{CONTACT, contact, kind_of, layout_of, seen_of, refusal_in}
 use Rattle.store.specs.Store.{entry_at, is_of, part_of, store_of, opened_in, asked}
 use Rattle.store.specs.Accepted.{Accepted}

@@ -9,8 +9,7 @@ use Rattle.layout.specs.RowLaws.{Bytes}
 use Rattle.rows.specs.Rows as rows
 use Rattle.rows.proofs.Proved.{proved}
 use Rattle.store.specs.declared.Entry.{Entry}
-use Rattle.store.specs.declared.Asked.{Asked}
-use Rattle.store.specs.declared.Asked.TheVariants.{Going, Refused}
+use Rattle.store.specs.Rounds.{Asked, Going, Refused}
 use Rattle.store.specs.Kinds.{CONTACT, COURIER}
 use Rattle.store.specs.Store.{Store, asked, seen, Found, found, granted, refused, outcome, restore}
 use Rattle.store.specs.Accepted.{Accepted, FirstNo}

@@ -7,9 +7,7 @@ use mathlib.Core.Logic.{◌⊎◌, inl, inr}
 use mathlib.Core.Path.{◌≡◌, refl, sym, ap, ◌∙◌}
 use native.Mathlib.Omega.{arith}
 use native.Mathlib.Decide.{dec_le}
-use Rattle.store.specs.declared.Asked.{Asked}
-use Rattle.store.specs.declared.Asked.TheVariants.{Going, Refused}
-use Rattle.store.specs.Rounds.{Round, turn, turns, rounds, Quiet, Here, First}
+use Rattle.store.specs.Rounds.{Asked, Going, Refused, Round, turn, turns, rounds, Quiet, Here, First}
 
 -- no round has a no
 abbrev pub AllQuiet : List Round → ℕ → Type 0

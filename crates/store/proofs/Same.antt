@@ -13,12 +13,9 @@ use Rattle.layout.specs.Layout.{Answer, read_row}
 use Rattle.rows.specs.Values.{Contact}
 use Rattle.rows.specs.Rows as rows
 use Rattle.store.specs.declared.Entry.{Entry}
-use Rattle.store.specs.declared.Asked.{Asked}
-use Rattle.store.specs.declared.Asked.TheVariants.{Going, Refused}
-use Rattle.store.specs.Rounds.{ask, first_no, rounds}
+use Rattle.store.specs.Rounds.{Asked, Going, Refused, ask, first_no, rounds}
 use Rattle.store.specs.Kinds.{DEVICE, CONTACT, QUEUED, COURIER, Kind, contact, unknown, kind_of, layout_of, Seen, refusal_in}
-use Rattle.store.specs.Store.{Store, entry_at, is_of, within, answer_of, seen, in_order, any_below, before, queued_before, across_as, contact_before, next_in, low_depositor, all_rounds, begun, asked}
-use Rattle.store.specs.Store.{ContactRow, contacts_as, contacts_in, slots_below, Found, outcome, restore}
+use Rattle.store.specs.Store.{Store, entry_at, is_of, within, answer_of, seen, in_order, any_below, before, queued_before, across_as, contact_before, next_in, low_depositor, all_rounds, begun, asked, ContactRow, contacts_as, contacts_in, slots_below, Found, outcome, restore}
 use Rattle.store.proofs.Rounds.{rounds-same}
 use Rattle.store.proofs.Tests.{truth}
 use Rattle.store.proofs.ByKind.{SameSight, Sort, is-device, is-contact, is-queued, is-courier, is-unknown, sort}

@@ -10,7 +10,7 @@ use lib.Dec.{eqb, eqb→eq, eqb-suc-zero}
 use Rattle.layout.specs.Layout.{read_row}
 use Rattle.rows.specs.Rows as rows
 use Rattle.store.specs.declared.Entry.{Entry}
-use Rattle.store.specs.declared.Asked.{Asked}
+use Rattle.store.specs.Rounds.{Asked}
 use Rattle.store.specs.Kinds.{DEVICE, CONTACT, QUEUED, kind_of, layout_of, seen_of, refusal_in}
 use Rattle.store.specs.Store.{Store, entry_at, within, part_of, store_of, is_of, before, asked, restore, going, replaced_in, replaced_passes}
 use Rattle.store.specs.Used.{used}

@@ -1,24 +1,26 @@
 -- The questions with the row of a contact left out: of its entry 1, 2 and 3 only are asked, and what the others see of it is handed in.
 -- Assumes nothing.
 use Rattle.std.specs.Prelude.{ℕ, List, [], ◌∷◌, Bool, false, cond, length, eqb}
+use Rattle.std.specs.Prelude as code
 use Rattle.layout.specs.Questions.{VERSION}
 use Rattle.store.specs.declared.Entry.{Entry}
-use Rattle.store.specs.declared.Asked.{Asked}
-use Rattle.store.specs.declared.Omitted.{Omitted}
-use Rattle.store.specs.declared.Omitted.TheVariants.{Nothing, Contact}
-use Rattle.store.specs.Rounds.{ask, first_no, Round, rounds}
+use Rattle.store.specs.Rounds.{Asked, ask, first_no, Round, rounds}
+use Rattle.store.specs.declared.OmittedContact.{OmittedContact}
 use Rattle.store.specs.Kinds.{CONTACT, kind_of, Seen, nothing, contact_sight, refusal_in}
 use Rattle.store.specs.Store.{store_of, entry_at, is_of, answer_of, seen, order, bounds, across_as, begun}
 
--- ---- of the code's contact left out
+-- ---- of the code's contact left out, or none
+abbrev pub Omitted : Type 0
+Omitted = code.Option OmittedContact
+
 abbrev pub is_omitted : Omitted → Entry → Bool
-is_omitted Nothing e = false
-is_omitted (Contact id sent) e = is_of CONTACT id.0 e
+is_omitted code.None e = false
+is_omitted (code.Some o) e = is_of CONTACT o.contact.0 e
 
 -- what is seen of it: its sent_msgno, and no unacked numbers
 abbrev pub omitted_seen : Omitted → Seen
-omitted_seen Nothing = nothing
-omitted_seen (Contact id sent) = contact_sight sent []
+omitted_seen code.None = nothing
+omitted_seen (code.Some o) = contact_sight o.sent_msgno []
 
 -- ---- of any entries whose rows are left out
 module _ (run : List ℕ) (es : List Entry) (is_left : Entry → Bool) where

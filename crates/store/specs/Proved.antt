@@ -8,8 +8,7 @@ use Rattle.layout.specs.RowLaws.{Bytes, Valid}
 use Rattle.rows.specs.Values.{Contact}
 use Rattle.rows.specs.Rows as rows
 use Rattle.store.specs.declared.Entry.{Entry}
-use Rattle.store.specs.declared.Asked.TheVariants.{Going}
-use Rattle.store.specs.Rounds.{Question, first_no, FirstIn, Quiet}
+use Rattle.store.specs.Rounds.{Going, Question, first_no, FirstIn, Quiet}
 use Rattle.store.specs.Kinds.{CONTACT, QUEUED, COURIER}
 use Rattle.store.specs.Store.{Store, entry_at, is_of, before, queued_before, part_of, store_of, opened_in, across, asked, found, granted, refused, restore, replaced_passes}
 use Rattle.store.specs.Accepted.{Accepted, FirstNo}

@@ -1,9 +1,9 @@
 -- Questions asked one after the other, up to the first no.
 -- Assumes nothing.
-use Rattle.std.specs.Prelude.{ℕ, zero, suc, ◌≤◌, ◌<◌, List, [], ◌∷◌, Bool, cond, not, ◌⊎◌, ◌≡◌, T}
+use Rattle.std.specs.Prelude.{ℕ, zero, suc, ◌≤◌, ◌<◌, List, [], ◌∷◌, Bool, cond, not, ◌⊎◌, ◌≡◌, T, Result, Ok, Err}
 use Rattle.std.proofs.Math.Option.{Option, none, some}
-use Rattle.store.specs.declared.Asked.{Asked}
-use Rattle.store.specs.declared.Asked.TheVariants.{Going, Refused}
+use Rattle.layout.specs.Questions.{number_of}
+use Rattle.store.specs.declared.Refusal.{Refusal}
 
 -- ---- of one entry
 pub record Question : Type 0 where
@@ -22,6 +22,11 @@ first_no (q ∷ qs) = cond q.yes (first_no qs) (some q.number)
 abbrev pub Round : Type 0
 Round = ℕ → Option ℕ
 
+-- how far they have come: every answer so far was yes, or the first no, the question's number and the entry's index
+pub data Asked : Type 0 where
+  Going : Asked
+  Refused : ℕ → ℕ → Asked
+
 -- one turn; a refusal ends all
 abbrev pub turn : Option ℕ → ℕ → Asked → Asked
 turn o i (Refused n j) = Refused n j
@@ -37,6 +42,11 @@ turns round i (suc n) a = turns round (suc i) n (turn (round i) i a)
 abbrev pub rounds : List Round → ℕ → Asked → Asked
 rounds [] n a = a
 rounds (r ∷ rs) n a = rounds rs n (turns r 0 n a)
+
+-- what code answers, which hands nothing on: an error is the first no
+abbrev pub asked_says : Result (Unit {0}) Refusal → Asked
+asked_says (Ok u) = Going
+asked_says (Err r) = Refused (number_of r.question) r.place
 
 -- ---- the first no, as a statement
 -- of one entry: question n is a no, and every one before it a yes

@@ -8,9 +8,7 @@ use Rattle.rows.specs.Values.{Contact}
 use Rattle.rows.specs.Checks.{any}
 use Rattle.rows.specs.Rows as rows
 use Rattle.store.specs.declared.Entry.{Entry}
-use Rattle.store.specs.declared.Asked.{Asked}
-use Rattle.store.specs.declared.Asked.TheVariants.{Going, Refused}
-use Rattle.store.specs.Rounds.{Question, ask, first_no, Round, rounds}
+use Rattle.store.specs.Rounds.{Asked, Going, Refused, Question, ask, first_no, Round, rounds}
 use Rattle.store.specs.Kinds.{DEVICE, CONTACT, QUEUED, COURIER, Kind, device, contact, queued, courier, unknown, kind_of, ValueOf, layout_of, Seen, nothing, seen_of, refusal_in}
 
 -- ---- stores

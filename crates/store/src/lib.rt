@@ -1,10 +1,11 @@
-// What restore is handed beside the run of bytes, and how far its questions have come.
+// What restore is handed, a run of bytes and its entries, and what refuses it.
 #![tactic(auto)]
 
 ghost use Rattle.std.specs.Prelude.{◌≡◌};
 ghost use Rattle.store.specs.Store.{within, part_of};
 ghost use Rattle.store.specs.Omitted.{is_omitted};
 
+use layout::Question;
 use rows::ContactId;
 
 // Where a row stands in the run, and of which kind, contact or slot, message and version it is.
@@ -19,21 +20,29 @@ pub struct Entry {
     pub kind: u32,
 }
 
-// Every answer so far was yes, or the first no: the question's number and the entry's index.
+// A store as it is lent: the run of bytes, and an entry for each row in it.
 #[derive(Clone, Copy)]
-pub enum Asked {
-    Going,
-    Refused(u8, usize),
+pub struct StoreRef<'a> {
+    pub run: &'a [u8],
+    pub entries: &'a [Entry],
 }
 
-// The contact whose row is left out while the questions are asked, with its sent_msgno.
+// The first no: the question, and the place where it is asked, an entry's index.
+#[derive(Clone, Copy, Debug, PartialEq, Eq)]
+pub struct Refusal {
+    pub question: Question,
+    pub place: usize,
+}
+
+// The contact whose row is left out while the questions are asked, and what is seen of it.
 #[derive(Clone, Copy)]
-pub enum Omitted {
-    Nothing,
-    Contact(ContactId, u32),
+pub struct OmittedContact {
+    pub contact: ContactId,
+    pub sent_msgno: u32,
 }
 
 // An entry's kind.
+// Kept: C lends entries with any number here, and 1 and 6 refuse the others, so `Entry.kind` stays a number; these name it.
 pub const DEVICE: u32 = 0;
 
 pub const CONTACT: u32 = 1;
@@ -73,14 +82,11 @@ pub fn part_of(run: &[u8], e: Entry) -> &[u8]
 }
 
 // Whether an entry is the one whose row is left out.
-pub fn is_omitted(e: Entry, omitted: Omitted) -> bool
+pub fn is_omitted(e: Entry, omitted: Option<OmittedContact>) -> bool
     ensures { result ≡ is_omitted omitted e }
 {
-    let Omitted::Contact(id, _) = omitted else {
+    let Some(left_out) = omitted else {
         return false;
     };
-    if e.kind == CONTACT {
-        return e.id == id.0;
-    }
-    false
+    e.kind == CONTACT && e.id == left_out.contact.0
 }
