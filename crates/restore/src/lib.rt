@@ -2,58 +2,53 @@
 #![tactic(auto)]
 
 ghost use Rattle.std.specs.Prelude.{◌≡◌, ◌+◌, ◌≤◌, ◌<◌, length};
-ghost use Rattle.store.specs.Rounds.{turns};
+ghost use Rattle.store.specs.Rounds.{Going, turns, asked_says};
 ghost use Rattle.store.specs.Store.{store_of, restore};
 ghost use Rattle.store.specs.Duplicates.{first_duplicate};
 ghost use Rattle.restore_rounds.specs.Rounds.{round_of};
-ghost use Rattle.restore_across.specs.Across.{OwnerAt};
-ghost use Rattle.restore_across.specs.At.{At};
+ghost use Rattle.restore_across.specs.Across as across;
+ghost use Rattle.restore_across.specs.Across.{across_says, OwnerAt};
+ghost use Rattle.restore_across.specs.At.{read_so, At};
 ghost use Rattle.restore.specs.Index.{hint_in};
-ghost use Rattle.restore.specs.Restored.{begun_with, ended, answered, questioned};
+ghost use Rattle.restore.specs.Restored.{begun_with, answered, questioned, restored_says};
 
 use layout::Question;
-use restore_across::Across;
-use store::{Asked, Entry, Omitted};
+use restore_across::Progress;
+use restore_rounds::Round;
+use store::{Entry, OmittedContact, Refusal, StoreRef};
 
-// next_contact and next_slot; or the number of the question whose answer is no, and the entry's index.
-#[derive(Clone, Copy)]
-pub enum Restored {
-    Granted(u64, u64),
-    Refused(u8, usize),
+// What a store is granted that no question refuses.
+#[derive(Clone, Copy, Debug, PartialEq, Eq)]
+pub struct Granted {
+    pub next_contact: u64,
+    pub next_slot: u64,
 }
 
 // Fewer entries than this are few: a small filter and index are enough for them.
 const FEW: usize = 1024;
 
 // No entries: 1 at 0.
-fn begin(n: usize) -> Asked
-    ensures { result ≡ begun_with n }
+fn begin(n: usize) -> Result<(), Refusal>
+    ensures { asked_says result ≡ begun_with n }
 {
     if n == 0 {
-        return Asked::Refused(Question::Order.number(), 0);
+        return Err(Refusal {
+            question: Question::Order,
+            place: 0,
+        });
     }
-    Asked::Going
-}
-
-fn answer(state: Across) -> Restored
-    ensures { result ≡ ended state }
-{
-    match state {
-        Across::Going(w) => Restored::Granted(w.next_contact, w.slots),
-        Across::Refused(number, place) => Restored::Refused(number, place),
-    }
+    Ok(())
 }
 
 // A round of all entries.
-fn turns(run: &[u8], entries: &[Entry], omitted: Omitted, round: u8, asked: Asked) -> Asked
-    ensures { result ≡ turns (round_of round run.now entries.now omitted) 0 (length entries.now) asked }
+fn turns(store: StoreRef<'_>, omitted: Option<OmittedContact>, round: Round) -> Result<(), Refusal>
+    ensures { asked_says result ≡ turns (round_of round store.entry.run.now store.entry.entries.now omitted) 0 (length store.entry.entries.now) Going }
 {
-    let mut after = asked;
-    for (i, e) in entries.iter().enumerate() {
-        let before = entries[i.saturating_sub(1)];
-        after = restore_rounds::turn(run, omitted, before, *e, round, i, after);
+    for (i, e) in store.entries.iter().enumerate() {
+        let before = store.entries[i.saturating_sub(1)];
+        restore_rounds::turn(store.run, omitted, before, *e, round, i)?;
     }
-    after
+    Ok(())
 }
 
 // ---- an index of contacts: at an id's place where a contact with such an id may stand. Nothing is known of what it holds, so what it says is compared
@@ -105,110 +100,108 @@ fn owner_at(entries: &[Entry], index: &[u32], e: Entry, upto: usize, latest: usi
     restore_across::chosen(p, q, o, far, upto)
 }
 
-// ---- 25 to 33; `duplicate` is the first entry that has a duplicate
+// ---- 25 to 33, where every answer before was a yes; `duplicate` is the first entry that has a duplicate
 
 fn across_at(
-    run: &[u8],
-    entries: &[Entry],
+    store: StoreRef<'_>,
     index: &[u32],
-    omitted: Omitted,
+    omitted: Option<OmittedContact>,
     duplicate: usize,
     i: usize,
-    state: Across,
-) -> Across
-    requires { (duplicate ≡ first_duplicate entries.now) × (i < length entries.now) × At run.now entries.now omitted i state }
-    ensures { At run.now entries.now omitted (i + 1) result }
+    w: Progress,
+) -> Result<Progress, Refusal>
+    requires { (duplicate ≡ first_duplicate store.entries.now) × (i < length store.entries.now)
+        × At store.run.now store.entries.now omitted i (across.Going w) }
+    ensures { At store.entry.run.now store.entry.entries.now omitted (i + 1) (across_says result) }
 {
-    let e = entries[i];
-    let limit = restore_across::owner_limit(e, i, state);
-    let latest = restore_across::latest_of(state);
-    let p = owner_at(entries, index, e, limit, latest);
-    let c = restore_entries::entry_at(entries, p);
-    let owner = restore_across::owner_of(run, omitted, c, p, limit, state);
-    restore_across::entry_turn(run, e, c, i, p, duplicate, owner, state)
+    let e = store.entries[i];
+    let limit = restore_across::owner_limit(e, i);
+    let p = owner_at(store.entries, index, e, limit, w.latest);
+    let c = restore_entries::entry_at(store.entries, p);
+    let owner = restore_across::owner_of(store.run, omitted, c, p, limit, w);
+    restore_across::entry_turn(store.run, e, c, i, p, duplicate, owner, w)
 }
 
 // Of all entries.
 fn across_turns(
-    run: &[u8],
-    entries: &[Entry],
+    store: StoreRef<'_>,
     index: &[u32],
-    omitted: Omitted,
+    omitted: Option<OmittedContact>,
     duplicate: usize,
-    state: Across,
-) -> Across
-    requires { (duplicate ≡ first_duplicate entries.now) × At run.now entries.now omitted 0 state }
-    ensures { At run.now entries.now omitted (length entries.now) result }
+) -> Result<Progress, Refusal>
+    requires { (duplicate ≡ first_duplicate store.entries.now) × (read_so store.run.now store.entries.now omitted ≡ Going) }
+    ensures { At store.entry.run.now store.entry.entries.now omitted (length store.entry.entries.now) (across_says result) }
 {
-    let mut after = state;
-    for i in 0..entries.len() {
-        after = across_at(run, entries, index, omitted, duplicate, i, after);
+    let mut w = restore_across::begin();
+    for i in 0..store.entries.len() {
+        w = across_at(store, index, omitted, duplicate, i, w)?;
     }
-    after
+    Ok(w)
 }
 
 // With an index of so many places.
 fn indexed_turns<const PLACES: usize>(
-    run: &[u8],
-    entries: &[Entry],
-    omitted: Omitted,
+    store: StoreRef<'_>,
+    omitted: Option<OmittedContact>,
     duplicate: usize,
-    state: Across,
-) -> Across
-    requires { (PLACES ≤ 65536) × (duplicate ≡ first_duplicate entries.now) × At run.now entries.now omitted 0 state }
-    ensures { At run.now entries.now omitted (length entries.now) result }
+) -> Result<Progress, Refusal>
+    requires { (PLACES ≤ 65536) × (duplicate ≡ first_duplicate store.entries.now)
+        × (read_so store.run.now store.entries.now omitted ≡ Going) }
+    ensures { At store.entry.run.now store.entry.entries.now omitted (length store.entry.entries.now) (across_says result) }
 {
     let mut index = [0; PLACES];
-    note_all(entries, &mut index);
-    across_turns(run, entries, &index, omitted, duplicate, state)
+    note_all(store.entries, &mut index);
+    across_turns(store, &index, omitted, duplicate)
 }
 
 // With a filter and an index of 1 KB,
-fn few_turns(run: &[u8], entries: &[Entry], omitted: Omitted, state: Across) -> Across
-    requires { At run.now entries.now omitted 0 state }
-    ensures { At run.now entries.now omitted (length entries.now) result }
+fn few_turns(store: StoreRef<'_>, omitted: Option<OmittedContact>) -> Result<Progress, Refusal>
+    requires { read_so store.run.now store.entries.now omitted ≡ Going }
+    ensures { At store.entry.run.now store.entry.entries.now omitted (length store.entry.entries.now) (across_says result) }
 {
-    let duplicate = restore_duplicates::first_of_few(entries);
-    indexed_turns::<256>(run, entries, omitted, duplicate, state)
+    let duplicate = restore_duplicates::first_of_few(store.entries);
+    indexed_turns::<256>(store, omitted, duplicate)
 }
 
 // ... and with a filter of 64 KB and an index of 256 KB. A frame as large as that is touched page by page wherever it is entered, so a small store's restore is
 // not to enter it.
 #[inline(never)]
-fn many_turns(run: &[u8], entries: &[Entry], omitted: Omitted, state: Across) -> Across
-    requires { At run.now entries.now omitted 0 state }
-    ensures { At run.now entries.now omitted (length entries.now) result }
+fn many_turns(store: StoreRef<'_>, omitted: Option<OmittedContact>) -> Result<Progress, Refusal>
+    requires { read_so store.run.now store.entries.now omitted ≡ Going }
+    ensures { At store.entry.run.now store.entry.entries.now omitted (length store.entry.entries.now) (across_says result) }
 {
-    let duplicate = restore_duplicates::first_of_many(entries);
-    indexed_turns::<65536>(run, entries, omitted, duplicate, state)
+    let duplicate = restore_duplicates::first_of_many(store.entries);
+    indexed_turns::<65536>(store, omitted, duplicate)
 }
 
-fn all_turns(run: &[u8], entries: &[Entry], omitted: Omitted, state: Across) -> Across
-    requires { At run.now entries.now omitted 0 state }
-    ensures { At run.now entries.now omitted (length entries.now) result }
+fn all_turns(store: StoreRef<'_>, omitted: Option<OmittedContact>) -> Result<Progress, Refusal>
+    requires { read_so store.run.now store.entries.now omitted ≡ Going }
+    ensures { At store.entry.run.now store.entry.entries.now omitted (length store.entry.entries.now) (across_says result) }
 {
-    if entries.len() < FEW {
-        few_turns(run, entries, omitted, state)
+    if store.entries.len() < FEW {
+        few_turns(store, omitted)
     } else {
-        many_turns(run, entries, omitted, state)
+        many_turns(store, omitted)
     }
 }
 
-// Questions 1 to 33 and 54, with the row of a contact left out, or with none.
-pub fn questions(run: &[u8], entries: &[Entry], omitted: Omitted) -> Restored
-    ensures { result ≡ questioned run.now entries.now omitted }
+// Questions 1 to 33 and 54, with the row of a contact left out, or with none: the first no, or what is granted.
+pub fn questions(store: StoreRef<'_>, omitted: Option<OmittedContact>) -> Result<Granted, Refusal>
+    ensures { restored_says result ≡ questioned store.entry.run.now store.entry.entries.now omitted }
 {
-    let begun = begin(entries.len());
-    let ordered = turns(run, entries, omitted, Question::Order.number(), begun);
-    let bounded = turns(run, entries, omitted, Question::Bounds.number(), ordered);
-    let read = turns(run, entries, omitted, Question::Version.number(), bounded);
-    let state = restore_across::begin(read);
-    let end = all_turns(run, entries, omitted, state);
-    answer(end)
+    begin(store.entries.len())?;
+    turns(store, omitted, Round::Order)?;
+    turns(store, omitted, Round::Bounds)?;
+    turns(store, omitted, Round::Rows)?;
+    let end = all_turns(store, omitted)?;
+    Ok(Granted {
+        next_contact: end.next_contact,
+        next_slot: end.slots,
+    })
 }
 
-pub fn restore(run: &[u8], entries: &[Entry]) -> Restored
-    ensures { result ≡ answered (restore (store_of run.now entries.now)) }
+pub fn restore(store: StoreRef<'_>) -> Result<Granted, Refusal>
+    ensures { restored_says result ≡ answered (restore (store_of store.entry.run.now store.entry.entries.now)) }
 {
-    questions(run, entries, Omitted::Nothing)
+    questions(store, None)
 }

@@ -25,9 +25,8 @@ use Rattle.store.proofs.ByKind.{Sort, is-device, is-contact, is-queued, is-couri
 use Rattle.store.proofs.Duplicates.{across_by, no-duplicates, one-contact, kind-new, queued-new}
 use Rattle.restore_across.specs.declared.Owner.{Owner}
 use Rattle.restore_across.specs.declared.Progress.{Progress}
-use Rattle.restore_across.specs.declared.Across.TheVariants.{Going}
 use Rattle.restore_across.specs.Owner.{owner_seen, OwnerStands, Known}
-use Rattle.restore_across.specs.Across.{after, raised, depositor_in, next_contact_in, OwnerAt, owner_limit, low_in, Reusable, device_turn, contact_turn, queued_turn, courier_turn, entry_turn_as}
+use Rattle.restore_across.specs.Across.{Going, after, raised, depositor_in, next_contact_in, OwnerAt, owner_limit, low_in, Reusable, device_turn, contact_turn, queued_turn, courier_turn, entry_turn_as}
 use Rattle.restore_across.specs.At.{read_so, sight, asked_of, Kept, KeptIn, At}
 use Rattle.restore_across.proofs.Steps.{turns-last, SoFar, so_far, first-device, device-first, contact-known}
 
@@ -190,24 +189,24 @@ module _ (run : List ℕ) (es : List Entry) (omitted : Omitted) (i : ℕ) (w : P
           rw x (after_turn queued q (some QUEUED_CONTACT) w refuses (λ y. absurd (some≢none y)))
 
   -- ---- of any kind
-  module _ (p : ℕ) (found : OwnerAt es e (owner_limit e i (Going w)) p) where
-    pub turn-as : (k : Kind) → kind_of e.kind ≡ k → (o : Owner) → StandsIf p (owner_limit e i (Going w)) o → At run es omitted (suc i) (entry_turn_as k run e (entry_at es p) i p f o w)
+  module _ (p : ℕ) (found : OwnerAt es e (owner_limit e i) p) where
+    pub turn-as : (k : Kind) → kind_of e.kind ≡ k → (o : Owner) → StandsIf p (owner_limit e i) o → At run es omitted (suc i) (entry_turn_as k run e (entry_at es p) i p f o w)
     turn-as device q o stands = device-turn q
     turn-as contact q o stands = contact-turn q
     turn-as queued q o stands =
-        let limit : owner_limit e i (Going w) ≡ i = ap (λ (n : ℕ). cond (eqb n QUEUED) i 0) (numbered e.kind queued q) in
+        let limit : owner_limit e i ≡ i = ap (λ (n : ℕ). cond (eqb n QUEUED) i 0) (numbered e.kind queued q) in
         queued-turn q p o (subst (λ (n : ℕ). OwnerAt es e n p) limit found) (λ l. stands (subst (λ (n : ℕ). p < n) (sym limit) l))
     turn-as courier q o stands = courier-turn q
     turn-as unknown q o stands = unknown-turn q
 
     -- what is kept of a contact is so where that contact is found again
-    pub owner-again : Reusable run omitted (entry_at es p) p (owner_limit e i (Going w)) (Going w)
+    pub owner-again : Reusable run omitted (entry_at es p) p (owner_limit e i) w
     owner-again l x =
         let is = (is-of CONTACT e.id (entry_at es p) (found.hit l)).0 in
         subst (λ (n : ℕ). OwnerStands (owner_seen run omitted (entry_at es n)) (part_of run (entry_at es n)) w.owner) (sym x) (kept.owner (subst (λ (n : ℕ). (entry_at es n).kind ≡ CONTACT) x is))
 
     -- ... and its row was accepted
-    pub owner-known : p < owner_limit e i (Going w) → Known run omitted (entry_at es p)
+    pub owner-known : p < owner_limit e i → Known run omitted (entry_at es p)
     owner-known l = contact-known run es omitted all_so.read p (below (eqb e.kind QUEUED) l) (is-of CONTACT e.id (entry_at es p) (found.hit l)).0
       where
         below : (t : Bool) → p < cond t i 0 → p < length es

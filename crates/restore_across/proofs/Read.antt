@@ -27,8 +27,8 @@ use Rattle.contact.specs.declared.ContactAt.{ContactAt}
 use Rattle.contact.proofs.Placed.{placed}
 use Rattle.contact_known.specs.Known.{Sent}
 use Rattle.contact_known.specs.declared.SentAt.{SentAt}
+use Rattle.std.specs.Prelude.{None, Some}
 use Rattle.store.specs.Omitted.{Omitted, omitted_seen}
-use Rattle.store.specs.declared.Omitted.TheVariants as left
 use Rattle.restore_across.specs.Owner.{contact_seen, owner_at, owner_read, owner_in, owner_omitted, OwnerStands, OwnerIn}
 use Rattle.restore_across.specs.declared.Owner.{Owner}
 
@@ -95,5 +95,5 @@ owner-read row by {r} sent version known = go (read_row (rows.contact version) r
 
 -- ... and of the one left out
 pub omitted-for : (omitted : Omitted) (row : List ℕ) → OwnerStands (omitted_seen omitted) row (owner_omitted omitted)
-omitted-for left.Nothing row = bare row 0
-omitted-for (left.Contact id sent) row = bare row sent
+omitted-for None row = bare row 0
+omitted-for (Some o) row = bare row o.sent_msgno

@@ -1,12 +1,14 @@
 -- What one entry's turn asks and leaves, and where it looks: questions 25 to 33, over the structs that the code keeps.
 -- Assumes nothing.
-use Rattle.std.specs.Prelude.{ℕ, ◌+◌, ◌≤◌, ◌<◌, List, [], ◌∷◌, Bool, true, cond, ◌&&◌, not, ◌≡◌, leb, ltb, eqb, T}
+use Rattle.std.specs.Prelude.{ℕ, ◌+◌, ◌≤◌, ◌<◌, List, [], ◌∷◌, Bool, true, cond, ◌&&◌, not, ◌≡◌, leb, ltb, eqb, T, Result, Ok, Err}
 use Rattle.std.proofs.Math.Option.{Option, none, some}
-use Rattle.layout.specs.Questions.{CONTACT_BELOW_NEXT, CONTACT_NEW, QUEUED_CONTACT, QUEUED_MSGNO, QUEUED_UNACKED, QUEUED_NEW, DEPOSITOR, SLOT_NEW, SLOT_BELOW_LAST}
+use Rattle.layout.specs.declared.question.Question.{Question}
+use Rattle.layout.specs.Questions.{number_of, CONTACT_BELOW_NEXT, CONTACT_NEW, QUEUED_CONTACT, QUEUED_MSGNO, QUEUED_UNACKED, QUEUED_NEW, DEPOSITOR, SLOT_NEW, SLOT_BELOW_LAST}
 use Rattle.layout.specs.Layout.{read_row}
 use Rattle.rows.specs.Checks.{any}
 use Rattle.rows.specs.Rows as rows
 use Rattle.store.specs.declared.Entry.{Entry}
+use Rattle.store.specs.declared.Refusal.{Refusal}
 use Rattle.store.specs.Omitted.{Omitted}
 use Rattle.store.specs.Rounds.{Asked, ask, first_no}
 use Rattle.store.specs.Rounds as so
@@ -15,17 +17,26 @@ use Rattle.store.specs.Store.{entry_at, is_of, part_of, last_slot}
 use Rattle.store.specs.declared.Wanted.{Wanted}
 use Rattle.restore_across.specs.declared.Owner.{Owner}
 use Rattle.restore_across.specs.declared.Progress.{Progress}
-use Rattle.restore_across.specs.declared.Across.{Across}
-use Rattle.restore_across.specs.declared.Across.TheVariants.{Going, Refused}
 use Rattle.restore_across.specs.Owner.{no_owner, owner_seen, owner_from, owner_found, unacked_at, OwnerStands, Known}
+
+-- how far they have come: every answer so far was yes, and this is kept; or the first no, the question's number and the entry's index
+pub data Across : Type 0 where
+  Going : Progress → Across
+  Refused : ℕ → ℕ → Across
+
+-- what code answers of one entry or more
+abbrev pub across_says : Result Progress Refusal → Across
+across_says (Ok w) = Going w
+across_says (Err r) = Refused (number_of r.question) r.place
+
+-- ... and of the i-th
+abbrev pub turn_says : (i : ℕ) → Result Progress Question → Across
+turn_says i (Ok w) = Going w
+turn_says i (Err q) = Refused (number_of q) i
 
 -- ---- before the first turn
 abbrev pub fresh : Progress
 fresh = record { next_contact = 0; slots = 0; latest = 0; owner = no_owner }
-
-abbrev pub begun_from : Asked → Across
-begun_from so.Going = Going fresh
-begun_from (so.Refused number place) = Refused number place
 
 -- ---- where a queued row's contact stands
 abbrev pub contact_of : Entry → Wanted
@@ -58,32 +69,25 @@ pub record OwnerAt (es : List Entry) (e : Entry) (upto p : ℕ) : Type 0 where
   pub misses : upto ≤ p → (m : ℕ) → m < upto → T (is_of CONTACT e.id (entry_at es m)) → ⊥
 
 -- nothing is looked for but a queued row's contact
-abbrev pub owner_limit : Entry → (i : ℕ) → Across → ℕ
-owner_limit e i (Going w) = cond (eqb e.kind QUEUED) i 0
-owner_limit e i (Refused n j) = 0
-
-abbrev pub latest_of : Across → ℕ
-latest_of (Going w) = w.latest
-latest_of (Refused n j) = 0
+abbrev pub owner_limit : Entry → (i : ℕ) → ℕ
+owner_limit e i = cond (eqb e.kind QUEUED) i 0
 
 -- what is asked of the contact found at p: what is kept, where the last queued row's contact stands there; nothing where none was found below upto
-abbrev pub kept_or : Across → (p : ℕ) → Owner → Owner
-kept_or (Going w) p o = cond (eqb p w.latest) w.owner o
-kept_or (Refused n j) p o = o
+abbrev pub kept_or : Progress → (p : ℕ) → Owner → Owner
+kept_or w p o = cond (eqb p w.latest) w.owner o
 
-abbrev pub owner_for : (run : List ℕ) → Omitted → (c : Entry) → (p upto : ℕ) → Across → Owner
-owner_for run omitted c p upto s = cond (ltb p upto) (kept_or s p (owner_from run omitted c)) no_owner
+abbrev pub owner_for : (run : List ℕ) → Omitted → (c : Entry) → (p upto : ℕ) → Progress → Owner
+owner_for run omitted c p upto w = cond (ltb p upto) (kept_or w p (owner_from run omitted c)) no_owner
 
 -- where that contact is the one kept, what is kept of it is what is seen of it
-abbrev pub Reusable : (run : List ℕ) → Omitted → (c : Entry) → (p upto : ℕ) → Across → Type 0
-Reusable run omitted c p upto (Going w) = p < upto → p ≡ w.latest → OwnerStands (owner_seen run omitted c) (part_of run c) w.owner
-Reusable run omitted c p upto (Refused n j) = Unit {0}
+abbrev pub Reusable : (run : List ℕ) → Omitted → (c : Entry) → (p upto : ℕ) → Progress → Type 0
+Reusable run omitted c p upto w = p < upto → p ≡ w.latest → OwnerStands (owner_seen run omitted c) (part_of run c) w.owner
 
 -- what is answered is what is asked of that contact, if its row is known to be accepted; and what is seen of it, if what is kept is
-abbrev pub OwnerFor : (run : List ℕ) → Omitted → (c : Entry) → (p upto : ℕ) → Across → Owner → Type 0
-OwnerFor run omitted c p upto s o =
+abbrev pub OwnerFor : (run : List ℕ) → Omitted → (c : Entry) → (p upto : ℕ) → Progress → Owner → Type 0
+OwnerFor run omitted c p upto w o =
     (p < upto → Known run omitted c)
-    → (o ≡ owner_for run omitted c p upto s) × (Reusable run omitted c p upto s → OwnerStands (owner_found run omitted c p upto) (part_of run c) o)
+    → (o ≡ owner_for run omitted c p upto w) × (Reusable run omitted c p upto w → OwnerStands (owner_found run omitted c p upto) (part_of run c) o)
 
 -- ---- one turn: the i-th entry is e; its contact's entry is c, found at p, and o what is asked of it; f is the first entry that has a duplicate
 abbrev pub after : Option ℕ → (i : ℕ) → Progress → Across

@@ -8,8 +8,7 @@ use Rattle.store.specs.Rounds as so
 use Rattle.store.specs.Kinds.{CONTACT, Seen}
 use Rattle.store.specs.Store.{entry_at, part_of, store_of, next_in, slots_below, order, bounds, begun}
 use Rattle.restore_across.specs.declared.Progress.{Progress}
-use Rattle.restore_across.specs.declared.Across.{Across}
-use Rattle.restore_across.specs.declared.Across.TheVariants.{Going, Refused}
+use Rattle.restore_across.specs.Across.{Across, Going, Refused}
 use Rattle.restore_across.specs.Owner.{owner_seen, OwnerStands}
 
 -- how the rounds before have ended

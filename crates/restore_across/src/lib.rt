@@ -4,15 +4,15 @@
 
 ghost use Rattle.std.specs.Prelude.{◌≡◌, eqb};
 ghost use Rattle.rows.specs.Checks.{any};
-ghost use Rattle.store.specs.Kinds.{CONTACT};
+ghost use Rattle.store.specs.Kinds.{CONTACT, kind_of};
 ghost use Rattle.store.specs.Store.{is_of, part_of};
 ghost use Rattle.restore_across.specs.Owner.{no_owner, owner_omitted, unacked_at, Searchable, OwnerIn, OwnerFrom};
-ghost use Rattle.restore_across.specs.Across.{begun_from, contact_of, place_or, tried, near_limit, far_limit, chosen, owner_limit, latest_of, OwnerFor};
-ghost use Rattle.restore_across.specs.Across.{low_in, next_contact_in, depositor_in, SurelyLow, device_turn, contact_turn, queued_turn, courier_turn, entry_turn};
+ghost use Rattle.restore_across.specs.Across.{Going, across_says, turn_says, fresh, contact_of, place_or, tried, near_limit, far_limit, chosen, owner_limit, OwnerFor};
+ghost use Rattle.restore_across.specs.Across.{low_in, next_contact_in, depositor_in, SurelyLow, device_turn, contact_turn, queued_turn, courier_turn, entry_turn_as, entry_turn};
 
 use courier::{HeldAt, Kind};
 use layout::Question;
-use store::{Asked, Entry, Omitted, Wanted};
+use store::{Entry, OmittedContact, Refusal, Wanted};
 
 // What is asked of a queued row's contact: sent_msgno, and where in its row the unacked numbers start and how many they are.
 #[derive(Clone, Copy)]
@@ -22,6 +22,7 @@ pub struct Owner {
     pub sent_msgno: u32,
 }
 
+// What is kept from one turn to the next.
 #[derive(Clone, Copy)]
 pub struct Progress {
     pub next_contact: u64,
@@ -30,12 +31,6 @@ pub struct Progress {
     // where the contact of the last queued row stands
     pub latest: usize,
     pub owner: Owner,
-}
-
-#[derive(Clone, Copy)]
-pub enum Across {
-    Going(Progress),
-    Refused(u8, usize),
 }
 
 // Where no contact was found.
@@ -49,20 +44,16 @@ fn no_owner() -> Owner
     }
 }
 
-// How the rounds before have left it.
-pub fn begin(asked: Asked) -> Across
-    ensures { result ≡ begun_from asked }
+// Before the first turn.
+pub fn begin() -> Progress
+    ensures { result ≡ fresh }
 {
-    let Asked::Refused(number, place) = asked else {
-        let owner = no_owner();
-        return Across::Going(Progress {
-            next_contact: 0,
-            slots: 0,
-            latest: 0,
-            owner,
-        });
-    };
-    Across::Refused(number, place)
+    Progress {
+        next_contact: 0,
+        slots: 0,
+        latest: 0,
+        owner: no_owner(),
+    }
 }
 
 // ---- what is read in rows
@@ -121,20 +112,20 @@ fn owner_in(row: &[u8]) -> Owner
 }
 
 // The contact left out has its sent_msgno, and no unacked numbers.
-fn owner_omitted(omitted: Omitted) -> Owner
+fn owner_omitted(omitted: Option<OmittedContact>) -> Owner
     ensures { result ≡ owner_omitted omitted }
 {
-    let Omitted::Contact(_, sent_msgno) = omitted else {
+    let Some(left_out) = omitted else {
         return no_owner();
     };
     Owner {
         unacked: 0,
         count: 0,
-        sent_msgno,
+        sent_msgno: left_out.sent_msgno,
     }
 }
 
-fn owner_from(run: &[u8], omitted: Omitted, c: Entry) -> Owner
+fn owner_from(run: &[u8], omitted: Option<OmittedContact>, c: Entry) -> Owner
     ensures { OwnerFrom run.now omitted c result }
 {
     if store::is_omitted(c, omitted) {
@@ -223,65 +214,53 @@ pub fn chosen(p: usize, q: usize, o: usize, far: usize, upto: usize) -> usize
 }
 
 // Nothing is looked for but a queued row's contact.
-pub fn owner_limit(e: Entry, i: usize, state: Across) -> usize
-    ensures { result ≡ owner_limit e i state }
+pub fn owner_limit(e: Entry, i: usize) -> usize
+    ensures { result ≡ owner_limit e i }
 {
-    let Across::Going(_) = state else {
-        return 0;
-    };
     if e.kind == store::QUEUED { i } else { 0 }
-}
-
-pub fn latest_of(state: Across) -> usize
-    ensures { result ≡ latest_of state }
-{
-    let Across::Going(w) = state else {
-        return 0;
-    };
-    w.latest
 }
 
 // What is asked of the contact c, found at p; nothing where none was found below `upto`. It is what is kept, where the last queued row's contact is the same one.
 pub fn owner_of(
     run: &[u8],
-    omitted: Omitted,
+    omitted: Option<OmittedContact>,
     c: Entry,
     p: usize,
     upto: usize,
-    state: Across,
+    w: Progress,
 ) -> Owner
-    ensures { OwnerFor run.now omitted c p upto state result }
+    ensures { OwnerFor run.now omitted c p upto w result }
 {
     if upto <= p {
         return no_owner();
     }
-    match state {
-        Across::Going(w) if p == w.latest => w.owner,
-        _ => owner_from(run, omitted, c),
+    if p == w.latest {
+        return w.owner;
     }
+    owner_from(run, omitted, c)
 }
 
 // ---- one turn. The i-th entry is e; its contact's entry is c, found at p, and owner what is asked of it; `first` is the first entry that has a duplicate
 
-fn device_turn(run: &[u8], e: Entry, w: Progress) -> Across
-    ensures { result ≡ device_turn run.now e w }
+fn device_turn(run: &[u8], e: Entry, w: Progress) -> Progress
+    ensures { Going result ≡ device_turn run.now e w }
 {
-    Across::Going(Progress {
+    Progress {
         next_contact: next_contact(run, e),
         ..w
-    })
+    }
 }
 
-fn contact_turn(e: Entry, i: usize, first: usize, w: Progress) -> Across
-    ensures { result ≡ contact_turn e i first w }
+fn contact_turn(e: Entry, i: usize, first: usize, w: Progress) -> Result<Progress, Question>
+    ensures { turn_says i result ≡ contact_turn e i first w }
 {
     if w.next_contact <= e.id {
-        return Across::Refused(Question::ContactBelowNext.number(), i);
+        return Err(Question::ContactBelowNext);
     }
     if first <= i {
-        return Across::Refused(Question::ContactNew.number(), i);
+        return Err(Question::ContactNew);
     }
-    Across::Going(w)
+    Ok(w)
 }
 
 fn queued_turn(
@@ -293,46 +272,75 @@ fn queued_turn(
     first: usize,
     owner: Owner,
     w: Progress,
-) -> Across
+) -> Result<Progress, Question>
     requires { Searchable (part_of run.now c) owner }
-    ensures { result ≡ queued_turn (part_of run.now c) e i p first owner w }
+    ensures { turn_says i result ≡ queued_turn (part_of run.now c) e i p first owner w }
 {
     if i <= p {
-        return Across::Refused(Question::QueuedContact.number(), i);
+        return Err(Question::QueuedContact);
     }
     if e.msgno < 1 || owner.sent_msgno < e.msgno {
-        return Across::Refused(Question::QueuedMsgno.number(), i);
+        return Err(Question::QueuedMsgno);
     }
     let row = store::part_of(run, c);
     if is_unacked(row, owner, e.msgno) {
-        return Across::Refused(Question::QueuedUnacked.number(), i);
+        return Err(Question::QueuedUnacked);
     }
     if first <= i {
-        return Across::Refused(Question::QueuedNew.number(), i);
+        return Err(Question::QueuedNew);
     }
-    Across::Going(Progress {
+    Ok(Progress {
         latest: p,
         owner,
         ..w
     })
 }
 
-fn courier_turn(run: &[u8], e: Entry, i: usize, first: usize, w: Progress) -> Across
-    ensures { result ≡ courier_turn run.now e i first w }
+fn courier_turn(
+    run: &[u8],
+    e: Entry,
+    i: usize,
+    first: usize,
+    w: Progress,
+) -> Result<Progress, Question>
+    ensures { turn_says i result ≡ courier_turn run.now e i first w }
 {
     if !low_depositor(run, e, w.next_contact) {
-        return Across::Refused(Question::Depositor.number(), i);
+        return Err(Question::Depositor);
     }
     if first <= i {
-        return Across::Refused(Question::SlotNew.number(), i);
+        return Err(Question::SlotNew);
     }
     if e.id == u64::MAX {
-        return Across::Refused(Question::SlotBelowLast.number(), i);
+        return Err(Question::SlotBelowLast);
     }
-    Across::Going(Progress {
+    Ok(Progress {
         slots: w.slots.max(e.id + 1),
         ..w
     })
+}
+
+// By the entry's kind.
+fn kind_turn(
+    run: &[u8],
+    e: Entry,
+    c: Entry,
+    i: usize,
+    p: usize,
+    first: usize,
+    owner: Owner,
+    w: Progress,
+) -> Result<Progress, Question>
+    requires { Searchable (part_of run.now c) owner }
+    ensures { turn_says i result ≡ entry_turn_as (kind_of e.kind) run.now e c i p first owner w }
+{
+    match e.kind {
+        store::DEVICE => Ok(device_turn(run, e, w)),
+        store::CONTACT => contact_turn(e, i, first, w),
+        store::QUEUED => queued_turn(run, e, c, i, p, first, owner, w),
+        store::COURIER => courier_turn(run, e, i, first, w),
+        _ => Ok(w),
+    }
 }
 
 pub fn entry_turn(
@@ -343,19 +351,10 @@ pub fn entry_turn(
     p: usize,
     first: usize,
     owner: Owner,
-    state: Across,
-) -> Across
+    w: Progress,
+) -> Result<Progress, Refusal>
     requires { Searchable (part_of run.now c) owner }
-    ensures { result ≡ entry_turn run.now e c i p first owner state }
+    ensures { across_says result ≡ entry_turn run.now e c i p first owner (Going w) }
 {
-    let Across::Going(w) = state else {
-        return state;
-    };
-    match e.kind {
-        0 => device_turn(run, e, w),
-        1 => contact_turn(e, i, first, w),
-        2 => queued_turn(run, e, c, i, p, first, owner, w),
-        3 => courier_turn(run, e, i, first, w),
-        _ => Across::Going(w),
-    }
+    kind_turn(run, e, c, i, p, first, owner, w).map_err(|question| Refusal { question, place: i })
 }

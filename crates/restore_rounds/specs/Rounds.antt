@@ -10,6 +10,8 @@ use Rattle.store.specs.Omitted.{Omitted, is_omitted, read_omitted}
 use Rattle.store.specs.Rounds.{ask, first_no, Round}
 use Rattle.store.specs.Kinds.{DEVICE, CONTACT, COURIER, kind_of, layout_of, refusal_in}
 use Rattle.store.specs.Store.{store_of, within, part_of, order, bounds}
+use Rattle.restore_rounds.specs.declared.Round as code
+use Rattle.restore_rounds.specs.declared.Round.TheVariants.{Order, Bounds, Rows}
 
 -- the question that an answer names
 abbrev pub verdict_in : Result (Unit {0}) Question → Option ℕ
@@ -21,14 +23,15 @@ abbrev pub follows : (i before kind : ℕ) → Bool
 follows zero before kind = eqb kind DEVICE
 follows (suc i) before kind = leb CONTACT kind && leb kind COURIER && leb before kind
 
--- a round goes by its first question: 1, 2, or 3 for 3 to 24 and 54
-abbrev pub round_of : ℕ → (run : List ℕ) → List Entry → Omitted → Round
-round_of q run es omitted = cond (eqb q ORDER) (order (store_of run es)) (cond (eqb q BOUNDS) (bounds (store_of run es)) (read_omitted run es (is_omitted omitted)))
+-- which round of the store's it is
+abbrev pub round_of : code.Round → (run : List ℕ) → List Entry → Omitted → Round
+round_of Order run es omitted = order (store_of run es)
+round_of Bounds run es omitted = bounds (store_of run es)
+round_of Rows run es omitted = read_omitted run es (is_omitted omitted)
 
 -- the same, of an entry and the one before it
-abbrev pub round_asks : (run : List ℕ) → Omitted → (before e : Entry) → (round i : ℕ) → Option ℕ
-round_asks run omitted before e q i =
-    cond (eqb q ORDER) (first_no (ask ORDER (follows i before.kind e.kind) ∷ []))
-    (cond (eqb q BOUNDS) (first_no (ask BOUNDS (within (length run) e) ∷ []))
-    (cond (is_omitted omitted e) (first_no (ask VERSION (eqb e.version 3) ∷ []))
-    (refusal_in (read_row (layout_of (kind_of e.kind) e.version) (part_of run e)))))
+abbrev pub round_asks : (run : List ℕ) → Omitted → (before e : Entry) → code.Round → (i : ℕ) → Option ℕ
+round_asks run omitted before e Order i = first_no (ask ORDER (follows i before.kind e.kind) ∷ [])
+round_asks run omitted before e Bounds i = first_no (ask BOUNDS (within (length run) e) ∷ [])
+round_asks run omitted before e Rows i =
+    cond (is_omitted omitted e) (first_no (ask VERSION (eqb e.version 3) ∷ [])) (refusal_in (read_row (layout_of (kind_of e.kind) e.version) (part_of run e)))

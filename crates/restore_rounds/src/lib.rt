@@ -1,16 +1,27 @@
-// One turn of the rounds that ask each entry by itself: 1, 2, and the round of 3 to 24 and 54.
+// One turn of the rounds that ask each entry by itself.
 #![tactic(auto)]
 
-ghost use Rattle.std.specs.Prelude.{◌≡◌, [], ◌∷◌, eqb};
-ghost use Rattle.layout.specs.Questions.{VERSION};
+ghost use Rattle.std.specs.Prelude.{◌≡◌, [], ◌∷◌};
+ghost use Rattle.layout.specs.Questions.{number_of};
 ghost use Rattle.layout.specs.Layout.{read_row};
 ghost use Rattle.rows.specs.Rows as layouts;
-ghost use Rattle.store.specs.Rounds.{ask, first_no, turn};
+ghost use Rattle.store.specs.Rounds.{ask, first_no, Going, turn, asked_says};
 ghost use Rattle.store.specs.Kinds.{kind_of, layout_of, refusal_in};
 ghost use Rattle.restore_rounds.specs.Rounds.{verdict_in, follows, round_asks};
 
 use layout::Question;
-use store::{Asked, Entry, Omitted};
+use store::{Entry, OmittedContact, Refusal};
+
+// The rounds that ask each entry by itself.
+#[derive(Clone, Copy, Debug, PartialEq, Eq)]
+pub enum Round {
+    // 1
+    Order,
+    // 2
+    Bounds,
+    // 3 to 24 and 54
+    Rows,
+}
 
 fn device_verdict(version: u32, row: &[u8]) -> Result<(), Question>
     ensures { verdict_in result ≡ refusal_in (read_row (layouts.device version) row.now) }
@@ -44,10 +55,10 @@ fn row_verdict(kind: u32, version: u32, row: &[u8]) -> Result<(), Question>
     ensures { verdict_in result ≡ refusal_in (read_row (layout_of (kind_of kind) version) row.now) }
 {
     match kind {
-        0 => device_verdict(version, row),
-        1 => contact_verdict(version, row),
-        2 => queued_verdict(version, row),
-        3 => courier_verdict(version, row),
+        store::DEVICE => device_verdict(version, row),
+        store::CONTACT => contact_verdict(version, row),
+        store::QUEUED => queued_verdict(version, row),
+        store::COURIER => courier_verdict(version, row),
         _ => Err(Question::Code),
     }
 }
@@ -62,63 +73,46 @@ fn in_order(i: usize, before: u32, kind: u32) -> bool
     store::CONTACT <= kind && kind <= store::COURIER && before <= kind
 }
 
-// 3, of an entry whose row is left out.
-fn version_verdict(version: u32) -> Result<(), Question>
-    ensures { verdict_in result ≡ first_no (ask VERSION (eqb version 3) ∷ []) }
+// A question with this answer.
+fn ask(question: Question, yes: bool) -> Result<(), Question>
+    ensures { verdict_in result ≡ first_no (ask (number_of question) yes ∷ []) }
 {
-    if version == rows::BLOB_VERSION {
-        return Ok(());
-    }
-    Err(Question::Version)
+    if yes { Ok(()) } else { Err(question) }
 }
 
-// What a round asks of the i-th entry. A round goes by its first question.
+// What a round asks of the i-th entry.
 fn verdict(
     run: &[u8],
-    omitted: Omitted,
+    omitted: Option<OmittedContact>,
     before: Entry,
     e: Entry,
-    round: u8,
+    round: Round,
     i: usize,
 ) -> Result<(), Question>
     ensures { verdict_in result ≡ round_asks run.now omitted before e round i }
 {
-    if round == Question::Order.number() {
-        if in_order(i, before.kind, e.kind) {
-            return Ok(());
+    match round {
+        Round::Order => ask(Question::Order, in_order(i, before.kind, e.kind)),
+        Round::Bounds => ask(Question::Bounds, store::is_within(e, run.len())),
+        Round::Rows => {
+            if store::is_omitted(e, omitted) {
+                return ask(Question::Version, e.version == rows::BLOB_VERSION);
+            }
+            row_verdict(e.kind, e.version, store::part_of(run, e))
         }
-        return Err(Question::Order);
     }
-    if round == Question::Bounds.number() {
-        if store::is_within(e, run.len()) {
-            return Ok(());
-        }
-        return Err(Question::Bounds);
-    }
-    if store::is_omitted(e, omitted) {
-        return version_verdict(e.version);
-    }
-    let row = store::part_of(run, e);
-    row_verdict(e.kind, e.version, row)
 }
 
-// One turn; a refusal ends all. A refusal so far is made anew: handed on as it is, it was copied in each turn, with the bytes between its fields.
+// One turn.
 pub fn turn(
     run: &[u8],
-    omitted: Omitted,
+    omitted: Option<OmittedContact>,
     before: Entry,
     e: Entry,
-    round: u8,
+    round: Round,
     i: usize,
-    asked: Asked,
-) -> Asked
-    ensures { result ≡ turn (round_asks run.now omitted before e round i) i asked }
+) -> Result<(), Refusal>
+    ensures { asked_says result ≡ turn (round_asks run.now omitted before e round i) i Going }
 {
-    let Asked::Refused(number, place) = asked else {
-        return match verdict(run, omitted, before, e, round, i) {
-            Ok(()) => Asked::Going,
-            Err(refusal) => Asked::Refused(refusal.number(), i),
-        };
-    };
-    Asked::Refused(number, place)
+    verdict(run, omitted, before, e, round, i).map_err(|question| Refusal { question, place: i })
 }
