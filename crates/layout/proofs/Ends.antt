@@ -13,7 +13,7 @@ use Rattle.layout.specs.Veil.{Sensitivity, hides, hide, zeros}
 use Rattle.layout.specs.Form.{to_end, nothing, no_more}
 use Rattle.layout.proofs.Hide.{as_long, hide-false, hide-true, cut}
 use Rattle.layout.proofs.Lawful.{Same, same, Lawful, value≢refused, passed}
-use Rattle.layout.proofs.Front.{front, got, left}
+use Rattle.layout.proofs.Front.{got, left}
 
 -- ---- all that is left
 record Ended (t : Bool) (row b rest : List ℕ) : Type 0 where

@@ -15,3 +15,4 @@ pub mod Walk
 pub mod Steps
 pub mod Optional
 pub mod Write
+pub mod Numbers

@@ -13,7 +13,6 @@ use borrow.Author.Tests.{eqb-true}
 use Rattle.layout.specs.Read.{Read, value, refused, onto, after, said}
 use Rattle.layout.specs.Veil.{Level, hide}
 use Rattle.layout.specs.Form.{Form, used_up, inside, read_either, mask_either, either}
-use Rattle.layout.specs.Layout.{print}
 use Rattle.layout.specs.RowLaws.{Bytes}
 use Rattle.layout.proofs.Hide.{as_long, Parts, seam-cut, front_cut, take-hidden}
 use Rattle.layout.proofs.Lawful.{ReadAlike, Excused, Outcome, same, excuse, excuse', Blinds, Lawful, value≢refused}

@@ -8,10 +8,9 @@ use mathlib.Core.Option.{Option, none, some}
 use mathlib.Core.Path.{◌≡◌, refl, sym, ap, ap₂, ◌∙◌}
 use native.Mathlib.Omega.{arith}
 use lib.ListN.{length-append}
-use Rattle.layout.specs.Read.{Read, value, onto, said, first}
+use Rattle.layout.specs.Read.{Read, value, onto, said}
 use Rattle.layout.specs.Veil.{hide}
-use Rattle.layout.specs.Form.{Form, one, only_if, read_many, print_many, mask_many, refusal_many, times}
-use Rattle.layout.specs.Layout.{print}
+use Rattle.layout.specs.Form.{Form, only_if, read_many, print_many, mask_many, refusal_many, times}
 use Rattle.layout.proofs.Hide.{bare_parts}
 use Rattle.layout.proofs.Lawful.{same, Lawful, split, said-then, then-blind, bytes_rest, mask-short}
 use Rattle.layout.proofs.Front.{got, left}

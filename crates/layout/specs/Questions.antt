@@ -1,6 +1,6 @@
 -- The numbers of the questions of documents 01 (1 to 44) and 02 (45 to 58), by name: what is answered where the answer to the question is no.
 -- 54 is asked between 16 and 17, so it belongs to every range of numbers that spans this place: 3 to 24, 17 to 24, 1 to 33.
--- `src/question.rt` has the same names for code, and `number_of` says which is which. Assumes nothing.
+-- `src/question.rt` has the same names in other case for code, and `number_of` says which is which; no two have one number (proofs/Numbers.antt). Assumes nothing.
 use Rattle.std.specs.Prelude.{ℕ}
 use Rattle.layout.specs.declared.question.Question.{Question}
 use Rattle.layout.specs.declared.question.Question.TheVariants as question

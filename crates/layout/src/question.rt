@@ -1,5 +1,6 @@
 // The questions of documents 01 (1 to 44) and 02 (45 to 58), by name: what is answered where the answer to the question is no.
-// Each has the document's number, by which C, the programs and the definitions know it: `specs/Questions.antt` has the same names and numbers.
+// Each has the document's number, by which C, the programs and the definitions know it. `specs/Questions.antt` has the same numbers, and the same
+// names in other case: NAME_LENGTH is NameLength.
 
 ghost use Rattle.std.specs.Prelude.{◌≡◌};
 ghost use Rattle.layout.specs.Questions.{number_of};

@@ -3,6 +3,7 @@
 use Rattle.layout.specs.Layout.{Layout}
 use Rattle.layout.specs.Layout as layout
 use Rattle.layout.specs.RowLaws.{RowLaws}
+use Rattle.layout.proofs.Numbers.{one-question}
 use Rattle.layout.proofs.Front.{width-laws}
 use Rattle.layout.proofs.Dwarf.{leb-laws}
 use Rattle.layout.proofs.Theorems.{row_laws, veil-laws}
@@ -25,6 +26,7 @@ proved = record {
   queued = λ version. row (queued version) (row_laws (queued version) (queued-lawful version) (λ v rest h. h.1.1.1.1.1.0));
   courier = λ version. row (courier version) (row_laws (courier version) (courier-lawful version) (λ v rest h. h.1.0));
   meets = meets-laws;
+  one-question = one-question;
   widths = width-laws;
   leb128 = leb-laws;
   utf8 = utf8-laws;

@@ -1,6 +1,8 @@
 -- What is proved of the definitions (proofs/Proved.antt).
 -- Assumes nothing.
-use Rattle.std.specs.Prelude.{ℕ}
+use Rattle.std.specs.Prelude.{ℕ, ◌≡◌}
+use Rattle.layout.specs.declared.question.Question.{Question}
+use Rattle.layout.specs.Questions.{number_of}
 use Rattle.layout.specs.Layout.{Layout}
 use Rattle.layout.specs.RowLaws.{RowLaws, VeilLaws}
 use Rattle.layout.specs.Dwarf.{LebLaws}
@@ -22,6 +24,8 @@ pub record Proved : Type 0 where
   pub courier : (version : ℕ) → Row (courier version)
   -- a layout's questions, as statements in which none comes first
   pub meets : MeetsLaws
+  -- no two questions have one number
+  pub one-question : (a b : Question) → number_of a ≡ number_of b → a ≡ b
   -- numbers of every width, LEB128, UTF-8
   pub widths : (w : ℕ) → WidthLaws w
   pub leb128 : LebLaws
