@@ -15,6 +15,7 @@ ghost use Rattle.received.specs.Lent.{pairs, flat};
 ghost use Rattle.contact_lent.specs.Lent.{size_of, sizes, Granted, chains_of, skipped_of, chain_size};
 
 use layout::Question;
+use rows::Dir;
 
 // The bytes of a place: a chain with superseded_s, and a skipped key.
 pub const CHAIN_PLACE: usize = 51;
@@ -105,7 +106,7 @@ impl Place for Chain {
     ghost row_size = { λ place. size_of (group chain) ((group chain).read (take 51 place)) };
 
     fn size(lent: &[u8], at: usize) -> Result<usize, Question> {
-        fields::dir_at(lent, at + 1)?;
+        fields::code_at::<Dir>(lent, at + 1)?;
         let (superseded, _next) = fields::flag_at(lent, at + 42)?;
         if superseded {
             return Ok(CHAIN_PLACE);
@@ -124,7 +125,7 @@ impl Place for Skipped {
     ghost row_size = { λ place. size_of (group skipped) ((group skipped).read (take 46 place)) };
 
     fn size(lent: &[u8], at: usize) -> Result<usize, Question> {
-        fields::dir_at(lent, at + 1)?;
+        fields::code_at::<Dir>(lent, at + 1)?;
         Ok(SKIPPED_PLACE)
     }
 }

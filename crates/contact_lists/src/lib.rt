@@ -13,6 +13,7 @@ ghost use Rattle.contact_lists.specs.Lists.{list_says, ListedAt};
 ghost use Rattle.contact_lists.specs.Walked.{found, end_of};
 
 use layout::Question;
+use rows::Dir;
 
 // How many bytes an item has, where all of a list have as many.
 pub const SKIPPED_BYTES: usize = 46;
@@ -45,7 +46,7 @@ impl Item for Chain {
     // gen, dir, next, key, and superseded_s behind its flag.
     fn end(row: &[u8], at: usize) -> Result<usize, Question> {
         let (_gen, at1) = fields::byte_at(row, at)?;
-        let (_dir, at2) = fields::dir_at(row, at1)?;
+        let (_dir, at2) = fields::code_at::<Dir>(row, at1)?;
         let (_next, at3) = fields::u64_at(row, at2)?;
         let (_key, at4) = fields::run_at(row, at3, 32)?;
         let (superseded, at5) = fields::flag_at(row, at4)?;
@@ -67,7 +68,7 @@ impl Item for Skipped {
         if row.len().saturating_sub(at) < SKIPPED_BYTES {
             return reader::skipped_end(row, at);
         }
-        fields::dir_at(row, at + 1)?;
+        fields::code_at::<Dir>(row, at + 1)?;
         Ok(at + SKIPPED_BYTES)
     }
 }

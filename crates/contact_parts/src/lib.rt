@@ -49,9 +49,9 @@ pub struct PairedAt {
 pub fn paired_at(row: &[u8], at: usize) -> Result<(PairedAt, usize), Question>
     ensures { says result ≡ located (paired_at at) (read_at (group paired) row.now at) }
 {
-    let (role, at1) = fields::role_at(row, at)?;
+    let (role, at1) = fields::code_at(row, at)?;
     let at2 = fields::mode_at(row, at1)?;
-    let (verification, at3) = fields::verification_at(row, at2)?;
+    let (verification, at3) = fields::code_at(row, at2)?;
     let (pair_id, at4) = fields::run_at(row, at3, 16)?;
     let (th, at5) = fields::run_at(row, at4, 48)?;
     let (nonce_b, at6) = fields::run_at(row, at5, 16)?;
@@ -149,7 +149,7 @@ fn send_chain_at(row: &[u8], at: usize) -> Result<(SendChainAt, usize), Question
     ensures { says result ≡ located (send_chain_at at) (read_at (group send) row.now at) }
 {
     let (gen_, at1) = fields::byte_at(row, at)?;
-    let (dir, at2) = fields::dir_at(row, at1)?;
+    let (dir, at2) = fields::code_at(row, at1)?;
     let (idx, at3) = fields::u32_at(row, at2)?;
     let (key, at4) = fields::run_at(row, at3, 32)?;
     Ok((

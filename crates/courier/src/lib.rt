@@ -8,8 +8,9 @@ ghost use Rattle.layout.specs.Says.{says, answers, made};
 ghost use Rattle.rows.specs.Answers.{named};
 ghost use Rattle.rows.specs.Rows.{carried, tombstone, courier};
 ghost use Rattle.offsets.specs.Offset.{located};
-ghost use Rattle.courier.specs.Courier.{kind_of, kind_byte, kind_form, carried_at, carried_says, tombstone_at, held_at, sealed_at};
+ghost use Rattle.courier.specs.Courier.{kind_of, kind_byte, carried_at, carried_says, tombstone_at, held_at, sealed_at};
 
+use fields::Code;
 use layout::Question;
 use rows::ContactId;
 
@@ -34,6 +35,14 @@ impl TryFrom<u8> for Kind {
             _ => Err(Question::Code),
         }
     }
+}
+
+impl Code for Kind {
+    ghost of = { kind_of };
+
+    ghost to = { kind_byte };
+
+    ghost by_table = { λ _ _ gives. gives };
 }
 
 impl From<Kind> for u8 {
@@ -67,13 +76,6 @@ pub struct TombstoneAt {
 pub enum HeldAt {
     Carried(CarriedAt),
     Tombstone(TombstoneAt),
-}
-
-fn kind_at(row: &[u8], at: usize) -> Result<(Kind, usize), Question>
-    ensures { says result ≡ read_at kind_form row.now at }
-{
-    let (byte, next) = fields::byte_at(row, at)?;
-    Ok((Kind::try_from(byte)?, next))
 }
 
 // What is carried, field by field: expiry and copies are asked before the next field is taken. It ends where the row ends.
@@ -121,7 +123,7 @@ pub fn check_courier(version: u32, row: &[u8]) -> Result<HeldAt, Question>
     if version != rows::BLOB_VERSION {
         return Err(Question::Version);
     }
-    let (kind, at) = kind_at(row, 0)?;
+    let (kind, at) = fields::code_at(row, 0)?;
     match kind {
         Kind::Carried => {
             let held = carried_at(row, at)?;

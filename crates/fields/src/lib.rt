@@ -1,12 +1,16 @@
 // Fields of a row, each taken at a position: the value and the next position, or the question whose answer is no.
 #![tactic(auto)]
 
-ghost use Rattle.std.specs.Prelude.{◌≡◌, ◌+◌, ◌^◌, ◌≤◌, ◌<◌, length, drop};
+ghost use Rattle.std.specs.Prelude.{◌≡◌, ℕ, ◌+◌, ◌^◌, ◌≤◌, ◌<◌, Result, length, drop};
+ghost use Rattle.std.proofs.Math.Option.{Option};
+ghost use Rattle.layout.specs.Questions.{CODE};
+ghost use Rattle.layout.specs.declared.question.Question.{Question};
 ghost use Rattle.layout.specs.Veil.{plain};
-ghost use Rattle.layout.specs.Form.{big_endian, bytes, number, u8, u16, u32, u64, flag};
+ghost use Rattle.layout.specs.Form.{big_endian, bytes, number, letter, u8, u16, u32, u64, flag};
 ghost use Rattle.layout.specs.Field.{read_at};
 ghost use Rattle.layout.specs.Says.{says, end_says};
-ghost use Rattle.rows.specs.Rows.{role, mode, verification, dir};
+ghost use Rattle.rows.specs.Answers.{named};
+ghost use Rattle.rows.specs.Rows.{mode, role_of, role_byte, verification_of, verification_byte, dir_of, dir_byte};
 ghost use Rattle.fields.specs.Says.{run_says, Ends};
 
 use layout::Question;
@@ -92,13 +96,6 @@ pub fn flag_at(row: &[u8], at: usize) -> Result<(bool, usize), Question>
     }
 }
 
-pub fn role_at(row: &[u8], at: usize) -> Result<(PairingRole, usize), Question>
-    ensures { says result ≡ read_at role row.now at }
-{
-    let (byte, next) = byte_at(row, at)?;
-    Ok((PairingRole::try_from(byte)?, next))
-}
-
 // The mode is always the same, so there is only the next position.
 pub fn mode_at(row: &[u8], at: usize) -> Result<usize, Question>
     ensures { end_says result ≡ read_at mode row.now at }
@@ -110,16 +107,45 @@ pub fn mode_at(row: &[u8], at: usize) -> Result<usize, Question>
     }
 }
 
-pub fn verification_at(row: &[u8], at: usize) -> Result<(Verification, usize), Question>
-    ensures { says result ≡ read_at verification row.now at }
-{
-    let (byte, next) = byte_at(row, at)?;
-    Ok((Verification::try_from(byte)?, next))
+// ---- codes: a byte that a table names
+
+// What a byte of a row stands for, by the table of its type.
+pub trait Code: TryFrom<u8, Error = Question> {
+    // What each byte stands for, and which byte stands for it.
+    ghost of: { ℕ → Option Self };
+
+    ghost to: { Self → ℕ };
+
+    ghost by_table: { (byte : ℕ) (result : Result Self Question) → Self.try_from_gives byte result → result ≡ named (of byte) };
 }
 
-pub fn dir_at(row: &[u8], at: usize) -> Result<(Dir, usize), Question>
-    ensures { says result ≡ read_at dir row.now at }
+impl Code for PairingRole {
+    ghost of = { role_of };
+
+    ghost to = { role_byte };
+
+    ghost by_table = { λ _ _ gives. gives };
+}
+
+impl Code for Verification {
+    ghost of = { verification_of };
+
+    ghost to = { verification_byte };
+
+    ghost by_table = { λ _ _ gives. gives };
+}
+
+impl Code for Dir {
+    ghost of = { dir_of };
+
+    ghost to = { dir_byte };
+
+    ghost by_table = { λ _ _ gives. gives };
+}
+
+pub fn code_at<C: Code>(row: &[u8], at: usize) -> Result<(C, usize), Question>
+    ensures { says result ≡ read_at (letter CODE C.of C.to) row.now at }
 {
     let (byte, next) = byte_at(row, at)?;
-    Ok((Dir::try_from(byte)?, next))
+    Ok((C::try_from(byte)?, next))
 }

@@ -59,7 +59,7 @@ impl<'a> Reader<'a> {
     fn dir(&mut self) -> Result<Dir, Question>
         ensures { (taken result self.new.at ≡ read_at dir self.old.row.now self.old.at) × Stays self.old self.new result }
     {
-        self.past(fields::dir_at(self.row, self.at))
+        self.past(fields::code_at(self.row, self.at))
     }
 
     fn u32(&mut self) -> Result<u32, Question>

@@ -4,7 +4,7 @@ use mathlib.Core.Path.{refl, sym, ap, ◌∙◌}
 use lib.ListN.{length-drop}
 use lib.Seq.{length-take-le}
 use Rattle.layout.specs.Veil.{plain}
-use Rattle.layout.specs.Form.{big_endian, bytes, number}
+use Rattle.layout.specs.Form.{big_endian, bytes}
 use Rattle.layout.proofs.Front.{bytes-lawful}
 use Rattle.layout.proofs.At.{typed, Took, took}
 use Rattle.fields.proofs.Codes.{number_is, number-of}
