@@ -5,8 +5,8 @@ use Rattle.std.specs.Prelude as code
 use Rattle.std.proofs.Math.Option.{Option, none, some}
 use Rattle.layout.specs.Questions.{CARD_END}
 use Rattle.layout.specs.Form.{Form, u32}
-use Rattle.layout.specs.Layout.{group, optional_layout, list_layout, sized_layout}
-use Rattle.offsets.specs.Offset.{offset}
+use Rattle.layout.specs.Layout.{group, list_layout, sized_layout}
+use Rattle.offsets.specs.Offset.{offset, optional_at}
 use Rattle.rows.specs.Values as value
 use Rattle.rows.specs.Rows as rows
 use Rattle.card.specs.Card as card
@@ -96,12 +96,8 @@ module _ {B : Type 0} (f : Form B) (row : List ℕ) (l : ListAt) where
   abbrev pub ListIn : Type 0
   ListIn = Listed f row l.first l.count l.next
 
--- ---- a part behind a flag: its places, where the flag is 1
+-- ---- a part behind a flag
 module _ {B P : Type 0} where
-  abbrev pub optional_at : Form B → (ℕ → B → P) → ℕ → Option B → code.Option P
-  optional_at f places from none = code.None
-  optional_at f places from (some b) = code.Some (places (from + offset (optional_layout f) 1 (some b)) b)
-
   abbrev pub optional_from : (P → B) → code.Option P → Option B
   optional_from of code.None = none
   optional_from of (code.Some p) = some (of p)

@@ -4,16 +4,19 @@
 ghost use Rattle.std.specs.Prelude.{◌≡◌};
 ghost use Rattle.layout.specs.Questions.{CARD_END};
 ghost use Rattle.layout.specs.Field.{read_at};
-ghost use Rattle.layout.specs.Layout.{group, optional, sized};
+ghost use Rattle.layout.specs.Layout.{group, sized};
 ghost use Rattle.layout.specs.Says.{says};
 ghost use Rattle.rows.specs.Rows.{card, pending, send};
+ghost use Rattle.rows.specs.Values.{Pending, Send};
+ghost use Rattle.rows.proofs.Lawful.{pending-lawful, send-lawful};
 ghost use Rattle.contact_parts.specs.Parts.{paired, keys, chained, numbers};
 ghost use Rattle.offsets.specs.Offset.{located};
-ghost use Rattle.contact_parts.specs.Offsets.{card_at, paired_at, keys_at, pending_keys_at, pending_at, send_chain_at, send_at, chained_at, numbers_at};
+ghost use Rattle.contact_parts.specs.Offsets.{card_at, paired_at, keys_at, pending_keys_at, send_chain_at, chained_at, numbers_at};
 
 use card::CardAt;
 use contact_lists::ListAt;
 use layout::Question;
+use offsets::Part;
 use rows::{Dir, PairingRole, Verification};
 
 // A card in the row: from start up to end, with its fields' places in that part.
@@ -29,7 +32,7 @@ fn card_at(row: &[u8], at: usize) -> Result<(CardOffset, usize), Question>
     ensures { says result ≡ located (card_at at) (read_at (sized (group card) CARD_END) row.now at) }
 {
     let (len, mid) = fields::u16_at(row, at)?;
-    let (start, end) = fields::run_at(row, mid, len as usize)?;
+    let (start, end) = fields::run_at(row, mid, usize::from(len))?;
     let at = card::check_card(&row[start..end])?;
     Ok((CardOffset { start, end, at }, end))
 }
@@ -110,29 +113,25 @@ pub struct PendingAt {
     pub msg_seed: usize,
 }
 
-// chain_key and msg_seed.
-fn pending_keys_at(row: &[u8], at: usize) -> Result<(PendingAt, usize), Question>
-    ensures { says result ≡ located (pending_keys_at at) (read_at (group pending) row.now at) }
-{
-    let (chain_key, at1) = fields::run_at(row, at, 32)?;
-    let (msg_seed, at2) = fields::run_at(row, at1, 32)?;
-    let keys = PendingAt {
-        chain_key,
-        msg_seed,
-    };
-    Ok((keys, at2))
-}
+impl Part for PendingAt {
+    ghost Value = { Pending };
 
-// The flag, and the keys if it is 1.
-fn pending_at(row: &[u8], at: usize) -> Result<(Option<PendingAt>, usize), Question>
-    ensures { says result ≡ located (pending_at at) (read_at (optional (group pending)) row.now at) }
-{
-    let (present, at1) = fields::flag_at(row, at)?;
-    if !present {
-        return Ok((None, at1));
+    ghost form = { group pending };
+
+    ghost places = { pending_keys_at };
+
+    // chain_key and msg_seed.
+    fn part_at(row: &[u8], at: usize) -> Result<(PendingAt, usize), Question> {
+        let (chain_key, at1) = fields::run_at(row, at, 32)?;
+        let (msg_seed, at2) = fields::run_at(row, at1, 32)?;
+        let keys = PendingAt {
+            chain_key,
+            msg_seed,
+        };
+        Ok((keys, at2))
     }
-    let (its, at2) = pending_keys_at(row, at1)?;
-    Ok((Some(its), at2))
+
+    ghost lawful = { pending-lawful };
 }
 
 // The send chain's numbers, and where its key starts.
@@ -144,35 +143,31 @@ pub struct SendChainAt {
     pub dir: Dir,
 }
 
-// A send chain: gen, dir, idx, key.
-fn send_chain_at(row: &[u8], at: usize) -> Result<(SendChainAt, usize), Question>
-    ensures { says result ≡ located (send_chain_at at) (read_at (group send) row.now at) }
-{
-    let (gen_, at1) = fields::byte_at(row, at)?;
-    let (dir, at2) = fields::code_at(row, at1)?;
-    let (idx, at3) = fields::u32_at(row, at2)?;
-    let (key, at4) = fields::run_at(row, at3, 32)?;
-    Ok((
-        SendChainAt {
-            key,
-            idx,
-            gen_,
-            dir,
-        },
-        at4,
-    ))
-}
+impl Part for SendChainAt {
+    ghost Value = { Send };
 
-// The flag, and the send chain if it is 1.
-fn send_at(row: &[u8], at: usize) -> Result<(Option<SendChainAt>, usize), Question>
-    ensures { says result ≡ located (send_at at) (read_at (optional (group send)) row.now at) }
-{
-    let (present, at1) = fields::flag_at(row, at)?;
-    if !present {
-        return Ok((None, at1));
+    ghost form = { group send };
+
+    ghost places = { send_chain_at };
+
+    // gen, dir, idx, key.
+    fn part_at(row: &[u8], at: usize) -> Result<(SendChainAt, usize), Question> {
+        let (gen_, at1) = fields::byte_at(row, at)?;
+        let (dir, at2) = fields::code_at(row, at1)?;
+        let (idx, at3) = fields::u32_at(row, at2)?;
+        let (key, at4) = fields::run_at(row, at3, 32)?;
+        Ok((
+            SendChainAt {
+                key,
+                idx,
+                gen_,
+                dir,
+            },
+            at4,
+        ))
     }
-    let (its, at2) = send_chain_at(row, at1)?;
-    Ok((Some(its), at2))
+
+    ghost lawful = { send-lawful };
 }
 
 // What it awaits and sends, and its chains.
@@ -188,8 +183,8 @@ pub struct ChainedAt {
 pub fn chained_at(row: &[u8], at: usize) -> Result<(ChainedAt, usize), Question>
     ensures { says result ≡ located (chained_at at) (read_at (group chained) row.now at) }
 {
-    let (pending, at1) = pending_at(row, at)?;
-    let (send, at2) = send_at(row, at1)?;
+    let (pending, at1) = offsets::optional_at(row, at)?;
+    let (send, at2) = offsets::optional_at(row, at1)?;
     let chains = contact_lists::chains_at(row, at2)?;
     let skipped = contact_lists::skipped_at(row, chains.next)?;
     Ok((

@@ -1,20 +1,16 @@
 -- A queued row and its envelope are read along their layouts (layout's `along`), since their fields are lawful.
 use Prim.Native.Nat.{ℕ}
 use mathlib.Core.List.{List}
-use mathlib.Core.Bool.{cond}
-use mathlib.Core.Option.{none, some}
 use mathlib.Core.Path.{◌≡◌}
 use lib.ListN.{get_or}
 use mir.Val.{Fits}
 use mir.Syntax.{w8}
 use Rattle.layout.specs.Questions.{SEALED_LENGTH, ROW_END}
 use Rattle.layout.specs.Veil.{plain, veiled}
-use Rattle.layout.specs.Form.{flag}
-use Rattle.layout.specs.Field.{takes, read_at}
-use Rattle.layout.specs.Layout.{group, optional, read_row}
+use Rattle.layout.specs.Field.{read_at}
+use Rattle.layout.specs.Layout.{group, read_row}
 use Rattle.layout.proofs.At.{typed}
-use Rattle.layout.proofs.Along.{Fields, on, along, asked_of, part-along, row-along}
-use Rattle.layout.proofs.Optional.{optional-along}
+use Rattle.layout.proofs.Along.{Fields, along, asked_of, part-along, row-along}
 use Rattle.layout.proofs.Derived.{optional-lawful}
 use Rattle.layout.proofs.Front.{bytes-lawful, number-lawful, flag-lawful}
 use Rattle.layout.proofs.Leb.{leb128-lawful}
@@ -46,10 +42,6 @@ queued-fields version = (
 module _ (row : List ℕ) (types : (i : ℕ) → Fits w8 (get_or row i 0)) where
   pub envelope-reads : (at : ℕ) → read_at (group own_envelope) row at ≡ along own_envelope row at
   envelope-reads at = part-along row (typed row types) own_envelope envelope-fields at tt
-
-  pub own-reads : (at : ℕ) → read_at (optional (group own_envelope)) row at
-      ≡ on (read_at flag row at) (λ there mid. cond there (on (read_at (group own_envelope) row mid) (λ e next. takes (some e) next)) (takes none mid))
-  own-reads at = optional-along (group own_envelope) own_envelope-lawful row (typed row types) at
 
   pub queued-reads : (version : ℕ) → read_row (queued version) row ≡ asked_of (along (queued version) row 0)
   queued-reads version = row-along row (typed row types) (queued version) (queued-fields version) tt

@@ -3,8 +3,8 @@
 use Rattle.std.specs.Prelude.{ℕ, ◌+◌, ◌≤◌, List, Option, Some, None, length, take, drop}
 use Rattle.std.proofs.Math.Option.{none, some}
 use Rattle.std.proofs.Math.Option as math
-use Rattle.layout.specs.Layout.{group, optional_layout}
-use Rattle.offsets.specs.Offset.{offset}
+use Rattle.layout.specs.Layout.{group}
+use Rattle.offsets.specs.Offset.{offset, optional_at}
 use Rattle.rows.specs.Values as value
 use Rattle.rows.specs.Rows.{own_envelope, queued}
 use Rattle.queued.specs.declared.EnvelopeAt.{EnvelopeAt}
@@ -22,8 +22,7 @@ envelope_at from e = record {
 
 -- ... behind its flag
 abbrev pub own_at : ℕ → math.Option value.OwnEnvelope → Option EnvelopeAt
-own_at from none = None
-own_at from (some e) = Some (envelope_at (from + offset (optional_layout (group own_envelope)) 1 (some e)) e)
+own_at = optional_at (group own_envelope) envelope_at
 
 -- ---- a queued row: its numbers, and where its runs start
 abbrev pub queued_at : ℕ → value.Queued → QueuedAt

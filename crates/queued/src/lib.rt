@@ -2,14 +2,15 @@
 #![tactic(auto)]
 
 ghost use Rattle.std.specs.Prelude.{◌≡◌, drop};
-ghost use Rattle.layout.specs.Field.{read_at};
-ghost use Rattle.layout.specs.Layout.{group, optional, read_row};
-ghost use Rattle.layout.specs.Says.{says, answers, made};
+ghost use Rattle.layout.specs.Layout.{group, read_row};
+ghost use Rattle.layout.specs.Says.{answers, made};
+ghost use Rattle.rows.specs.Values.{OwnEnvelope};
 ghost use Rattle.rows.specs.Rows.{own_envelope, queued};
-ghost use Rattle.offsets.specs.Offset.{located};
-ghost use Rattle.queued.specs.Queued.{envelope_at, own_at, queued_at};
+ghost use Rattle.rows.proofs.Lawful.{own_envelope-lawful};
+ghost use Rattle.queued.specs.Queued.{envelope_at, queued_at};
 
 use layout::Question;
+use offsets::Part;
 
 // An own envelope's numbers, and where its runs start.
 #[derive(Clone, Copy)]
@@ -19,6 +20,34 @@ pub struct EnvelopeAt {
     pub expiry_min: u32,
     pub copies: u8,
     pub renewed: bool,
+}
+
+impl Part for EnvelopeAt {
+    ghost Value = { OwnEnvelope };
+
+    ghost form = { group own_envelope };
+
+    ghost places = { envelope_at };
+
+    fn part_at(row: &[u8], at: usize) -> Result<(EnvelopeAt, usize), Question> {
+        let (tag, at1) = fields::run_at(row, at, 16)?;
+        let (s, at2) = fields::run_at(row, at1, 16)?;
+        let (expiry_min, at3) = fields::u32_at(row, at2)?;
+        let (copies, at4) = fields::byte_at(row, at3)?;
+        let (renewed, at5) = fields::flag_at(row, at4)?;
+        Ok((
+            EnvelopeAt {
+                tag,
+                s,
+                expiry_min,
+                copies,
+                renewed,
+            },
+            at5,
+        ))
+    }
+
+    ghost lawful = { own_envelope-lawful };
 }
 
 // A queued row's numbers, and where its runs start.
@@ -31,39 +60,6 @@ pub struct QueuedAt {
     pub envelope: Option<EnvelopeAt>,
 }
 
-// The fields of an own envelope.
-fn envelope_at(row: &[u8], at: usize) -> Result<(EnvelopeAt, usize), Question>
-    ensures { says result ≡ located (envelope_at at) (read_at (group own_envelope) row.now at) }
-{
-    let (tag, at1) = fields::run_at(row, at, 16)?;
-    let (s, at2) = fields::run_at(row, at1, 16)?;
-    let (expiry_min, at3) = fields::u32_at(row, at2)?;
-    let (copies, at4) = fields::byte_at(row, at3)?;
-    let (renewed, at5) = fields::flag_at(row, at4)?;
-    Ok((
-        EnvelopeAt {
-            tag,
-            s,
-            expiry_min,
-            copies,
-            renewed,
-        },
-        at5,
-    ))
-}
-
-// The flag, and the envelope if it is 1.
-fn own_envelope_at(row: &[u8], at: usize) -> Result<(Option<EnvelopeAt>, usize), Question>
-    ensures { says result ≡ located (own_at at) (read_at (optional (group own_envelope)) row.now at) }
-{
-    let (present, at1) = fields::flag_at(row, at)?;
-    if !present {
-        return Ok((None, at1));
-    }
-    let (envelope, at2) = envelope_at(row, at1)?;
-    Ok((Some(envelope), at2))
-}
-
 // The questions of a queued row; nothing is copied.
 pub fn check_queued(version: u32, row: &[u8]) -> Result<QueuedAt, Question>
     ensures { answers result ≡ made (queued_at version) (read_row (queued version) row.now) }
@@ -72,7 +68,7 @@ pub fn check_queued(version: u32, row: &[u8]) -> Result<QueuedAt, Question>
         return Err(Question::Version);
     }
     let (created_s, at1) = fields::u64_at(row, 0)?;
-    let (envelope, at2) = own_envelope_at(row, at1)?;
+    let (envelope, at2) = offsets::optional_at(row, at1)?;
     let (gen_, at3) = fields::byte_at(row, at2)?;
     let (idx, at4) = data::leb128_at(row, at3)?;
     if !sealed::sealed_queued(row.len() - at4) {

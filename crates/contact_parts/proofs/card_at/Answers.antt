@@ -12,6 +12,7 @@ use Rattle.layout.specs.Questions.{FIELD, CARD_END}
 use Rattle.layout.specs.Read.{value, refused}
 use Rattle.layout.specs.Veil.{plain}
 use Rattle.layout.specs.Form.{bytes, u16}
+use Rattle.layout.specs.Field.{takes, read_at}
 use Rattle.layout.specs.Layout.{group, sized, sized_layout, read_row}
 use Rattle.layout.specs.Layout as layout
 use Rattle.layout.specs.RowLaws.{Bytes}
@@ -56,9 +57,13 @@ only-field n rest {q} e = go (leb n (length rest)) e
     go true e = absurd (value≢refused e)
     go false e = let same : FIELD ≡ q = cc in sym same
 
+-- the run that was taken is as long as its length says
+taken : (c : In_ok-start) → read_at (bytes plain c.in_ok-len.len) c.args.row.now c.in_ok-len.mid ≡ takes (take c.in_ok-len.len (drop c.in_ok-start.start c.args.row.now)) c.in_ok-start.end
+taken c = rw c.from.ensures at (sym c.in_ok-start.ensures.0)
+
 -- the card's part lies in the row, and what is read of the card is what that part alone is read as
 inside : (c : In_ok-start) → c.in_ok-start.end ≤ length c.args.row.now
-inside c = (run-took _ _ plain c.in_ok-len.len (typed _ c.type_inv.row) (sym c.in_ok-start.ensures.0)).inside
+inside c = (run-took _ _ plain c.in_ok-len.len (typed _ c.type_inv.row) (taken c)).inside
 
 abbrev part : In_ok-start → List ℕ
 part c = take (c.in_ok-start.end - c.in_ok-start.start) (drop c.in_ok-start.start c.args.row.now)
@@ -67,8 +72,8 @@ reads : (c : In_ok-start) → (sized (group card) CARD_END).read (drop c.args.at
 reads c =
     let by : Bytes c.args.row.now = typed _ c.type_inv.row in
     let len-took = took c.args.row.now c.args.at u16 (number-lawful 2) by (sym c.in_ok-len.ensures) in
-    let long : c.in_ok-start.end - c.in_ok-start.start ≡ c.in_ok-len.len = omega (arith, c.in_ok-start.ensures.1) in
-    rw long (sized-part (group card) CARD_END c.args.row.now _ len-took plain (run-took _ _ plain c.in_ok-len.len by (sym c.in_ok-start.ensures.0)))
+    let long : c.in_ok-start.end - c.in_ok-start.start ≡ c.in_ok-len.len = omega (arith, c.in_ok-start.ensures.1, c.from.ensures) in
+    rw long (sized-part (group card) CARD_END c.args.row.now _ len-took plain (run-took _ _ plain c.in_ok-len.len by (taken c)))
 
 pub returns-in_err-len : goal.returns-in_err-len
 returns-in_err-len c =
@@ -79,7 +84,7 @@ pub returns-in_err-start : goal.returns-in_err-start
 returns-in_err-start c =
     let told : c.from_residual-in_err-start.result ≡ Err c.in_err-start.field-0.0 = search rules in
     let len-took = took c.args.row.now c.args.at u16 (number-lawful 2) (typed _ c.type_inv.row) (sym c.in_ok-len.ensures) in
-    let short = run_short c.args.row.now c.in_ok-len.mid plain c.in_ok-len.len (sym c.in_err-start.ensures.0) in
+    let short = run_short c.args.row.now c.in_ok-len.mid plain c.in_ok-len.len (rw c.from.ensures at (sym c.in_err-start.ensures.0)) in
     let which = only-field c.in_ok-len.len (drop c.in_ok-len.mid c.args.row.now) short in
     rw (told, which) (locates-not _ _ (sized (group card) CARD_END) (card_at _) (sized-short (group card) CARD_END c.args.row.now _ len-took plain (short ∙ ap refused which)))
 
@@ -100,8 +105,8 @@ returns c =
     let all = reads (goal.at.returns c).In_ok-start ∙ ap (in_row (group card) CARD_END (drop c.in_ok-start.end c.args.row.now)) (sym c.in_ok-at.ensures.0) in
     let len-read = sym c.in_ok-len.ensures in
     let mid-is = took-next _ _ u16 (number-lawful 2) by len-read (not-past _ _ u16 refl len-read) in
-    let start_is = bytes_next _ _ c.in_ok-len.len plain by (sym c.in_ok-start.ensures.0) (took _ _ u16 (number-lawful 2) by len-read).inside in
+    let start_is = bytes_next _ _ c.in_ok-len.len plain by (taken (goal.at.returns c).In_ok-start) (took _ _ u16 (number-lawful 2) by len-read).inside in
     let end_is = next-is c.args.row.now from (sized (group card) CARD_END) (sized-lawful (group card) card-lawful CARD_END) by (not-past _ _ u16 refl len-read)
     {b = card_from (part (goal.at.returns c).In_ok-start) c.in_ok-at.at} (record { reads = all; inside = ends; onward = λ l. omega (arith, l, mid-is, start_is) }) in
     locates _ _ (sized (group card) CARD_END) (card_at _) all ends
-    (its-place from (part (goal.at.returns c).In_ok-start) c.in_ok-at.at c.in_ok-at.ensures.1 (omega (arith, c.in_ok-start.ensures.1, start_is, mid-is, length-bytes_of 2 c.in_ok-len.len)) end_is)
+    (its-place from (part (goal.at.returns c).In_ok-start) c.in_ok-at.at c.in_ok-at.ensures.1 (omega (arith, c.in_ok-start.ensures.1, c.from.ensures, start_is, mid-is, length-bytes_of 2 c.in_ok-len.len)) end_is)

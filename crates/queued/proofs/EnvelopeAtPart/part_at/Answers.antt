@@ -1,4 +1,4 @@
--- `queued::envelope_at` meets its contract: along the layout, the fields are what was taken so far.
+-- `<EnvelopeAt as Part>::part_at` meets its contract: along the layout, the fields are what was taken so far.
 use Rattle.std.proofs.Common.{rules, ◌≡◌, ◌+◌, Err, take, drop, length, arith}
 use mathlib.Core.Path.{refl}
 use Rattle.layout.specs.Field.{takes}
@@ -7,7 +7,7 @@ use Rattle.layout.proofs.At.{typed}
 use Rattle.layout.proofs.Along.{any-run}
 use Rattle.offsets.proofs.Runs.{run-starts}
 use Rattle.queued.proofs.Rows.{envelope-reads}
-use Rattle.queued.proofs.envelope_at.Goals as goal
+use Rattle.queued.proofs.EnvelopeAtPart.part_at.Goals as goal
 
 pub returns-in_err-tag : goal.returns-in_err-tag
 returns-in_err-tag c = let no : c.from_residual.result ≡ Err c.in_err-tag.field-0.0 = search rules in rw (no, envelope-reads _ c.type_inv.row c.args.at, ← c.in_err-tag.ensures.0) refl

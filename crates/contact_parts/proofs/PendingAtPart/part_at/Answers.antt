@@ -1,4 +1,4 @@
--- `contact_parts::pending_keys_at` meets its contract: along the layout, and each field at its place.
+-- `<PendingAt as Part>::part_at` meets its contract: along the layout, and each field at its place.
 -- Assumes nothing.
 use Rattle.std.proofs.Common.{rules, ◌≡◌, ◌+◌, ℕ, List, take, drop, Err, arith}
 use Rattle.layout.specs.Veil.{veiled}
@@ -13,7 +13,7 @@ use Rattle.layout.proofs.Front.{bytes-lawful}
 use Rattle.rows.specs.Values.{Pending}
 use Rattle.rows.specs.Rows.{pending}
 use Rattle.contact_parts.specs.Offsets.{pending_keys_at}
-use Rattle.contact_parts.proofs.pending_keys_at.Goals as goal
+use Rattle.contact_parts.proofs.PendingAtPart.part_at.Goals as goal
 
 pending-fields : Fields pending
 pending-fields = (bytes-lawful veiled 32, λ k. (bytes-lawful veiled 32, λ s. tt))

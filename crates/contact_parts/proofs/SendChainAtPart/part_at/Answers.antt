@@ -1,4 +1,4 @@
--- `contact_parts::send_chain_at` meets its contract: along the layout, and each field at its place.
+-- `<SendChainAt as Part>::part_at` meets its contract: along the layout, and each field at its place.
 -- Assumes nothing.
 use Rattle.std.proofs.Common.{rules, ◌≡◌, ◌+◌, ℕ, List, take, drop, Err, arith}
 use mathlib.Core.Path.{refl, sym}
@@ -17,7 +17,7 @@ use Rattle.rows.specs.Values.{Send}
 use Rattle.rows.specs.Rows.{dir, send}
 use Rattle.rows.proofs.Lawful.{dir-lawful}
 use Rattle.contact_parts.specs.Offsets.{send_chain_at}
-use Rattle.contact_parts.proofs.send_chain_at.Goals as goal
+use Rattle.contact_parts.proofs.SendChainAtPart.part_at.Goals as goal
 
 send-fields : Fields send
 send-fields = (number-lawful 1, λ g. (dir-lawful, λ d. (number-lawful 4, λ i. (bytes-lawful veiled 32, λ k. tt))))
