@@ -49,6 +49,7 @@ impl From<Kind> for u8 {
     ghost from_gives = { λ kind code. code ≡ kind_byte kind };
 
     fn from(kind: Kind) -> u8 {
+        // Kept: the new form is no plainer: a match would say each code a second time.
         kind as u8
     }
 }

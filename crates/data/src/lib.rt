@@ -45,6 +45,7 @@ pub fn leb128_len(value: u32) -> usize
 {
     let mut rest = value;
     let mut n: usize = 1;
+    // Kept: the new form is no plainer: a turn goes by what is left of the number, as in the Rust; nothing counts the turns.
     while rest >= 0x80 {
         rest /= 128;
         n += 1;
@@ -59,6 +60,7 @@ pub fn put_leb128(value: u32, out: &mut [u8], at: usize) -> usize
 {
     let mut rest = value;
     let mut here = at;
+    // Kept: the new form is no plainer: a turn goes by what is left of the number, as in the Rust; `try_from` would need an answer for bytes above 255, and there are none.
     while rest >= 0x80 {
         here = put::put_byte(out, here, (rest % 128 + 128) as u8);
         rest /= 128;

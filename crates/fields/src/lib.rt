@@ -65,6 +65,7 @@ pub fn byte_at(row: &[u8], at: usize) -> Result<(u8, usize), Question>
     Ok((*byte, at + 1))
 }
 
+// Kept: the new form is no plainer: this and `u32_at` share `number_at`, and differ only in the type that its number fits; `try_from` would need an answer for one that does not.
 pub fn u16_at(row: &[u8], at: usize) -> Result<(u16, usize), Question>
     ensures { says result ≡ read_at u16 row.now at }
 {

@@ -28,6 +28,7 @@ pub enum Verification {
 // The direction of a message chain, named after the sender's Resume role.
 #[derive(Clone, Copy, Debug, PartialEq, Eq)]
 pub enum Dir {
+    // Kept: the new form is no plainer: Rust takes an enum's codes by `as`, and gives them back so below, where a match would say each code a second time.
     I = b'I' as isize,
     R = b'R' as isize,
 }
