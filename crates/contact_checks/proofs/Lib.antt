@@ -4,4 +4,5 @@ pub mod Fields
 pub mod Distinct
 pub mod Chains
 pub mod Callers
+mod Keys
 mod Behind

@@ -1,7 +1,7 @@
 // Questions 17 to 24 of a contact, which its lists are asked once all of them were read: over a row's bytes, and over lent lists.
 #![tactic(auto)]
 
-ghost use Rattle.std.specs.Prelude.{◌≡◌, cond, ◌&&◌, ◌+◌, ◌*◌, ◌^◌, ◌≤◌, ◌<◌, length, take, drop, eqb};
+ghost use Rattle.std.specs.Prelude.{◌≡◌, cond, ◌&&◌, ◌+◌, ◌*◌, ◌^◌, ◌≤◌, ◌<◌, length, map, take, drop, eqb};
 ghost use Rattle.layout.specs.Form.{u32};
 ghost use Rattle.layout.specs.Layout.{group};
 ghost use Rattle.rows.specs.Checks.{any, distinct, keys_distinct, rising, canonical, none_above};
@@ -10,7 +10,7 @@ ghost use Rattle.contact_lists.specs.Lists.{items, Stands};
 ghost use Rattle.contact_lists.specs.Places.{places_of};
 ghost use Rattle.received.specs.Lent.{pairs};
 ghost use Rattle.contact_checks.specs.Asked.{Placed, chains_asked};
-ghost use Rattle.contact_checks.specs.Cells.{chain_width, superseded_at, gens, supersededs, one_current, ChainsStand, key_number, key_numbers, KeysStand, ascending};
+ghost use Rattle.contact_checks.specs.Cells.{chain_width, superseded_at, gens, supersededs, one_current, ChainsStand, key_number, key_numbers, ascending};
 
 // How many keys are few.
 const FEW: usize = 256;
@@ -66,10 +66,11 @@ fn gens_distinct(bytes: &[u8], first: usize, count: usize, padded: bool) -> bool
     requires { ChainsStand padded count (drop first bytes.now) }
     ensures { result ≡ distinct eqb (gens padded count (drop first bytes.now)) }
 {
+    // Kept: fixed memory, no heap: a mark for each value that the byte gen can have.
     let mut seen = [false; 256];
     let mut p = first;
     for _ in 0..count {
-        let g = bytes[p] as usize;
+        let g = usize::from(bytes[p]);
         if seen[g] {
             return false;
         }
@@ -101,22 +102,29 @@ pub fn chains_lent(lent: &[u8], count: usize) -> ChainsAsked
     }
 }
 
-// gen and idx of a skipped key, as one number.
-fn key_at(bytes: &[u8], at: usize) -> u64
-    requires { at + 46 ≤ length bytes.now }
-    ensures { (result ≡ key_number (drop at bytes.now)) × (result < 2 ^ 40) }
+// The places of skipped keys that stand from `first` on.
+fn keys_at(bytes: &[u8], first: usize, count: usize) -> &[[u8; 46]]
+    requires { Stands (group skipped) bytes.now first count }
+    ensures { map key_number result.now ≡ key_numbers count (drop first bytes.now) }
 {
-    u64::from(bytes[at]) * 4_294_967_296 + fields::be32(bytes, at + 2)
+    let (places, _) = bytes[first..].as_chunks::<46>();
+    &places[..count]
+}
+
+// gen and idx of a skipped key, as one number.
+fn number_at(place: &[u8; 46]) -> u64
+    ensures { (result ≡ key_number place.now) × (result < 2 ^ 40) }
+{
+    u64::from(place[0]) * 4_294_967_296 + fields::be32(place, 2)
 }
 
 // Whether each key is above the one before it.
-fn keys_rise(bytes: &[u8], first: usize, count: usize) -> bool
-    requires { KeysStand count (drop first bytes.now) }
-    ensures { result ≡ ascending 0 (key_numbers count (drop first bytes.now)) }
+fn keys_rise(keys: &[[u8; 46]]) -> bool
+    ensures { result ≡ ascending 0 (map key_number keys.now) }
 {
     let mut low: u64 = 0;
-    for i in 0..count {
-        let key = key_at(bytes, first + 46 * i);
+    for place in keys {
+        let key = number_at(place);
         if key < low {
             return false;
         }
@@ -126,39 +134,27 @@ fn keys_rise(bytes: &[u8], first: usize, count: usize) -> bool
 }
 
 // Whether a key stands there. Two keys mostly differ in the last byte of idx, which is compared first.
-fn is_key(bytes: &[u8], at: usize, key: u64) -> bool
-    requires { at + 46 ≤ length bytes.now }
-    ensures { result ≡ eqb key (key_number (drop at bytes.now)) }
+fn is_key(place: &[u8; 46], key: u64) -> bool
+    ensures { result ≡ eqb key (key_number place.now) }
 {
-    if u64::from(bytes[at + 5]) == key % 256 {
-        return key == key_at(bytes, at);
-    }
-    false
+    u64::from(place[5]) == key % 256 && key == number_at(place)
 }
 
 // Whether a key is among them.
-fn comes_again(bytes: &[u8], first: usize, count: usize, key: u64) -> bool
-    requires { KeysStand count (drop first bytes.now) }
-    ensures { result ≡ any (eqb key) (key_numbers count (drop first bytes.now)) }
+fn comes_again(keys: &[[u8; 46]], key: u64) -> bool
+    ensures { result ≡ any (eqb key) (map key_number keys.now) }
 {
-    for i in 0..count {
-        if is_key(bytes, first + 46 * i, key) {
-            return true;
-        }
-    }
-    false
+    keys.iter().any(|place| is_key(place, key))
 }
 
 // Whether no key comes again behind itself, from the last on. The filter has those behind, so a key that is new by it is looked for nowhere.
-fn keys_differ(bytes: &[u8], first: usize, count: usize, bits: &mut [u64]) -> bool
-    requires { KeysStand count (drop first bytes.now) }
-    ensures { result ≡ distinct eqb (key_numbers count (drop first bytes.now)) }
+fn keys_differ(keys: &[[u8; 46]], bits: &mut [u64]) -> bool
+    ensures { result ≡ distinct eqb (map key_number keys.now) }
 {
-    for i in (0..count).rev() {
-        let p = first + 46 * i;
-        let key = key_at(bytes, p);
+    for i in (0..keys.len()).rev() {
+        let key = number_at(&keys[i]);
         if filter::add(bits, filter::mix(key)) {
-            if comes_again(bytes, p + 46, count - i - 1, key) {
+            if comes_again(&keys[i + 1..], key) {
                 return false;
             }
         }
@@ -167,12 +163,13 @@ fn keys_differ(bytes: &[u8], first: usize, count: usize, bits: &mut [u64]) -> bo
 }
 
 // The same with a filter of at most 512 words.
-fn differ_with<const WORDS: usize>(bytes: &[u8], first: usize, count: usize) -> bool
-    requires { KeysStand count (drop first bytes.now) × (WORDS ≤ 512) }
-    ensures { result ≡ distinct eqb (key_numbers count (drop first bytes.now)) }
+fn differ_with<const WORDS: usize>(keys: &[[u8; 46]]) -> bool
+    requires { WORDS ≤ 512 }
+    ensures { result ≡ distinct eqb (map key_number keys.now) }
 {
+    // Kept: fixed memory, no heap: the filter is a local buffer, of a size that the caller chooses.
     let mut bits = [0u64; WORDS];
-    keys_differ(bytes, first, count, &mut bits)
+    keys_differ(keys, &mut bits)
 }
 
 // 19, of skipped keys of a row, or of a lent list, whose places hold a row's bytes. Keys in rising order are seen in one pass.
@@ -180,14 +177,15 @@ pub fn skipped_distinct(bytes: &[u8], first: usize, count: usize) -> bool
     requires { Stands (group skipped) bytes.now first count }
     ensures { result ≡ keys_distinct (items (group skipped) count (drop first bytes.now)) }
 {
-    if keys_rise(bytes, first, count) {
+    let keys = keys_at(bytes, first, count);
+    if keys_rise(keys) {
         return true;
     }
     // A filter of 512 bytes for few keys, and of 4 KB for many: a larger frame would be touched page by page wherever a contact row is checked.
     if count < FEW {
-        return differ_with::<64>(bytes, first, count);
+        return differ_with::<64>(keys);
     }
-    differ_with::<512>(bytes, first, count)
+    differ_with::<512>(keys)
 }
 
 // 22, of numbers of a row.
@@ -201,7 +199,7 @@ pub fn rising_in_row(row: &[u8], first: usize, count: usize, sent: u32) -> bool
         if n < low {
             return false;
         }
-        if (sent as u64) < n {
+        if u64::from(sent) < n {
             return false;
         }
         low = n + 1;
@@ -225,7 +223,7 @@ pub fn canonical_in_row(row: &[u8], first: usize, count: usize, from: u64, high:
         if a < low {
             return false;
         }
-        if (high as u64) < b {
+        if u64::from(high) < b {
             return false;
         }
         low = b + 2;
@@ -233,6 +231,7 @@ pub fn canonical_in_row(row: &[u8], first: usize, count: usize, from: u64, high:
     true
 }
 
+// Kept: no heap: lists are lent, longer than their count, so a count stands beside each (also at chains_lent and canonical_lent).
 // 22, of the first numbers of a list.
 pub fn rising_lent(list: &[u32], count: usize, sent: u32) -> bool
     requires { count ≤ length list.now }
@@ -244,7 +243,7 @@ pub fn rising_lent(list: &[u32], count: usize, sent: u32) -> bool
         if n < low {
             return false;
         }
-        if (sent as u64) < n {
+        if u64::from(sent) < n {
             return false;
         }
         low = n + 1;
@@ -267,7 +266,7 @@ pub fn canonical_lent(list: &[u32], count: usize, from: u64, high: u32) -> bool
         if a < low {
             return false;
         }
-        if (high as u64) < b {
+        if u64::from(high) < b {
             return false;
         }
         low = b + 2;

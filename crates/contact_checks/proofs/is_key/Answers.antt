@@ -1,28 +1,18 @@
 -- `contact_checks::is_key` meets its contract: keys whose last bytes differ are not the same.
-use Prim.Native.Nat.{ℕ, ◌+◌, ◌%◌, ◌<◌}
-use mathlib.Core.List.{List}
-use mathlib.Core.Path.{◌≡◌, sym, ap, ◌∙◌}
-use native.Mathlib.Omega.{arith}
-use lib.ListN.{get_or, drop}
+use Rattle.std.proofs.Common.{ℕ, ◌%◌, ◌<◌, List, get_or, ◌≡◌, sym, ap, ◌∙◌, arith}
 use lib.Seq.{get_or-drop}
-use lib.Dec.{eqb}
 use borrow.Author.Tests.{ne_eqb}
 use Rattle.layout.specs.Form as form
 use Rattle.contact_checks.specs.Cells.{key_number}
 use Rattle.contact_checks.proofs.is_key.Goals as goal
 
 -- d is the last byte of idx
-last : (l : List ℕ) (at d : ℕ) → d ≡ get_or l (at + 5) 0 → d < 256 → d ≡ key_number (drop at l) % 256
+last : (l : List ℕ) (d : ℕ) → d ≡ get_or l 5 0 → d < 256 → d ≡ key_number l % 256
 unfolding form.big_endian
-last l at d e small = simp get_or-drop (omega arith)
+last l d e small = simp get_or-drop (omega arith)
 
-pub returns-then-from-key : goal.returns-then-from-key
-returns-then-from-key c = ap (eqb c.args.key) c.key_at.ensures.0
-
-pub returns : goal.returns
-returns c =
-    let l = c.args.bytes.now in
-    let at = c.args.at in
-    sym
-    (ne_eqb c.args.key (key_number (drop at l)) (λ same.
-    c.if-from-key.false (last l at c.from.result c.from.ensures (omega (arith, c.from.ensures, c.type_inv.bytes (at + 5))) ∙ ap (λ (n : ℕ). n % 256) (sym same))))
+pub returns-else-from-key : goal.returns-else-from-key
+returns-else-from-key c =
+    let place = c.args.place.now in
+    ne_eqb c.from.result (c.args.key % 256) c.if-from-key.false
+    ∙ sym (ne_eqb c.args.key (key_number place) (λ same. c.if-from-key.false (last place c.from.result c.from.ensures (omega arith) ∙ ap (λ (n : ℕ). n % 256) (sym same))))
