@@ -1,20 +1,24 @@
--- The questions at the end of a contact row's layout are those of `inconsistency`.
+-- The questions at the end of a contact row's layout are those of `inconsistency`; and what the code's answers to them say of it.
 -- Assumes nothing.
-use Prim.Native.Nat.{ℕ, ◌≤◌}
+use Prim.Native.Nat.{ℕ, ◌≤◌, ◌<◌}
 use mathlib.Core.List.{List}
-use mathlib.Core.Bool.{Bool, true, false}
+use mathlib.Core.Bool.{Bool, true, false, not}
 use mathlib.Core.Option.{Option, none, some}
-use mathlib.Core.Path.{◌≡◌, refl, ◌∙◌}
+use mathlib.Core.Path.{◌≡◌, refl, sym, ap, ◌∙◌}
 use lib.ListN.{length, drop}
+use borrow.Author.Tests.{le-leb, lt-leb, not-true, not-false}
 use Rattle.layout.specs.Questions.{CHAINS_COUNT, CHAINS_CURRENT, CHAINS_GENS, SKIPPED_KEYS, SKIPPED_COUNT, PEER_ACKED, UNACKED, ABOVE, EXPIRED}
 use Rattle.layout.specs.Read.{said, first}
 use Rattle.layout.specs.Layout.{Layout, done, ask, parse}
 use Rattle.layout.specs.Layout as layout
 use Rattle.layout.proofs.Steps.{Came, end-yes}
-use Rattle.rows.specs.Values.{Contact}
+use Rattle.rows.specs.Values.{Chain, Skipped, Contact}
+use Rattle.rows.specs.Checks.{few_chains, one_chain_at_most, gens_distinct, keys_distinct}
+use Rattle.contact_checks.specs.Asked.{chains_asked}
+use Rattle.contact_checks.specs.declared.ChainsAsked.{ChainsAsked}
 use Rattle.contact_parts.specs.Parts.{Paired, Keys, Chained, Numbers, joined}
 use Rattle.contact_parts.proofs.Parts.{consistent}
-use Rattle.contact.specs.Consistent.{asks, inconsistency}
+use Rattle.contact.specs.Consistent.{asks, chains_refusal, inconsistency}
 
 -- nine questions, one after the other
 nine : (a b c d e f g h i : Bool) (v : Contact) (row : List ℕ)
@@ -42,3 +46,40 @@ stands y e p = rw (e, p)
 
 pub goes_on : {a x y : Option ℕ} → a ≡ y → x ≡ none → a ≡ first x y
 goes_on e p = rw (e, p)
+
+-- ---- 54 and 17 to 20, as they are asked of n chains and k skipped keys, in a row or in lent places: what each no and the last yes answers
+pub record Listing (chains : List Chain) (skipped : List Skipped) (n k : ℕ) : Type 0 where
+  pub chains-many : length chains ≡ n
+  pub skips-many : length skipped ≡ k
+
+module _ {chains : List Chain} {skipped : List Skipped} {n k : ℕ} (has : Listing chains skipped n k) where
+  pub many-chains : 8 < n → some CHAINS_COUNT ≡ chains_refusal chains skipped
+  many-chains h = rw (has.chains-many, lt-leb n 8 h)
+
+  module _ (few : n ≤ 8) {asked : ChainsAsked} (is : asked ≡ chains_asked chains) where
+    few-chains : few_chains chains ≡ true
+    few-chains = rw has.chains-many (le-leb n 8 few)
+
+    current : {t : Bool} → asked.one_current ≡ t → one_chain_at_most chains ≡ t
+    current e = sym (ap (λ (a : ChainsAsked). a.one_current) is) ∙ e
+
+    distinct : {t : Bool} → asked.gens_distinct ≡ t → gens_distinct chains ≡ t
+    distinct e = sym (ap (λ (a : ChainsAsked). a.gens_distinct) is) ∙ e
+
+    pub two-current : not asked.one_current ≡ true → some CHAINS_CURRENT ≡ chains_refusal chains skipped
+    two-current h = rw (few-chains, current (not-true _ h))
+
+    module _ (one : not asked.one_current ≡ false) where
+      pub gen-again : not asked.gens_distinct ≡ true → some CHAINS_GENS ≡ chains_refusal chains skipped
+      gen-again h = rw (few-chains, current (not-false _ one), distinct (not-true _ h))
+
+      module _ (apart : not asked.gens_distinct ≡ false) {differ : Bool} (keys : differ ≡ keys_distinct skipped) where
+        pub key-again : differ ≡ false → some SKIPPED_KEYS ≡ chains_refusal chains skipped
+        key-again h = rw (few-chains, current (not-false _ one), distinct (not-false _ apart), ← keys, h)
+
+        module _ (yes : differ ≡ true) where
+          pub many-skipped : 500 < k → some SKIPPED_COUNT ≡ chains_refusal chains skipped
+          many-skipped h = rw (few-chains, current (not-false _ one), distinct (not-false _ apart), ← keys, yes, has.skips-many, lt-leb k 500 h)
+
+          pub all-yes : k ≤ 500 → none ≡ chains_refusal chains skipped
+          all-yes h = rw (few-chains, current (not-false _ one), distinct (not-false _ apart), ← keys, yes, has.skips-many, le-leb k 500 h)

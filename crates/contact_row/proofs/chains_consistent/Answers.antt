@@ -1,98 +1,62 @@
 -- `contact_row::chains_consistent` meets its contract: question by question.
+use Prim.Native.Nat.{ℕ}
 use mathlib.Core.List.{List}
-use mathlib.Core.Bool.{true, false}
-use mathlib.Core.Path.{◌≡◌, sym, ap, ◌∙◌}
-use lib.ListN.{length}
-use borrow.Author.Tests.{le-leb, lt-leb, not-true, not-false}
+use mathlib.Core.Path.{◌≡◌, ap, ◌∙◌}
 use Rattle.layout.specs.Layout.{group}
 use Rattle.layout.specs.RowLaws.{Bytes}
 use Rattle.layout.proofs.At.{typed}
-use Rattle.rows.specs.Values.{Chain, Skipped}
-use Rattle.rows.specs.Checks.{few_chains, one_chain_at_most, gens_distinct, keys_distinct}
+use Rattle.rows.specs.Checks.{keys_distinct}
 use Rattle.rows.specs.Rows.{skipped as key}
 use Rattle.contact_lent.specs.Lent.{chains_of, skipped_of}
 use Rattle.contact_lent.proofs.Laws.{chains-printed, skipped-printed}
 use Rattle.contact_checks.specs.Asked.{Placed}
 use Rattle.contact_checks.proofs.Callers.{skipped-stand, skipped-items}
-use Rattle.contact_checks.specs.declared.ChainsAsked.{ChainsAsked}
+use Rattle.contact.specs.Contact.{Lists}
+use Rattle.contact.specs.declared.Contact.{Contact}
+use Rattle.contact.proofs.Consistent.{Listing, many-chains, two-current, gen-again, key-again, many-skipped, all-yes}
+use Rattle.contact_image.specs.Row.{ChainsLent}
 use Rattle.contact_row.proofs.chains_consistent.Goals as goal
+use Rattle.contact_row.proofs.chains_consistent.Goals.{After-skipped_distinct}
 
--- ---- what is asked
+-- the lent lists have as many chains and skipped keys as the contact says, and the keys lie in their places
+module _ {contact : Contact} {l : Lists} (lent : ChainsLent contact l) where
+  counted : Bytes l.chains → Bytes l.skipped → Listing (chains_of contact.chains l.chains) (skipped_of contact.skipped l.skipped) contact.chains contact.skipped
+  counted chains skips = record {
+    chains-many = (chains-printed contact.chains l.chains lent.chains_granted.reads chains lent.chains).count;
+    skips-many = (skipped-printed contact.skipped l.skipped lent.skipped_granted.reads skips lent.skipped).count;
+  }
+
+  lying : Placed 46 (group key) l.skipped contact.skipped
+  lying = record { room = lent.skipped; records = _; rest = _; so = lent.skipped_granted.reads }
+
+keys : (c : After-skipped_distinct) → c.skipped_distinct.result ≡ keys_distinct (skipped_of c.args.contact.skipped c.args.skipped.now)
+keys c = c.skipped_distinct.ensures ∙ ap keys_distinct (skipped-items c.args.skipped.now c.args.contact.skipped (typed _ c.type_inv.skipped) (lying c.requires))
+
 pub returns-then-contact-gt-MAX_CHAINS : goal.returns-then-contact-gt-MAX_CHAINS
-returns-then-contact-gt-MAX_CHAINS c =
-    let chains-bytes : Bytes c.args.chains.now = typed c.args.chains.now c.type_inv.chains in
-    let chains : List Chain = chains_of c.args.contact.chains c.args.chains.now in
-    let many-chains : length chains ≡ c.args.contact.chains = (chains-printed c.args.contact.chains c.args.chains.now c.requires.chains_granted.reads chains-bytes c.requires.chains).count in
-    rw (many-chains, lt-leb _ _ c.if-contact-gt-MAX_CHAINS.true)
+returns-then-contact-gt-MAX_CHAINS c = many-chains (counted c.requires (typed _ c.type_inv.chains) (typed _ c.type_inv.skipped)) c.if-contact-gt-MAX_CHAINS.true
 
 pub returns-then-not-asked : goal.returns-then-not-asked
 returns-then-not-asked c =
-    let chains-bytes : Bytes c.args.chains.now = typed c.args.chains.now c.type_inv.chains in
-    let chains : List Chain = chains_of c.args.contact.chains c.args.chains.now in
-    let many-chains : length chains ≡ c.args.contact.chains = (chains-printed c.args.contact.chains c.args.chains.now c.requires.chains_granted.reads chains-bytes c.requires.chains).count in
-    let yes-54 : few_chains chains ≡ true = rw many-chains (le-leb _ _ c.if-contact-gt-MAX_CHAINS.false) in
-    let no-17 : one_chain_at_most chains ≡ false = sym (ap (λ (a : ChainsAsked). a.one_current) c.chains_lent-asked.ensures) ∙ not-true _ c.if-not-asked.true in
-    rw (yes-54, no-17)
+    two-current (counted c.requires (typed _ c.type_inv.chains) (typed _ c.type_inv.skipped)) c.if-contact-gt-MAX_CHAINS.false c.chains_lent-asked.ensures c.if-not-asked.true
 
 pub returns-then-not-asked-2 : goal.returns-then-not-asked-2
 returns-then-not-asked-2 c =
-    let chains-bytes : Bytes c.args.chains.now = typed c.args.chains.now c.type_inv.chains in
-    let chains : List Chain = chains_of c.args.contact.chains c.args.chains.now in
-    let many-chains : length chains ≡ c.args.contact.chains = (chains-printed c.args.contact.chains c.args.chains.now c.requires.chains_granted.reads chains-bytes c.requires.chains).count in
-    let yes-54 : few_chains chains ≡ true = rw many-chains (le-leb _ _ c.if-contact-gt-MAX_CHAINS.false) in
-    let yes-17 : one_chain_at_most chains ≡ true = sym (ap (λ (a : ChainsAsked). a.one_current) c.chains_lent-asked.ensures) ∙ not-false _ c.if-not-asked.false in
-    let no-18 : gens_distinct chains ≡ false = sym (ap (λ (a : ChainsAsked). a.gens_distinct) c.chains_lent-asked.ensures) ∙ not-true _ c.if-not-asked-2.true in
-    rw (yes-54, yes-17, no-18)
+    gen-again (counted c.requires (typed _ c.type_inv.chains) (typed _ c.type_inv.skipped)) c.if-contact-gt-MAX_CHAINS.false c.chains_lent-asked.ensures c.if-not-asked.false c.if-not-asked-2.true
 
 pub skipped_distinct-requires : goal.skipped_distinct-requires
-skipped_distinct-requires c =
-    let skipped-bytes : Bytes c.args.skipped.now = typed c.args.skipped.now c.type_inv.skipped in
-    let stand : Placed 46 (group key) c.args.skipped.now c.args.contact.skipped = record { room = c.requires.skipped; records = _; rest = _; so = c.requires.skipped_granted.reads } in
-    skipped-stand c.args.skipped.now c.args.contact.skipped skipped-bytes stand
+skipped_distinct-requires c = skipped-stand c.args.skipped.now c.args.contact.skipped (typed _ c.type_inv.skipped) (lying c.requires)
 
 pub returns-then-not-skipped_distinct : goal.returns-then-not-skipped_distinct
 returns-then-not-skipped_distinct c =
-    let chains-bytes : Bytes c.args.chains.now = typed c.args.chains.now c.type_inv.chains in
-    let chains : List Chain = chains_of c.args.contact.chains c.args.chains.now in
-    let many-chains : length chains ≡ c.args.contact.chains = (chains-printed c.args.contact.chains c.args.chains.now c.requires.chains_granted.reads chains-bytes c.requires.chains).count in
-    let skipped-bytes : Bytes c.args.skipped.now = typed c.args.skipped.now c.type_inv.skipped in
-    let stand : Placed 46 (group key) c.args.skipped.now c.args.contact.skipped = record { room = c.requires.skipped; records = _; rest = _; so = c.requires.skipped_granted.reads } in
-    let skipped : List Skipped = skipped_of c.args.contact.skipped c.args.skipped.now in
-    let yes-54 : few_chains chains ≡ true = rw many-chains (le-leb _ _ c.if-contact-gt-MAX_CHAINS.false) in
-    let yes-17 : one_chain_at_most chains ≡ true = sym (ap (λ (a : ChainsAsked). a.one_current) c.chains_lent-asked.ensures) ∙ not-false _ c.if-not-asked.false in
-    let yes-18 : gens_distinct chains ≡ true = sym (ap (λ (a : ChainsAsked). a.gens_distinct) c.chains_lent-asked.ensures) ∙ not-false _ c.if-not-asked-2.false in
-    let no-19 : keys_distinct skipped ≡ false =
-    ap keys_distinct (sym (skipped-items c.args.skipped.now c.args.contact.skipped skipped-bytes stand)) ∙ sym c.skipped_distinct.ensures ∙ c.if-not-skipped_distinct.true in
-    rw (yes-54, yes-17, yes-18, no-19)
+    key-again (counted c.requires (typed _ c.type_inv.chains) (typed _ c.type_inv.skipped)) c.if-contact-gt-MAX_CHAINS.false c.chains_lent-asked.ensures c.if-not-asked.false c.if-not-asked-2.false
+    (keys (goal.at.returns-then-not-skipped_distinct c).After-skipped_distinct) c.if-not-skipped_distinct.true
 
 pub returns-then-contact-gt-MAX_SKIPPED : goal.returns-then-contact-gt-MAX_SKIPPED
 returns-then-contact-gt-MAX_SKIPPED c =
-    let chains-bytes : Bytes c.args.chains.now = typed c.args.chains.now c.type_inv.chains in
-    let chains : List Chain = chains_of c.args.contact.chains c.args.chains.now in
-    let many-chains : length chains ≡ c.args.contact.chains = (chains-printed c.args.contact.chains c.args.chains.now c.requires.chains_granted.reads chains-bytes c.requires.chains).count in
-    let skipped-bytes : Bytes c.args.skipped.now = typed c.args.skipped.now c.type_inv.skipped in
-    let stand : Placed 46 (group key) c.args.skipped.now c.args.contact.skipped = record { room = c.requires.skipped; records = _; rest = _; so = c.requires.skipped_granted.reads } in
-    let skipped : List Skipped = skipped_of c.args.contact.skipped c.args.skipped.now in
-    let yes-54 : few_chains chains ≡ true = rw many-chains (le-leb _ _ c.if-contact-gt-MAX_CHAINS.false) in
-    let yes-17 : one_chain_at_most chains ≡ true = sym (ap (λ (a : ChainsAsked). a.one_current) c.chains_lent-asked.ensures) ∙ not-false _ c.if-not-asked.false in
-    let yes-18 : gens_distinct chains ≡ true = sym (ap (λ (a : ChainsAsked). a.gens_distinct) c.chains_lent-asked.ensures) ∙ not-false _ c.if-not-asked-2.false in
-    let yes-19 : keys_distinct skipped ≡ true =
-    ap keys_distinct (sym (skipped-items c.args.skipped.now c.args.contact.skipped skipped-bytes stand)) ∙ sym c.skipped_distinct.ensures ∙ c.if-not-skipped_distinct.false in
-    let many-skipped : length skipped ≡ c.args.contact.skipped = (skipped-printed c.args.contact.skipped c.args.skipped.now c.requires.skipped_granted.reads skipped-bytes c.requires.skipped).count in
-    rw (yes-54, yes-17, yes-18, yes-19, many-skipped, lt-leb _ _ c.if-contact-gt-MAX_SKIPPED.true)
+    many-skipped (counted c.requires (typed _ c.type_inv.chains) (typed _ c.type_inv.skipped)) c.if-contact-gt-MAX_CHAINS.false c.chains_lent-asked.ensures c.if-not-asked.false c.if-not-asked-2.false
+    (keys (goal.at.returns-then-contact-gt-MAX_SKIPPED c).After-skipped_distinct) c.if-not-skipped_distinct.false c.if-contact-gt-MAX_SKIPPED.true
 
 pub returns : goal.returns
 returns c =
-    let chains-bytes : Bytes c.args.chains.now = typed c.args.chains.now c.type_inv.chains in
-    let chains : List Chain = chains_of c.args.contact.chains c.args.chains.now in
-    let many-chains : length chains ≡ c.args.contact.chains = (chains-printed c.args.contact.chains c.args.chains.now c.requires.chains_granted.reads chains-bytes c.requires.chains).count in
-    let skipped-bytes : Bytes c.args.skipped.now = typed c.args.skipped.now c.type_inv.skipped in
-    let stand : Placed 46 (group key) c.args.skipped.now c.args.contact.skipped = record { room = c.requires.skipped; records = _; rest = _; so = c.requires.skipped_granted.reads } in
-    let skipped : List Skipped = skipped_of c.args.contact.skipped c.args.skipped.now in
-    let yes-54 : few_chains chains ≡ true = rw many-chains (le-leb _ _ c.if-contact-gt-MAX_CHAINS.false) in
-    let yes-17 : one_chain_at_most chains ≡ true = sym (ap (λ (a : ChainsAsked). a.one_current) c.chains_lent-asked.ensures) ∙ not-false _ c.if-not-asked.false in
-    let yes-18 : gens_distinct chains ≡ true = sym (ap (λ (a : ChainsAsked). a.gens_distinct) c.chains_lent-asked.ensures) ∙ not-false _ c.if-not-asked-2.false in
-    let yes-19 : keys_distinct skipped ≡ true =
-    ap keys_distinct (sym (skipped-items c.args.skipped.now c.args.contact.skipped skipped-bytes stand)) ∙ sym c.skipped_distinct.ensures ∙ c.if-not-skipped_distinct.false in
-    let many-skipped : length skipped ≡ c.args.contact.skipped = (skipped-printed c.args.contact.skipped c.args.skipped.now c.requires.skipped_granted.reads skipped-bytes c.requires.skipped).count in
-    rw (yes-54, yes-17, yes-18, yes-19, many-skipped, le-leb _ _ c.if-contact-gt-MAX_SKIPPED.false)
+    all-yes (counted c.requires (typed _ c.type_inv.chains) (typed _ c.type_inv.skipped)) c.if-contact-gt-MAX_CHAINS.false c.chains_lent-asked.ensures c.if-not-asked.false c.if-not-asked-2.false
+    (keys (goal.at.returns c).After-skipped_distinct) c.if-not-skipped_distinct.false c.if-contact-gt-MAX_SKIPPED.false
