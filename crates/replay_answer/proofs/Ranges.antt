@@ -1,17 +1,17 @@
--- The text of ranges in a lent flat list, one behind the other: its room, and what writing it leaves.
+-- The text of ranges, each a pair, one behind the other: its room, and what writing it leaves.
 -- Assumes nothing.
 use Prim.Native.Nat.{ℕ, ◌+◌, ◌-◌, ◌*◌, ◌≤◌, ◌<◌}
 use mathlib.Core.List.{List, [], ◌∷◌, ◌++◌}
-use mathlib.Core.Bool.{true, false}
+use mathlib.Core.Bool.{Bool, true, false}
 use mathlib.Core.Path.{◌≡◌, refl, sym, ap, ◌∙◌, subst}
 use native.Mathlib.Omega.{arith}
-use lib.ListN.{length, get_or, drop, length-append}
-use lib.Dec.{leb}
-use borrow.Author.Tests.{eq-eqb, ne_eqb, le-leb, lt-leb}
+use lib.ListN.{length, get_or, drop, drop_of_length-le, length-append}
+use lib.Dec.{leb, eqb}
+use borrow.Author.Tests.{le-leb, lt-leb}
 use Rattle.rows.specs.Values.{Range}
 use Rattle.numbers.specs.Ranges.{range}
-use Rattle.received.specs.Lent.{pairs}
-use Rattle.received.proofs.Pairs.{length_pairs, drop-pairs, drop-pairs-all}
+use Rattle.received.specs.Lent.{ranges_of}
+use Rattle.received.proofs.Pairs.{length-ranges, drop-ranges}
 use Rattle.put.specs.Put.{Wrote}
 use Rattle.put.proofs.Put.{Writing, writing_step, writing-done}
 use Rattle.numbers.specs.Decimal.{decimal}
@@ -30,26 +30,26 @@ unfolding transcript.listed
 any-mark m n [] = refl
 any-mark m n (r ∷ rs) = refl
 
--- ---- the ranges of a list that has them
-module _ (l : List ℕ) (k : ℕ) (fits : 2 * k ≤ length l) where
+-- ---- the ranges of pairs
+module _ (ps : List (List ℕ)) where
   abbrev ranges : List Range
-  ranges = pairs k l
+  ranges = ranges_of ps
 
-  pub no-ranges : k ≡ 0 → SPACE ∷ DASH ∷ [] ≡ ranges_text ranges
-  no-ranges e = rw (eq-eqb (length ranges) 0 (length_pairs k l fits ∙ e))
+  pub no-ranges : {t : Bool} → t ≡ eqb (length ps) 0 → t ≡ true → SPACE ∷ DASH ∷ [] ≡ ranges_text ranges
+  no-ranges is e = rw (length-ranges ps, ← is, e)
 
-  pub some-ranges : (k ≡ 0 → ⊥) → listed SPACE ranges ≡ ranges_text ranges
-  some-ranges e = rw (ne_eqb (length ranges) 0 (λ z. e (sym (length_pairs k l fits) ∙ z)))
+  pub some-ranges : {t : Bool} → t ≡ eqb (length ps) 0 → t ≡ false → listed SPACE ranges ≡ ranges_text ranges
+  some-ranges is e = rw (length-ranges ps, ← is, e)
 
-  listed-all : (mark i : ℕ) → k ≤ i → listed mark (drop i ranges) ≡ []
+  listed-all : (mark i : ℕ) → length ps ≤ i → listed mark (drop i ranges) ≡ []
   unfolding transcript.listed
-  listed-all mark i h = rw (drop-pairs-all l k i h fits)
+  listed-all mark i h = rw (drop_of_length-le ranges {i = i} (rw (length-ranges ps) h))
 
   -- the i-th, from f to t
-  module _ (mark i : ℕ) {f t : ℕ} (h : i < k) (p : f ≡ get_or l (2 * i) 0) (q : t ≡ get_or l (2 * i + 1) 0) where
+  module _ (mark i : ℕ) {f t : ℕ} (h : i < length ps) (p : f ≡ get_or (get_or ps i []) 0 0) (q : t ≡ get_or (get_or ps i []) 1 0) where
     listed_next : listed mark (drop i ranges) ≡ (mark ∷ range_text (range f t)) ++ listed SEMICOLON (drop (i + 1) ranges)
     unfolding transcript.listed
-    listed_next = rw (drop-pairs l k i h fits, p, q)
+    listed_next = rw (drop-ranges ps i h, p, q)
 
     listed-long : length (listed mark (drop i ranges)) ≡ length (mark ∷ range_text (range f t)) + length (listed SPACE (drop (i + 1) ranges))
     listed-long = ap length listed_next ∙ length-append (mark ∷ range_text (range f t)) _ ∙ ap (λ (n : ℕ). length (mark ∷ range_text (range f t)) + n) (any-mark SEMICOLON SPACE (drop (i + 1) ranges))
@@ -62,20 +62,20 @@ module _ (l : List ℕ) (k : ℕ) (fits : 2 * k ≤ length l) where
       pub put-room : at + length (listed SPACE ranges) ≤ length out → here + length (mark ∷ range_text (range f t)) ≤ length m
       put-room room = omega (arith, listed-long, w.room, w.same)
 
-  pub put-end : (mark i : ℕ) {out m : List ℕ} {at here : ℕ} → k ≤ i → Writing out at (listed SPACE ranges) m here (listed mark (drop i ranges)) → Wrote out at (listed SPACE ranges) m here
+  pub put-end : (mark i : ℕ) {out m : List ℕ} {at here : ℕ} → length ps ≤ i → Writing out at (listed SPACE ranges) m here (listed mark (drop i ranges)) → Wrote out at (listed SPACE ranges) m here
   put-end mark i h w = writing-done (rw (listed-all mark i h) at w)
 
   -- the loop that asks for their room: what is left of it
   module _ (i left room : ℕ) (e : length (listed SPACE (drop i ranges)) + room ≡ length (listed SPACE ranges) + left) where
-    pub fit-turn : {f t n : ℕ} → i < k → f ≡ get_or l (2 * i) 0 → t ≡ get_or l (2 * i + 1) 0 → n ≡ length (SPACE ∷ range_text (range f t)) → n ≤ left
-        → length (listed SPACE (drop (i + 1) ranges)) + room ≡ length (listed SPACE ranges) + (left - n)
-    fit-turn h p q s few = omega (arith, listed-long SPACE i h p q)
+    -- the i-th, from f to t, whose text has n bytes
+    module _ {f t n : ℕ} (h : i < length ps) (p : f ≡ get_or (get_or ps i []) 0 0) (q : t ≡ get_or (get_or ps i []) 1 0) (s : n ≡ length (SPACE ∷ range_text (range f t))) where
+      pub fit-turn : n ≤ left → length (listed SPACE (drop (i + 1) ranges)) + room ≡ length (listed SPACE ranges) + (left - n)
+      fit-turn few = omega (arith, listed-long SPACE i h p q)
 
-    pub fit-less : {f t n : ℕ} → i < k → f ≡ get_or l (2 * i) 0 → t ≡ get_or l (2 * i + 1) 0 → n ≡ length (SPACE ∷ range_text (range f t)) → left < n
-        → false ≡ leb (length (listed SPACE ranges)) room
-    fit-less h p q s few = sym (lt-leb _ room (omega (arith, listed-long SPACE i h p q)))
+      pub fit-less : left < n → false ≡ leb (length (listed SPACE ranges)) room
+      fit-less few = sym (lt-leb _ room (omega (arith, listed-long SPACE i h p q)))
 
-    pub fit-end : k ≤ i → true ≡ leb (length (listed SPACE ranges)) room
+    pub fit-end : length ps ≤ i → true ≡ leb (length (listed SPACE ranges)) room
     fit-end h = sym (le-leb _ room (omega (arith, ap length (listed-all SPACE i h))))
 
 -- a writer that stored one text has stored another that is the same

@@ -6,7 +6,7 @@ ghost use Rattle.layout.specs.Write.{stored};
 ghost use Rattle.layout.specs.Says.{leaves};
 ghost use Rattle.put.specs.Put.{Wrote};
 ghost use Rattle.numbers.specs.Ranges.{range};
-ghost use Rattle.received.specs.Lent.{pairs};
+ghost use Rattle.received.specs.Lent.{pairs, ranges_of};
 ghost use Rattle.numbers.specs.Decimal.{decimal};
 ghost use Rattle.ascii.specs.Hex.{hex_of};
 ghost use Rattle.replay_answer.specs.Transcript.{line_of, truth_text, added_text, place_text, answer_text, range_text, listed, ranges_text, state_text};
@@ -155,16 +155,13 @@ fn range_len(from: u64, to: u64) -> usize
     ascii::decimal_len(from) + ascii::decimal_len(to) + 2
 }
 
-// Whether there is room for the text of some ranges.
-fn listed_fit(above: &[u32], count: usize, room: usize) -> bool
-    requires { 2 * count ≤ length above.now }
-    ensures { result ≡ leb (length (listed texts.SPACE (pairs count above.now))) room }
+// Whether there is room for the text of some ranges, each its from and its to.
+fn listed_fit(ranges: &[[u32; 2]], room: usize) -> bool
+    ensures { result ≡ leb (length (listed texts.SPACE (ranges_of ranges.now))) room }
 {
     let mut left = room;
-    for i in 0..count {
-        let from = u64::from(above[2 * i]);
-        let to = u64::from(above[2 * i + 1]);
-        let n = range_len(from, to);
+    for [from, to] in ranges {
+        let n = range_len(u64::from(*from), u64::from(*to));
         if left < n {
             return false;
         }
@@ -173,14 +170,13 @@ fn listed_fit(above: &[u32], count: usize, room: usize) -> bool
     true
 }
 
-fn ranges_fit(above: &[u32], count: usize, room: usize) -> bool
-    requires { 2 * count ≤ length above.now }
-    ensures { result ≡ leb (length (ranges_text (pairs count above.now))) room }
+fn ranges_fit(ranges: &[[u32; 2]], room: usize) -> bool
+    ensures { result ≡ leb (length (ranges_text (ranges_of ranges.now))) room }
 {
-    if count == 0 {
+    if ranges.is_empty() {
         return 2 <= room;
     }
-    listed_fit(above, count, room)
+    listed_fit(ranges, room)
 }
 
 fn put_range(out: &mut [u8], at: usize, mark: u8, from: u64, to: u64) -> usize
@@ -193,59 +189,54 @@ fn put_range(out: &mut [u8], at: usize, mark: u8, from: u64, to: u64) -> usize
     ascii::put_decimal(out, to_at, to)
 }
 
-fn put_listed(out: &mut [u8], at: usize, above: &[u32], count: usize) -> usize
-    requires { (2 * count ≤ length above.now) × (at + length (listed texts.SPACE (pairs count above.now)) ≤ length out.old) }
-    ensures { (result ≡ at + length (listed texts.SPACE (pairs count above.now))) × Wrote out.old at (listed texts.SPACE (pairs count above.now)) out.new result }
+fn put_listed(out: &mut [u8], at: usize, ranges: &[[u32; 2]]) -> usize
+    requires { at + length (listed texts.SPACE (ranges_of ranges.now)) ≤ length out.old }
+    ensures { (result ≡ at + length (listed texts.SPACE (ranges_of ranges.now))) × Wrote out.old at (listed texts.SPACE (ranges_of ranges.now)) out.new result }
 {
     let mut mark = SPACE;
     let mut here = at;
-    for i in 0..count {
-        let from = u64::from(above[2 * i]);
-        let to = u64::from(above[2 * i + 1]);
-        here = put_range(out, here, mark, from, to);
+    for [from, to] in ranges {
+        here = put_range(out, here, mark, u64::from(*from), u64::from(*to));
         mark = SEMICOLON;
     }
     here
 }
 
-fn put_ranges(out: &mut [u8], at: usize, above: &[u32], count: usize) -> usize
-    requires { (2 * count ≤ length above.now) × (at + length (ranges_text (pairs count above.now)) ≤ length out.old) }
-    ensures { (result ≡ at + length (ranges_text (pairs count above.now))) × Wrote out.old at (ranges_text (pairs count above.now)) out.new result }
+fn put_ranges(out: &mut [u8], at: usize, ranges: &[[u32; 2]]) -> usize
+    requires { at + length (ranges_text (ranges_of ranges.now)) ≤ length out.old }
+    ensures { (result ≡ at + length (ranges_text (ranges_of ranges.now))) × Wrote out.old at (ranges_text (ranges_of ranges.now)) out.new result }
 {
-    if count == 0 {
+    if ranges.is_empty() {
         return put::put_run(out, at, b" -", 0, 2);
     }
-    put_listed(out, at, above, count)
+    put_listed(out, at, ranges)
 }
 
-// The line with so many ranges, which are there, where there is room for it.
+// The line with these ranges, where there is room for it.
 fn write_state(
     id: ContactId,
     row: &[u8],
-    above: &[u32],
-    count: usize,
+    ranges: &[[u32; 2]],
     out: &mut [u8],
 ) -> Result<usize, Question>
-    requires { (2 * count ≤ length above.now) × (length (state_text id.0 row.now (pairs count above.now)) + 3 ≤ length out.old) }
-    ensures { leaves result out.new ≡ stored (line_of (state_text id.0 row.now (pairs count above.now))) out.old }
+    requires { length (state_text id.0 row.now (ranges_of ranges.now)) + 3 ≤ length out.old }
+    ensures { leaves result out.new ≡ stored (line_of (state_text id.0 row.now (ranges_of ranges.now))) out.old }
 {
     let at = begin(out);
     let space_at = ascii::put_decimal(out, at, id.0);
     let row_at = put::put_byte(out, space_at, SPACE);
     let ranges_at = ascii::put_pairs(out, row_at, row);
-    let end = put_ranges(out, ranges_at, above, count);
+    let end = put_ranges(out, ranges_at, ranges);
     Ok(put::put_byte(out, end, LF))
 }
 
 fn opened_line(
     id: ContactId,
     row: &[u8],
-    above: &[u32],
-    count: usize,
+    ranges: &[[u32; 2]],
     out: &mut [u8],
 ) -> Result<usize, Question>
-    requires { 2 * count ≤ length above.now }
-    ensures { leaves result out.new ≡ stored (line_of (state_text id.0 row.now (pairs count above.now))) out.old }
+    ensures { leaves result out.new ≡ stored (line_of (state_text id.0 row.now (ranges_of ranges.now))) out.old }
 {
     let fixed = ascii::decimal_len(id.0) + 1 + AROUND;
     if out.len() < fixed {
@@ -255,8 +246,8 @@ fn opened_line(
     if room / 2 < row.len() {
         return Err(Question::Output);
     }
-    if ranges_fit(above, count, room - 2 * row.len()) {
-        return write_state(id, row, above, count, out);
+    if ranges_fit(ranges, room - 2 * row.len()) {
+        return write_state(id, row, ranges, out);
     }
     Err(Question::Output)
 }
@@ -271,9 +262,7 @@ pub fn state_line(
 ) -> Result<usize, Question>
     ensures { leaves result out.new ≡ stored (line_of (state_text id.0 row.now (pairs count above.now))) out.old }
 {
-    let lent = above.len() / 2;
-    if lent < count {
-        return opened_line(id, row, above, lent, out);
-    }
-    opened_line(id, row, above, count, out)
+    let (lent, _) = above.as_chunks::<2>();
+    let ranges = &lent[..count.min(above.len() / 2)];
+    opened_line(id, row, ranges, out)
 }

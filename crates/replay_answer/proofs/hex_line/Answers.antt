@@ -8,22 +8,17 @@ use Rattle.replay_answer.proofs.Lines.{no_room, line-written, as_line, no_bytes,
 use Rattle.replay_answer.proofs.hex_line.Goals as goal
 
 pub returns-then-bytes-eq0 : goal.returns-then-bytes-eq0
-returns-then-bytes-eq0 c =
-    let a = c.args in
-    as_line a.out.now (no_bytes a.bytes.now c.if-bytes-eq0.true) c.text_line.ensures
+returns-then-bytes-eq0 c = as_line c.args.out.now (no_bytes c.args.bytes.now c.if-bytes-eq0.true) c.text_line.ensures
 
 pub returns-then-out-lt-AROUND : goal.returns-then-out-lt-AROUND
 returns-then-out-lt-AROUND c =
-    let a = c.args in
-    as_line a.out.now (some_bytes a.bytes.now c.if-bytes-eq0.false) (sym (no_room a.out.now (pairs_of a.bytes.now) (omega arith)))
+    as_line c.args.out.now (some_bytes c.args.bytes.now c.if-bytes-eq0.false) (sym (no_room c.args.out.now (pairs_of c.args.bytes.now) (omega arith)))
 
 pub returns-then-out-bytes : goal.returns-then-out-bytes
 returns-then-out-bytes c =
-    let a = c.args in
-    as_line a.out.now (some_bytes a.bytes.now c.if-bytes-eq0.false) (sym (no_room a.out.now (pairs_of a.bytes.now) (omega (arith, length_pairs a.bytes.now))))
+    as_line c.args.out.now (some_bytes c.args.bytes.now c.if-bytes-eq0.false) (sym (no_room c.args.out.now (pairs_of c.args.bytes.now) (omega (arith, length_pairs c.args.bytes.now))))
 
 pub returns : goal.returns
 returns c =
-    let a = c.args in
-    as_line a.out.now (some_bytes a.bytes.now c.if-bytes-eq0.false)
-    (line-written a.out.now (pairs_of a.bytes.now) (omega (arith, length_pairs a.bytes.now)) c.begin-at.ensures.1 c.put_pairs-end.ensures.1 c.put_byte.ensures.1)
+    as_line c.args.out.now (some_bytes c.args.bytes.now c.if-bytes-eq0.false)
+    (line-written c.args.out.now (pairs_of c.args.bytes.now) (omega (arith, length_pairs c.args.bytes.now)) c.begin-at.ensures.1 c.put_pairs-end.ensures.1 c.put_byte.ensures.1)

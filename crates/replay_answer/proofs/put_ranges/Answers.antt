@@ -8,17 +8,13 @@ use Rattle.replay_answer.proofs.Ranges.{no-ranges, some-ranges, as-stored}
 use Rattle.replay_answer.proofs.put_ranges.Goals as goal
 
 pub put_run-requires : goal.put_run-requires
-put_run-requires c =
-    (omega (arith, ap length (no-ranges c.args.above.now c.args.count c.requires.0 c.if-count-eq0.true), c.requires.1), search rules)
+put_run-requires c = (omega (arith, ap length (no-ranges c.args.ranges.now c.is_empty.ensures c.if-is_empty.true)), search rules)
 
-pub returns-then-count-eq0 : goal.returns-then-count-eq0
-returns-then-count-eq0 c =
-    as-stored (no-ranges c.args.above.now c.args.count c.requires.0 c.if-count-eq0.true) c.put_run.ensures.1
+pub returns-then-is_empty : goal.returns-then-is_empty
+returns-then-is_empty c = as-stored (no-ranges c.args.ranges.now c.is_empty.ensures c.if-is_empty.true) c.put_run.ensures.1
 
 pub put_listed-requires : goal.put_listed-requires
-put_listed-requires c =
-    (c.requires.0, omega (arith, ap length (some-ranges c.args.above.now c.args.count c.requires.0 c.if-count-eq0.false), c.requires.1))
+put_listed-requires c = omega (arith, ap length (some-ranges c.args.ranges.now c.is_empty.ensures c.if-is_empty.false))
 
 pub returns : goal.returns
-returns c =
-    as-stored (some-ranges c.args.above.now c.args.count c.requires.0 c.if-count-eq0.false) c.put_listed.ensures.1
+returns c = as-stored (some-ranges c.args.ranges.now c.is_empty.ensures c.if-is_empty.false) c.put_listed.ensures.1

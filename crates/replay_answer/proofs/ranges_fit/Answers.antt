@@ -8,10 +8,10 @@ use lib.Dec.{leb}
 use Rattle.replay_answer.proofs.Ranges.{no-ranges, some-ranges}
 use Rattle.replay_answer.proofs.ranges_fit.Goals as goal
 
-pub returns-then-count-eq0 : goal.returns-then-count-eq0
-returns-then-count-eq0 c =
-    ap (λ (text : List ℕ). leb (length text) c.args.room) (no-ranges c.args.above.now c.args.count c.requires c.if-count-eq0.true)
+pub returns-then-is_empty : goal.returns-then-is_empty
+returns-then-is_empty c =
+    ap (λ (text : List ℕ). leb (length text) c.args.room) (no-ranges c.args.ranges.now c.is_empty.ensures c.if-is_empty.true)
 
 pub returns : goal.returns
 returns c =
-    c.listed_fit.ensures ∙ ap (λ (text : List ℕ). leb (length text) c.args.room) (some-ranges c.args.above.now c.args.count c.requires c.if-count-eq0.false)
+    c.listed_fit.ensures ∙ ap (λ (text : List ℕ). leb (length text) c.args.room) (some-ranges c.args.ranges.now c.is_empty.ensures c.if-is_empty.false)
