@@ -1,5 +1,5 @@
 // What is printed for a line: the answer to a call, the state, or that the line is none.
-use super::failure::fail;
+use failure::fail;
 use super::{Asked, Script};
 use ascii::first;
 use calls_session::Session;

@@ -5,7 +5,6 @@
 
 mod answers;
 mod commands;
-mod failure;
 mod window;
 
 ghost use Rattle.std.specs.Prelude.{◌≡◌, ◌≤◌, length};

@@ -1,7 +1,7 @@
 // Lines in a window on the input.
 ghost use Rattle.std.specs.Prelude.{◌≤◌, length};
 
-use super::failure::fail;
+use failure::fail;
 use std::io::Read;
 
 // Whether there is a line, or none comes any more.

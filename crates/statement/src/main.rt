@@ -2,8 +2,6 @@
 // A line of any length takes the same memory.
 #![tactic(auto)]
 
-mod failure;
-
 ghost use Rattle.std.specs.Prelude.{◌≡◌, true, false, ◌*◌, ◌≤◌, length};
 ghost use Rattle.sheet.specs.Machine.{at_line, held};
 ghost use Rattle.statement.specs.Pieces.{Moved, clamp_len, Taken, ReadOne, ReadAll, Reports};

@@ -1,4 +1,6 @@
-// A read or a write that failed, as it is said on standard error.
+// A read or a write that failed, as it is said on standard error. It has no contract: none can say what standard error takes.
+#![tactic(auto)]
+
 use std::io;
 
 // What the system says of an error, without the number that std writes behind it.
@@ -10,7 +12,7 @@ fn reason(text: &str) -> &str {
 }
 
 // Writes a line to standard error: what failed, and why. Where that fails too there is nobody to tell.
-pub(super) fn fail(rt: &(impl Eprint + Alloc), what: &str, error: io::Error) {
+pub fn fail(rt: &(impl Eprint + Alloc), what: &str, error: io::Error) {
     let _ = match format!(in rt.alloc(); "{error}") {
         Ok(text) => eprintln!(rt; "{what}: {}", reason(text.as_str())),
         Err(_) => eprintln!(rt; "{what}: {error}"),
