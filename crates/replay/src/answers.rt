@@ -1,10 +1,10 @@
 // What is printed for a line: the answer to a call, the state, or that the line is none.
-use failure::fail;
 use super::{Asked, Script};
 use ascii::first;
 use calls_session::Session;
 use calls_step::Mark;
 use contact::Contact;
+use failure::fail;
 use layout::Question;
 use rows::ContactId;
 
@@ -45,6 +45,7 @@ fn opened_state(
     expired: &[u32],
     line: &mut [u8],
 ) -> Result<usize, Question> {
+    // Kept: fixed memory, so a row is written to a local array
     let mut row = [0u8; 131072];
     let size = contact_row::write_contact(
         contact, chains, skipped, above, unacked, expired, &mut row,

@@ -4,7 +4,8 @@ ghost use Rattle.std.specs.Prelude.{◌≤◌};
 use super::{ABOVE, Asked, CHAINS, EXPIRED, SKIPPED, Script, UNACKED, at_most};
 use ascii::first;
 use layout::Question;
-use sheet::{Answer, State};
+use replay_script::Command;
+use sheet::State;
 
 // ---- lines of a restore
 
@@ -43,14 +44,9 @@ fn fed(s: Script, part: &[u8], run: &mut [u8], records: &mut [u64]) -> State {
 fn line_read(s: Script) -> Script {
     let sheet = s.sheet;
     match sheet::finish(sheet) {
-        Answer::Refused(_, _) => s.unknown(),
-        Answer::Read(lines, used) => {
-            if s.left == 0 {
-                s.restores(used, lines)
-            } else {
-                s
-            }
-        }
+        Err(_) => s.unknown(),
+        Ok(read) if s.left == 0 => s.restores(read.bytes, read.lines),
+        Ok(_) => s,
     }
 }
 
@@ -170,6 +166,7 @@ fn veil_line(s: Script, line: &[u8], run: &mut [u8], out: &mut [u8]) -> Script {
 
 // What reading a contact row and writing it again answers, with lists of these lengths, which a word has with commas.
 fn read_contact(version: u32, word: &[u8], row: &[u8], out: &mut [u8]) -> Result<usize, Question> {
+    // Kept: fixed memory, so the lists are local arrays, which the word's lengths cut
     let mut chains = [0u8; 13056];
     let mut skipped = [0u8; 23000];
     let mut above = [0u32; 15360];
@@ -200,13 +197,13 @@ fn read_row(
     row: &[u8],
     out: &mut [u8],
 ) -> Result<usize, Question> {
-    if kind == store::DEVICE as u64 {
+    if kind == u64::from(store::DEVICE) {
         return rewrite::rewrite_device(version, row, out);
     }
-    if kind == store::QUEUED as u64 {
+    if kind == u64::from(store::QUEUED) {
         return rewrite::rewrite_queued(version, row, out);
     }
-    if kind == store::CONTACT as u64 {
+    if kind == u64::from(store::CONTACT) {
         return read_contact(version, word, row, out);
     }
     rewrite::rewrite_courier(version, row, out)
@@ -230,38 +227,38 @@ fn read_line(s: Script, line: &[u8], run: &mut [u8], out: &mut [u8]) -> Script {
     read_bytes(s, line, run, n, out)
 }
 
+// The number in 32 bits: a word that is one fits.
+// Kept: the new form is no plainer: `try_from` has a refusal, which no line of a command meets.
 fn narrow(n: u64) -> u32 {
     (n % 4294967296) as u32
 }
 
-// The call that a command is, with the numbers behind its name.
-fn call_of(command: u8, line: &[u8]) -> Asked {
-    let code = match command {
-        replay_script::OPEN => calls_code::OPEN,
-        replay_script::COVER => calls_code::COVER,
-        replay_script::CONTAINS => calls_code::CONTAINS,
-        replay_script::COVERS => calls_code::COVERS,
-        replay_script::TAKE => calls_code::TAKE,
-        replay_script::STATEMENT => calls_code::STATEMENT,
-        replay_script::WRITE => calls_code::WRITE,
-        _ => return Asked::Nothing,
-    };
+// A call with this code, and the numbers behind the command's name.
+fn call(s: Script, code: u64, line: &[u8]) -> Script {
     let a = ascii::number(line, b' ', 1);
     let b = ascii::number(line, b' ', 2);
-    Asked::Call([code, a, b, 0, 0, 0])
+    s.asks(Asked::Call([code, a, b, 0, 0, 0]))
 }
 
 fn command_line(s: Script, line: &[u8], run: &mut [u8], out: &mut [u8]) -> Script {
-    match replay_script::command(line) {
-        replay_script::UNKNOWN => s.unknown(),
-        replay_script::SCRIPT => s.begins(),
-        replay_script::RESTORE => restore_of(s, ascii::number(line, b' ', 1)),
-        replay_script::RAWRESTORE => raw_restore_of(s, line, run),
-        replay_script::LEND => lend(s, line),
-        replay_script::VEIL => veil_line(s, line, run, out),
-        replay_script::READ => read_line(s, line, run, out),
-        replay_script::STATE => s.asks(Asked::State),
-        command => s.asks(call_of(command, line)),
+    let Some(command) = Command::from_line(line) else {
+        return s.unknown();
+    };
+    match command {
+        Command::Script => s.begins(),
+        Command::Restore => restore_of(s, ascii::number(line, b' ', 1)),
+        Command::RawRestore => raw_restore_of(s, line, run),
+        Command::Lend => lend(s, line),
+        Command::Open => call(s, calls_code::OPEN, line),
+        Command::Cover => call(s, calls_code::COVER, line),
+        Command::Contains => call(s, calls_code::CONTAINS, line),
+        Command::Covers => call(s, calls_code::COVERS, line),
+        Command::Take => call(s, calls_code::TAKE, line),
+        Command::Statement => call(s, calls_code::STATEMENT, line),
+        Command::Write => call(s, calls_code::WRITE, line),
+        Command::Veil => veil_line(s, line, run, out),
+        Command::Read => read_line(s, line, run, out),
+        Command::State => s.asks(Asked::State),
     }
 }
 

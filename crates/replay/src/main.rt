@@ -31,6 +31,7 @@ const EXPIRED: usize = 7680;
 const OUT: usize = 65536;
 
 // What a line asks for.
+// Kept: the new form is no plainer: that nothing is asked for, or the end, is one request of six here, and neither an absence nor a refusal.
 #[derive(Clone, Copy)]
 enum Asked {
     Nothing,
@@ -74,6 +75,7 @@ struct Script {
 }
 
 // So many, or all that there are.
+// Kept: the new form is no plainer: std has no `From` between `usize` and `u64`, here and below.
 fn at_most(count: u64, has: usize) -> usize
     ensures { result ≤ has }
 {
@@ -217,14 +219,14 @@ fn turn(
     out: &mut [u8],
     line: &mut [u8],
 ) -> Left {
-    if w.found != Found::Line {
+    let Found::Line { start, end } = w.found else {
         return Left {
             session,
             s,
             over: false,
         };
-    }
-    let asked = one_line(s, line_in(w, text), run, records, out);
+    };
+    let asked = one_line(s, line_in(text, start, end), run, records, out);
     let answered = answer(
         session, asked, run, records, chains, skipped, above, unacked, expired, out, line,
     );
@@ -278,7 +280,7 @@ fn replay<R: Read>(
     }
 }
 
-// ---- the memory
+// ---- the memory. Kept: fixed memory and no heap, so `main` has it in local arrays
 
 fn window_bytes() -> [u8; 262144]
     ensures { 262144 ≡ length result }

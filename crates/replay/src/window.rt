@@ -4,11 +4,11 @@ ghost use Rattle.std.specs.Prelude.{◌≤◌, length};
 use failure::fail;
 use std::io::Read;
 
-// Whether there is a line, or none comes any more.
+// Where the next line stands, unless it is not there yet, or none comes any more.
 #[derive(Clone, Copy, PartialEq, Eq)]
 pub enum Found {
     NotYet,
-    Line,
+    Line { start: usize, end: usize },
     End,
 }
 
@@ -17,9 +17,6 @@ pub struct Window {
     // the bytes from at up to held are yet to be looked at
     at: usize,
     held: usize,
-    // the line
-    start: usize,
-    end: usize,
     pub found: Found,
     // the input has no more
     over: bool,
@@ -34,8 +31,6 @@ impl Window {
         Window {
             at: 0,
             held: 0,
-            start: 0,
-            end: 0,
             found: Found::NotYet,
             over: false,
             failed: false,
@@ -43,15 +38,13 @@ impl Window {
         }
     }
 
-    // A line from at up to end, behind which the next one is.
-    fn line(mut self, at: usize, end: usize, next: usize) -> Window {
-        self.start = at;
-        self.end = end;
+    // A line from start up to end, behind which the next one is.
+    fn line(mut self, start: usize, end: usize, next: usize) -> Window {
         self.at = next;
         self.found = if self.passing {
             Found::NotYet
         } else {
-            Found::Line
+            Found::Line { start, end }
         };
         self.passing = false;
         self
@@ -139,8 +132,7 @@ pub(super) fn look<R: Read>(
     read_more(rt, input, w, text, at, held)
 }
 
-pub(super) fn line_in(w: Window, text: &[u8]) -> &[u8] {
-    let end = w.end.min(text.len());
-    let start = w.start.min(end);
-    &text[start..end]
+pub(super) fn line_in(text: &[u8], start: usize, end: usize) -> &[u8] {
+    let to = end.min(text.len());
+    &text[start.min(to)..to]
 }

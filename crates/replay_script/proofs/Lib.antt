@@ -1,4 +1,3 @@
-mod Table
-mod Words
+mod Rows
 mod Numbers
 mod Samples

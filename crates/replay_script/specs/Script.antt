@@ -3,7 +3,7 @@
 -- The lines behind a `rawrestore` are of decimals alone.
 -- Assumes nothing.
 use Rattle.std.specs.Prelude.{ℕ, zero, suc, ◌+◌, List, [], ◌∷◌, Bool, true, false, cond, ◌&&◌, length, get_or, eqb, leb}
-use Prim.Native.Char.{code}
+use Prim.Native.Char as char
 use Prim.Native.String.{String, [] as ε, ◌∷◌ as ◌∷ᵗ◌}
 use Rattle.std.proofs.Math.Option.{Option, none, some}
 use Rattle.numbers.specs.Decimal.{COMMA}
@@ -11,12 +11,15 @@ use Rattle.ascii.specs.Decimal.{U32, U64, decimal_in}
 use Rattle.ascii.specs.Hex.{dash_of}
 use Rattle.ascii.specs.Words.{SPACE, parted, word_at}
 use Rattle.store.specs.Kinds.{CONTACT, COURIER}
+use Rattle.std.specs.Prelude as answer
+use Rattle.replay_script.specs.declared.Command as declared
+use Rattle.replay_script.specs.declared.Command.TheVariants as code
 
 -- ---- commands
 -- a text's bytes, where its letters are of ASCII
 abbrev pub bytes : String → List ℕ
 bytes ε = []
-bytes (c ∷ᵗ cs) = code c ∷ bytes cs
+bytes (c ∷ᵗ cs) = char.code c ∷ bytes cs
 
 -- a command's name, and how many decimals of 32 bits, decimals of 64 bits and other words stand behind it
 pub record Command : Type 0 where
@@ -92,6 +95,28 @@ READ = 13
 
 abbrev pub STATE : ℕ
 STATE = 14
+
+-- the code of a command of the code
+abbrev pub number_of : declared.Command → ℕ
+number_of code.Script = SCRIPT
+number_of code.Restore = RESTORE
+number_of code.RawRestore = RAWRESTORE
+number_of code.Lend = LEND
+number_of code.Open = OPEN
+number_of code.Cover = COVER
+number_of code.Contains = CONTAINS
+number_of code.Covers = COVERS
+number_of code.Take = TAKE
+number_of code.Statement = STATEMENT
+number_of code.Write = WRITE
+number_of code.Veil = VEIL
+number_of code.Read = READ
+number_of code.State = STATE
+
+-- what code answers, which hands no command on where a line is none
+abbrev pub command_says : answer.Option declared.Command → ℕ
+command_says answer.None = UNKNOWN
+command_says (answer.Some c) = number_of c
 
 -- what has the code 0: nothing stands behind it
 abbrev pub unknown : Command

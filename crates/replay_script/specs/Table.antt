@@ -1,38 +1,13 @@
--- The table of the commands, as the code holds it: a row for each code from 0 on.
+-- A table of commands by their names, as the code holds one.
 -- Assumes nothing.
-use Rattle.std.specs.Prelude.{ℕ, zero, suc, ◌+◌, List, [], ◌∷◌, ◌++◌, take}
-use Rattle.replay_script.specs.Script.{Command, with_unknown}
+use Rattle.std.specs.Prelude.{ℕ, ◌≡◌, List, Option, find, option_map}
+use Rattle.std.specs.Str.{bytes_eq}
+use Rattle.replay_script.specs.declared.Command.{Command}
 
--- what a name ends at, the digit of no words, a row's bytes, and the columns behind the name
-abbrev pub DOT : ℕ
-DOT = 0x2E
+-- a command, and how many decimals of 32 bits, decimals of 64 bits and other words stand behind its name
+abbrev pub Form : Type 0
+Form = Command × ℕ × ℕ × ℕ
 
-abbrev pub ZERO : ℕ
-ZERO = 0x30
-
-abbrev pub ROW : ℕ
-ROW = 20
-
-abbrev pub NARROW : ℕ
-NARROW = 17
-
-abbrev pub WIDE : ℕ
-WIDE = 18
-
-abbrev pub OTHER : ℕ
-OTHER = 19
-
-abbrev pub dots : ℕ → List ℕ
-dots zero = []
-dots (suc n) = DOT ∷ dots n
-
--- a row: the name with dots behind it, and a digit for each count
-abbrev pub row_of : Command → List ℕ
-row_of c = take NARROW (c.name ++ dots NARROW) ++ ((ZERO + c.narrow) ∷ (ZERO + c.wide) ∷ (ZERO + c.others) ∷ [])
-
-abbrev pub rows_of : List Command → List ℕ
-rows_of [] = []
-rows_of (c ∷ cs) = row_of c ++ rows_of cs
-
-unfoldable pub TABLE : List ℕ
-TABLE = rows_of with_unknown
+-- what it says of a word, where its rows begin with names that are these bytes: the form of the first row with this name
+pub record NamedIn {Name : Type 0} (bytes_of : Name → List ℕ) (rows : List (Name × Form)) (word : List ℕ) (o : Option Form) : Type 0 where
+  pub first-is : o ≡ option_map (λ (row : Name × Form). row.1) (find (λ (row : Name × Form). bytes_eq word (bytes_of row.0)) rows)
