@@ -16,12 +16,11 @@ use Rattle.put.specs.Put as storing
 use Rattle.put.specs.Put.{put}
 use Rattle.put.proofs.Put.{length-put, put-append}
 use Rattle.store.specs.declared.Entry.{Entry}
-use Rattle.sheet.specs.declared.Answer.TheVariants.{Refused}
 use Rattle.ascii.specs.Words.{parted}
 use Rattle.sheet.specs.Sheet as sheet
 use Rattle.sheet.specs.Sheet.{LineSays, said, refused_by, line_of, Room, SheetSays, read, refused, entry_of, blob_in, onto, ask44, said_from, LINES, six_of, sixes}
 use Rattle.sheet.specs.Machine as machine
-use Rattle.sheet.specs.Machine.{at_line, stopped, bytes_in, lines_in, Held, held, state_in, stepped, fed, answer_of}
+use Rattle.sheet.specs.Machine.{at_line, stopped, bytes_in, lines_in, Held, held, state_in, stepped, fed, refuses, answer_of}
 use Rattle.ascii.proofs.Never.{no_way}
 use Rattle.ascii.proofs.Parts as parts
 use Rattle.ascii.proofs.Parts.{joined, joined-parts, AllFree, frees-cons, free-parts}
@@ -36,7 +35,7 @@ after_line l m ls h = fed-append l (LF ∷ joined LF (m ∷ ls)) h
 -- how what is said from here on leaves the machine, where k lines with u blob bytes were read before
 abbrev pub Agrees : (k u : ℕ) → (run records : List ℕ) → SheetSays → Held → Type 0
 Agrees k u run records (read es blob) h = h ≡ held (at_line (k + length es) (u + length blob)) (put run u blob) (put records (6 * k) (sixes es))
-Agrees k u run records (refused q l) h = answer_of (state_in h) ≡ Refused q l
+Agrees k u run records (refused q l) h = answer_of (state_in h) ≡ refuses q l
 
 none_read : (k u : ℕ) (run records : List ℕ) → Agrees k u run records (read [] []) (held (at_line k u) run records)
 unfolding storing.put sheet.sixes

@@ -11,12 +11,11 @@ use borrow.Author.Tests.{eqb-true}
 use Rattle.layout.specs.Questions.{LINE, DECIMAL}
 use Rattle.numbers.specs.Decimal.{LF, COMMA}
 use Rattle.sheet.specs.declared.State.{State}
-use Rattle.sheet.specs.declared.Answer.TheVariants.{Refused}
 use Rattle.ascii.specs.Decimal.{with_digit}
 use Rattle.ascii.specs.Hex.{is_hex, hex_value}
 use Rattle.sheet.specs.Sheet.{Shape, shape_of, LINES}
 use Rattle.sheet.specs.Machine as machine
-use Rattle.sheet.specs.Machine.{START, LETTER, FIRST, NUMBER, HIGH, LOW, WAIT, REFUSED, at_line, waiting, stopped, begun_as, highest_at, grown, taken, lettered, paired, bytes_in, used_one, stored_to, digit_step, number_step, comma_step, high_step, low_step, low_run, other_step, Held, held, state_in, stepped, fed, answer_of}
+use Rattle.sheet.specs.Machine.{START, LETTER, FIRST, NUMBER, HIGH, LOW, WAIT, REFUSED, at_line, waiting, stopped, begun_as, highest_at, grown, taken, lettered, paired, bytes_in, used_one, stored_to, digit_step, number_step, comma_step, high_step, low_step, low_run, other_step, Held, held, state_in, stepped, fed, refuses, answer_of}
 use Rattle.ascii.proofs.Parts.{Free, free-nil, free-cons}
 
 data Within (k : ℕ) : State → Type 0 where
@@ -117,17 +116,17 @@ fed-within k free-nil h w = w
 fed-within k (free-cons {b = b} lf f) h w = fed-within k f (stepped b h) (stay-within k b h lf w)
 
 -- ---- the answer
-pub stopped-answer : (k q : ℕ) (s : State) → k ≤ LINES → s ≡ stopped k q → answer_of s ≡ Refused q (suc k)
+pub stopped-answer : (k q : ℕ) (s : State) → k ≤ LINES → s ≡ stopped k q → answer_of s ≡ refuses q (suc k)
 unfolding machine.answer_of
 stopped-answer k q s h e = let line : min k LINES + 1 ≡ suc k = omega arith in rw (e, line)
 
-within-answer : (k : ℕ) (s : State) → k ≤ LINES → Within k s → answer_of s ≡ Refused LINE (suc k)
+within-answer : (k : ℕ) (s : State) → k ≤ LINES → Within k s → answer_of s ≡ refuses LINE (suc k)
 unfolding machine.answer_of
 within-answer k _ h no_line = let line : min k LINES + 1 ≡ suc k = omega arith in rw line
 within-answer k s h (going p q e) = let line : min k LINES + 1 ≡ suc k = omega arith in rw (p, q, e, line)
 
 -- a line without its LF
-pub unended : (k u b : ℕ) (bs run records : List ℕ) → k ≤ LINES → Free LF (b ∷ bs) → answer_of (state_in (fed (b ∷ bs) (held (at_line k u) run records))) ≡ Refused LINE (suc k)
+pub unended : (k u b : ℕ) (bs run records : List ℕ) → k ≤ LINES → Free LF (b ∷ bs) → answer_of (state_in (fed (b ∷ bs) (held (at_line k u) run records))) ≡ refuses LINE (suc k)
 unfolding machine.fed
 unended k u b bs run records h (free-cons lf f) =
     within-answer k (state_in (fed bs (stepped b (held (at_line k u) run records)))) h

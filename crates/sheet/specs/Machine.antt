@@ -1,7 +1,7 @@
 -- What one byte of a sheet does to the reader's state, to the run and to the records. That the bytes of a sheet together do what the sheet says is proved
 -- (Proved.antt), so this need not be believed.
 -- Assumes nothing.
-use Rattle.std.specs.Prelude.{ℕ, ◌+◌, ◌-◌, ◌*◌, ◌/◌, ◌%◌, min, List, [], ◌∷◌, cond, ◌&&◌, length, set, leb, ltb, eqb}
+use Rattle.std.specs.Prelude.{ℕ, ◌+◌, ◌-◌, ◌*◌, ◌/◌, ◌%◌, min, List, [], ◌∷◌, cond, ◌&&◌, length, set, leb, ltb, eqb, Result, Ok, Err}
 use Rattle.std.proofs.Math.Option.{Option, none, some}
 use Rattle.layout.specs.Questions.{LINE, DECIMAL, BLOB, SHEET_SIZE}
 use Rattle.numbers.specs.Decimal.{LF, COMMA}
@@ -10,8 +10,8 @@ use Rattle.ascii.specs.Decimal.{U32, U64, with_digit}
 use Rattle.ascii.specs.Hex.{is_hex, hex_value}
 use Rattle.store.specs.Kinds.{QUEUED}
 use Rattle.sheet.specs.declared.State.{State}
-use Rattle.sheet.specs.declared.Answer.{Answer}
-use Rattle.sheet.specs.declared.Answer.TheVariants.{Read, Refused}
+use Rattle.sheet.specs.declared.Read.{Read}
+use Rattle.sheet.specs.declared.Refusal.{Refusal}
 use Rattle.sheet.specs.Sheet.{Shape, shape_of, Room, BLOB_BYTES, LINES}
 
 -- ---- where in a line the reader stands
@@ -211,10 +211,20 @@ fed [] h = h
 fed (b ∷ bs) h = fed bs (stepped b h)
 
 -- ---- the end of the sheet
+abbrev pub Answer : Type 0
+Answer = Result Read Refusal
+
+-- so many lines and blob bytes were read; this question refuses this line, the first of which is 1
+abbrev pub reads : (lines bytes : ℕ) → Answer
+reads lines bytes = Ok (record { lines = lines; bytes = bytes })
+
+abbrev pub refuses : (question line : ℕ) → Answer
+refuses q line = Err (record { number = q; line = line })
+
 unfoldable pub answer_of : State → Answer
 answer_of s =
-    cond (eqb s.phase START) (Read s.lines s.used)
-    (cond (eqb s.phase REFUSED) (Refused s.refusal (min s.lines LINES + 1)) (Refused LINE (min s.lines LINES + 1)))
+    cond (eqb s.phase START) (reads s.lines s.used)
+    (cond (eqb s.phase REFUSED) (refuses s.refusal (min s.lines LINES + 1)) (refuses LINE (min s.lines LINES + 1)))
 
 abbrev pub state_in : Held → State
 state_in (held s run records) = s

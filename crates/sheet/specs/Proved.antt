@@ -7,9 +7,8 @@ use Rattle.ascii.specs.Decimal.{U32, U64}
 use Rattle.ascii.specs.Words.{parted}
 use Rattle.store.specs.declared.Entry.{Entry}
 use Rattle.store.specs.Kinds.{COURIER}
-use Rattle.sheet.specs.declared.Answer.TheVariants.{Read, Refused}
 use Rattle.sheet.specs.Sheet.{Room, SheetSays, read, refused, said_from, sheet_in, sheet_of, BLOB_BYTES, LINES, sixes, entries_in}
-use Rattle.sheet.specs.Machine.{at_line, room_of, Held, held, state_in, run_in, records_in, fed, answer_of}
+use Rattle.sheet.specs.Machine.{at_line, room_of, Held, held, state_in, run_in, records_in, fed, reads, refuses, answer_of}
 
 -- ---- what a sheet says
 -- no number is wider than its field, and the row stands within the run
@@ -44,14 +43,14 @@ pub record SaidLaws : Type 0 where
 -- ---- a sheet read byte by byte
 -- the answer, the run and the records afterwards: what is read stands in front, and all behind it stays as it was
 pub record WholeRead (run records : List ℕ) (es : List Entry) (blob : List ℕ) (h : Held) : Type 0 where
-  pub answered : answer_of (state_in h) ≡ Read (length es) (length blob)
+  pub answered : answer_of (state_in h) ≡ reads (length es) (length blob)
   pub run_is : run_in h ≡ blob ++ drop (length blob) run
   pub records-are : records_in h ≡ sixes es ++ drop (6 * length es) records
   pub entries-are : entries_in (length es) (records_in h) ≡ es
 
 abbrev pub Leaves : (run records : List ℕ) → SheetSays → Held → Type 0
 Leaves run records (read es blob) h = WholeRead run records es blob h
-Leaves run records (refused q line) h = answer_of (state_in h) ≡ Refused q line
+Leaves run records (refused q line) h = answer_of (state_in h) ≡ refuses q line
 
 -- whatever was fed, no byte and no place outside the largest room has changed
 pub record Kept (before after : Held) : Type 0 where

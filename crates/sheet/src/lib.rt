@@ -34,6 +34,8 @@ const HIGHEST_32: u64 = 0xFFFFFFFF;
 
 // Where in a line the reader stands: before its letter and behind it, before a decimal and in it, in the blob between pairs and within one, in a line
 // that 42 or 43 refuses unless 41 does, behind a refusal.
+// Kept: `step`, `read_chunk` and `finish` answer for every `State` (what may not change: `stepped` and `answer_of`), also one whose `phase` is none of these;
+// an enum would be narrower.
 const START: u8 = 0;
 
 const LETTER: u8 = 1;
@@ -73,12 +75,19 @@ pub struct State {
     pub phase: u8,
 }
 
-#[derive(Clone, Copy)]
-pub enum Answer {
-    // so many lines and blob bytes
-    Read(usize, usize),
-    // the question's number, and the line's from 1
-    Refused(u8, usize),
+// What was read of a sheet: so many lines and blob bytes.
+#[derive(Clone, Copy, Debug, PartialEq, Eq)]
+pub struct Read {
+    pub lines: usize,
+    pub bytes: usize,
+}
+
+// What refuses a sheet: the question's number, and the line's from 1.
+// Kept: `finish` answers for every `State` (what may not change), also one whose `refusal` is the number of no `Question`, so a number stands here.
+#[derive(Clone, Copy, Debug, PartialEq, Eq)]
+pub struct Refusal {
+    pub number: u8,
+    pub line: usize,
 }
 
 fn at_line(lines: usize, used: usize) -> State
@@ -289,12 +298,14 @@ fn put_six(records: &mut [u64], at: usize, s: State)
     requires { at + 6 ≤ length records.old }
     ensures { records.new ≡ put records.old at (six s) }
 {
-    records[at] = width::wide(s.kind);
-    records[at + 1] = id_in(s);
-    records[at + 2] = s.start as u64;
-    records[at + 3] = s.used.saturating_sub(s.start) as u64;
-    records[at + 4] = msgno_in(s);
-    records[at + 5] = s.newest;
+    records[at..at + RECORD].copy_from_slice(&[
+        u64::from(s.kind),
+        id_in(s),
+        s.start as u64,
+        s.used.saturating_sub(s.start) as u64,
+        msgno_in(s),
+        s.newest,
+    ]);
 }
 
 #[tactic(auto, unfolding(crate::specs::Machine::closed, crate::specs::Machine::closed_records))]
@@ -404,6 +415,7 @@ pub fn read_chunk(state: State, chunk: &[u8], run: &mut [u8], records: &mut [u64
 {
     let mut s = state;
     let mut rest = chunk;
+    // Kept: the new form is no plainer: a turn takes one byte or as many as stand in pairs, which it finds itself and no iterator counts
     while let Some((b, behind)) = rest.split_first() {
         let n = 2 * pairs_in(s, rest);
         if 0 < n {
@@ -419,16 +431,24 @@ pub fn read_chunk(state: State, chunk: &[u8], run: &mut [u8], records: &mut [u64
 
 // Behind a sheet's last byte.
 #[tactic(auto, unfolding(crate::specs::Machine::answer_of))]
-pub fn finish(state: State) -> Answer
+pub fn finish(state: State) -> Result<Read, Refusal>
     ensures { result ≡ answer_of state }
 {
-    let phase = state.phase;
-    if phase == START {
-        return Answer::Read(state.lines, state.used);
+    if state.phase == START {
+        return Ok(Read {
+            lines: state.lines,
+            bytes: state.used,
+        });
     }
     let line = room_for(LINES, state.lines) + 1;
-    if phase == REFUSED {
-        return Answer::Refused(state.refusal, line);
+    if state.phase == REFUSED {
+        return Err(Refusal {
+            number: state.refusal,
+            line,
+        });
     }
-    Answer::Refused(Question::Line.number(), line)
+    Err(Refusal {
+        number: Question::Line.number(),
+        line,
+    })
 }
