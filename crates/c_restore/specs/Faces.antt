@@ -1,7 +1,6 @@
 -- What restore answers Rust and C.
 -- Assumes nothing.
-use Rattle.restore.specs.declared.Restored.{Restored}
-use Rattle.restore.specs.declared.Restored.TheVariants.{Granted, Refused}
+use Rattle.restore.specs.Restored.{Restored, Granted, Refused}
 use Rattle.c_restore.specs.declared.RestoreAnswer.{RestoreAnswer}
 
 -- 0, next_contact and next_slot; or the question's number, and the entry's index

@@ -4,11 +4,11 @@
 
 ghost use Rattle.std.specs.Prelude.{◌≡◌};
 ghost use Rattle.store.specs.Store.{store_of, restore};
-ghost use Rattle.restore.specs.Restored.{answered};
+ghost use Rattle.restore.specs.Restored.{answered, restored_says};
 ghost use Rattle.c_restore.specs.Faces.{answer_of};
 
-use restore::Restored;
-use store::Entry;
+use restore::Granted;
+use store::{Entry, Refusal, StoreRef};
 
 // Granted: number is 0, and next_contact and next_slot are the store's. Refused: number is the question's, and index the entry's. What is not said is 0.
 #[repr(C)]
@@ -20,21 +20,21 @@ pub struct RestoreAnswer {
     pub number: u32,
 }
 
-fn answer_of(restored: Restored) -> RestoreAnswer
-    ensures { result ≡ answer_of restored }
+fn answer_of(restored: Result<Granted, Refusal>) -> RestoreAnswer
+    ensures { result ≡ answer_of (restored_says restored) }
 {
     match restored {
-        Restored::Granted(next_contact, next_slot) => RestoreAnswer {
-            next_contact,
-            next_slot,
+        Ok(granted) => RestoreAnswer {
+            next_contact: granted.next_contact,
+            next_slot: granted.next_slot,
             index: 0,
             number: 0,
         },
-        Restored::Refused(number, index) => RestoreAnswer {
+        Err(refusal) => RestoreAnswer {
             next_contact: 0,
             next_slot: 0,
-            index,
-            number: number as u32,
+            index: refusal.place,
+            number: u32::from(refusal.question.number()),
         },
     }
 }
@@ -43,6 +43,5 @@ fn answer_of(restored: Restored) -> RestoreAnswer
 pub extern "C" fn sicklestar_restore(run: &[u8], entries: &[Entry]) -> RestoreAnswer
     ensures { result ≡ answer_of (answered (restore (store_of run.now entries.now))) }
 {
-    let restored = restore::restore(run, entries);
-    answer_of(restored)
+    answer_of(restore::restore(StoreRef { run, entries }))
 }

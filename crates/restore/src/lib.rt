@@ -24,6 +24,14 @@ pub struct Granted {
     pub next_slot: u64,
 }
 
+// A store, with the row of a contact left out, or with none, of which every answer to 1 to 24 and 54 was a yes.
+#[derive(Clone, Copy)]
+struct ReadStore<'a> {
+    store: StoreRef<'a>,
+    omitted: Option<OmittedContact>,
+    ghost read: { read_so store.run.now store.entries.now omitted ≡ Going },
+}
+
 // Fewer entries than this are few: a small filter and index are enough for them.
 const FEW: usize = 1024;
 
@@ -100,20 +108,20 @@ fn owner_at(entries: &[Entry], index: &[u32], e: Entry, upto: usize, latest: usi
     restore_across::chosen(p, q, o, far, upto)
 }
 
-// ---- 25 to 33, where every answer before was a yes; `duplicate` is the first entry that has a duplicate
+// ---- 25 to 33; `duplicate` is the first entry that has a duplicate
 
 fn across_at(
-    store: StoreRef<'_>,
+    read: ReadStore<'_>,
     index: &[u32],
-    omitted: Option<OmittedContact>,
     duplicate: usize,
     i: usize,
     w: Progress,
 ) -> Result<Progress, Refusal>
-    requires { (duplicate ≡ first_duplicate store.entries.now) × (i < length store.entries.now)
-        × At store.run.now store.entries.now omitted i (across.Going w) }
-    ensures { At store.entry.run.now store.entry.entries.now omitted (i + 1) (across_says result) }
+    requires { (duplicate ≡ first_duplicate read.store.entries.now) × (i < length read.store.entries.now)
+        × At read.store.run.now read.store.entries.now read.omitted i (across.Going w) }
+    ensures { At read.entry.store.run.now read.entry.store.entries.now read.entry.omitted (i + 1) (across_says result) }
 {
+    let ReadStore { store, omitted } = read;
     let e = store.entries[i];
     let limit = restore_across::owner_limit(e, i);
     let p = owner_at(store.entries, index, e, limit, w.latest);
@@ -122,66 +130,46 @@ fn across_at(
     restore_across::entry_turn(store.run, e, c, i, p, duplicate, owner, w)
 }
 
-// Of all entries.
-fn across_turns(
-    store: StoreRef<'_>,
-    index: &[u32],
-    omitted: Option<OmittedContact>,
+// Of all entries, with an index of so many places.
+fn indexed_turns<const PLACES: usize>(
+    read: ReadStore<'_>,
     duplicate: usize,
 ) -> Result<Progress, Refusal>
-    requires { (duplicate ≡ first_duplicate store.entries.now) × (read_so store.run.now store.entries.now omitted ≡ Going) }
-    ensures { At store.entry.run.now store.entry.entries.now omitted (length store.entry.entries.now) (across_says result) }
+    requires { (PLACES ≤ 65536) × (duplicate ≡ first_duplicate read.store.entries.now) }
+    ensures { At read.entry.store.run.now read.entry.store.entries.now read.entry.omitted (length read.entry.store.entries.now) (across_says result) }
 {
+    let mut index = [0; PLACES];
+    note_all(read.store.entries, &mut index);
     let mut w = restore_across::begin();
-    for i in 0..store.entries.len() {
-        w = across_at(store, index, omitted, duplicate, i, w)?;
+    for i in 0..read.store.entries.len() {
+        w = across_at(read, &index, duplicate, i, w)?;
     }
     Ok(w)
 }
 
-// With an index of so many places.
-fn indexed_turns<const PLACES: usize>(
-    store: StoreRef<'_>,
-    omitted: Option<OmittedContact>,
-    duplicate: usize,
-) -> Result<Progress, Refusal>
-    requires { (PLACES ≤ 65536) × (duplicate ≡ first_duplicate store.entries.now)
-        × (read_so store.run.now store.entries.now omitted ≡ Going) }
-    ensures { At store.entry.run.now store.entry.entries.now omitted (length store.entry.entries.now) (across_says result) }
-{
-    let mut index = [0; PLACES];
-    note_all(store.entries, &mut index);
-    across_turns(store, &index, omitted, duplicate)
-}
-
 // With a filter and an index of 1 KB,
-fn few_turns(store: StoreRef<'_>, omitted: Option<OmittedContact>) -> Result<Progress, Refusal>
-    requires { read_so store.run.now store.entries.now omitted ≡ Going }
-    ensures { At store.entry.run.now store.entry.entries.now omitted (length store.entry.entries.now) (across_says result) }
+fn few_turns(read: ReadStore<'_>) -> Result<Progress, Refusal>
+    ensures { At read.entry.store.run.now read.entry.store.entries.now read.entry.omitted (length read.entry.store.entries.now) (across_says result) }
 {
-    let duplicate = restore_duplicates::first_of_few(store.entries);
-    indexed_turns::<256>(store, omitted, duplicate)
+    indexed_turns::<256>(read, restore_duplicates::first_of_few(read.store.entries))
 }
 
 // ... and with a filter of 64 KB and an index of 256 KB. A frame as large as that is touched page by page wherever it is entered, so a small store's restore is
 // not to enter it.
 #[inline(never)]
-fn many_turns(store: StoreRef<'_>, omitted: Option<OmittedContact>) -> Result<Progress, Refusal>
-    requires { read_so store.run.now store.entries.now omitted ≡ Going }
-    ensures { At store.entry.run.now store.entry.entries.now omitted (length store.entry.entries.now) (across_says result) }
+fn many_turns(read: ReadStore<'_>) -> Result<Progress, Refusal>
+    ensures { At read.entry.store.run.now read.entry.store.entries.now read.entry.omitted (length read.entry.store.entries.now) (across_says result) }
 {
-    let duplicate = restore_duplicates::first_of_many(store.entries);
-    indexed_turns::<65536>(store, omitted, duplicate)
+    indexed_turns::<65536>(read, restore_duplicates::first_of_many(read.store.entries))
 }
 
-fn all_turns(store: StoreRef<'_>, omitted: Option<OmittedContact>) -> Result<Progress, Refusal>
-    requires { read_so store.run.now store.entries.now omitted ≡ Going }
-    ensures { At store.entry.run.now store.entry.entries.now omitted (length store.entry.entries.now) (across_says result) }
+fn all_turns(read: ReadStore<'_>) -> Result<Progress, Refusal>
+    ensures { At read.entry.store.run.now read.entry.store.entries.now read.entry.omitted (length read.entry.store.entries.now) (across_says result) }
 {
-    if store.entries.len() < FEW {
-        few_turns(store, omitted)
+    if read.store.entries.len() < FEW {
+        few_turns(read)
     } else {
-        many_turns(store, omitted)
+        many_turns(read)
     }
 }
 
@@ -193,7 +181,7 @@ pub fn questions(store: StoreRef<'_>, omitted: Option<OmittedContact>) -> Result
     turns(store, omitted, Round::Order)?;
     turns(store, omitted, Round::Bounds)?;
     turns(store, omitted, Round::Rows)?;
-    let end = all_turns(store, omitted)?;
+    let end = all_turns(ReadStore { store, omitted })?;
     Ok(Granted {
         next_contact: end.next_contact,
         next_slot: end.slots,

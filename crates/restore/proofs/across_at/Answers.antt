@@ -6,17 +6,17 @@ use Rattle.restore_across.proofs.Laws.{reusable, known, turned}
 use Rattle.restore.proofs.across_at.Goals as goal
 use Rattle.restore.proofs.across_at.Goals.{After-owner_of-owner}
 
-found : (c : After-owner_of-owner) → let a = c.args in let e = entry_at a.store.entries.now a.i in OwnerAt a.store.entries.now e (owner_limit e a.i) c.owner_at-p.result
+found : (c : After-owner_of-owner) → let a = c.args in let e = entry_at a.read.store.entries.now a.i in OwnerAt a.read.store.entries.now e (owner_limit e a.i) c.owner_at-p.result
 found c = rw c.owner_limit-limit.ensures at c.owner_at-p.ensures
 
-stands : (c : After-owner_of-owner) → let a = c.args in let e = entry_at a.store.entries.now a.i in let p = c.owner_at-p.result in let its = entry_at a.store.entries.now p in
-    OwnerStands (owner_found a.store.run.now a.omitted its p (owner_limit e a.i)) (part_of a.store.run.now its) c.owner_of-owner.result
+stands : (c : After-owner_of-owner) → let a = c.args in let e = entry_at a.read.store.entries.now a.i in let p = c.owner_at-p.result in let its = entry_at a.read.store.entries.now p in
+    OwnerStands (owner_found a.read.store.run.now a.read.omitted its p (owner_limit e a.i)) (part_of a.read.store.run.now its) c.owner_of-owner.result
 stands c =
     let a = c.args in
     let p = c.owner_at-p.result in
     let asked = rw (c.owner_limit-limit.ensures, c.entry_at-c.ensures) at c.owner_of-owner.ensures in
-    let its-known = known a.store.run.now a.store.entries.now a.omitted a.i a.w c.requires.1 c.requires.2 p (found c) in
-    (asked its-known).1 (reusable a.store.run.now a.store.entries.now a.omitted a.i a.w c.requires.1 c.requires.2 p (found c))
+    let its-known = known a.read.store.run.now a.read.store.entries.now a.read.omitted a.i a.w c.requires.1 c.requires.2 p (found c) in
+    (asked its-known).1 (reusable a.read.store.run.now a.read.store.entries.now a.read.omitted a.i a.w c.requires.1 c.requires.2 p (found c))
 
 pub entry_turn-requires : goal.entry_turn-requires
 entry_turn-requires c = rw c.entry_at-c.ensures (stands (goal.at.entry_turn-requires c).After-owner_of-owner).1
@@ -26,4 +26,4 @@ returns c =
     let a = c.args in
     let before = (goal.at.returns c).After-owner_of-owner in
     rw (c.entry_turn.ensures, c.entry_at-c.ensures, c.requires.0)
-    (turned a.store.run.now a.store.entries.now a.omitted a.i a.w c.requires.1 c.requires.2 c.owner_at-p.result (found before) c.owner_of-owner.result (stands before))
+    (turned a.read.store.run.now a.read.store.entries.now a.read.omitted a.i a.w c.requires.1 c.requires.2 c.owner_at-p.result (found before) c.owner_of-owner.result (stands before))
