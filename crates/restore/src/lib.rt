@@ -9,7 +9,7 @@ ghost use Rattle.restore_rounds.specs.Rounds.{round_of};
 ghost use Rattle.restore_across.specs.Across as across;
 ghost use Rattle.restore_across.specs.Across.{across_says, OwnerAt};
 ghost use Rattle.restore_across.specs.At.{read_so, At};
-ghost use Rattle.restore.specs.Index.{hint_in};
+ghost use Rattle.restore.specs.Index.{place_in, hint_in};
 ghost use Rattle.restore.specs.Restored.{begun_with, answered, questioned, restored_says};
 
 use layout::Question;
@@ -61,6 +61,15 @@ fn turns(store: StoreRef<'_>, omitted: Option<OmittedContact>, round: Round) -> 
 
 // ---- an index of contacts: at an id's place where a contact with such an id may stand. Nothing is known of what it holds, so what it says is compared
 
+// The place of an entry's id.
+fn place_of(index: &[u32], e: Entry) -> usize
+    requires { 0 < length index.now }
+    ensures { result ≡ place_in index.now e }
+{
+    // Kept: the new form is no plainer: std has no From from u64 to usize
+    e.id as usize & (index.len() - 1)
+}
+
 // Notes where a contact stands.
 fn note(index: &mut [u32], e: Entry, i: usize) {
     if e.kind != store::CONTACT || index.is_empty() {
@@ -69,7 +78,7 @@ fn note(index: &mut [u32], e: Entry, i: usize) {
     let Ok(place) = u32::try_from(i) else {
         return;
     };
-    let at = e.id as usize & (index.len() - 1);
+    let at = place_of(index, e);
     index[at] = place;
 }
 
@@ -87,8 +96,8 @@ fn hint_of(index: &[u32], e: Entry, upto: usize) -> usize
     if upto == 0 || index.is_empty() {
         return 0;
     }
-    let at = e.id as usize & (index.len() - 1);
-    index[at] as usize
+    // Kept: the new form is no plainer: std has no From from u32 to usize
+    index[place_of(index, e)] as usize
 }
 
 // Where the contact of a queued row stands, below `upto`: at the kept index, or where the index says; else from the kept index on, and then from the start. `upto`
@@ -119,7 +128,7 @@ fn across_at(
 ) -> Result<Progress, Refusal>
     requires { (duplicate ≡ first_duplicate read.store.entries.now) × (i < length read.store.entries.now)
         × At read.store.run.now read.store.entries.now read.omitted i (across.Going w) }
-    ensures { At read.entry.store.run.now read.entry.store.entries.now read.entry.omitted (i + 1) (across_says result) }
+    ensures { let r = read.entry in At r.store.run.now r.store.entries.now r.omitted (i + 1) (across_says result) }
 {
     let ReadStore { store, omitted } = read;
     let e = store.entries[i];
@@ -136,8 +145,9 @@ fn indexed_turns<const PLACES: usize>(
     duplicate: usize,
 ) -> Result<Progress, Refusal>
     requires { (PLACES ≤ 65536) × (duplicate ≡ first_duplicate read.store.entries.now) }
-    ensures { At read.entry.store.run.now read.entry.store.entries.now read.entry.omitted (length read.entry.store.entries.now) (across_says result) }
+    ensures { let r = read.entry in At r.store.run.now r.store.entries.now r.omitted (length r.store.entries.now) (across_says result) }
 {
+    // Kept: no heap: `few_turns` and `many_turns` give the index its places, whatever the store holds
     let mut index = [0; PLACES];
     note_all(read.store.entries, &mut index);
     let mut w = restore_across::begin();
@@ -149,7 +159,7 @@ fn indexed_turns<const PLACES: usize>(
 
 // With a filter and an index of 1 KB,
 fn few_turns(read: ReadStore<'_>) -> Result<Progress, Refusal>
-    ensures { At read.entry.store.run.now read.entry.store.entries.now read.entry.omitted (length read.entry.store.entries.now) (across_says result) }
+    ensures { let r = read.entry in At r.store.run.now r.store.entries.now r.omitted (length r.store.entries.now) (across_says result) }
 {
     indexed_turns::<256>(read, restore_duplicates::first_of_few(read.store.entries))
 }
@@ -158,13 +168,13 @@ fn few_turns(read: ReadStore<'_>) -> Result<Progress, Refusal>
 // not to enter it.
 #[inline(never)]
 fn many_turns(read: ReadStore<'_>) -> Result<Progress, Refusal>
-    ensures { At read.entry.store.run.now read.entry.store.entries.now read.entry.omitted (length read.entry.store.entries.now) (across_says result) }
+    ensures { let r = read.entry in At r.store.run.now r.store.entries.now r.omitted (length r.store.entries.now) (across_says result) }
 {
     indexed_turns::<65536>(read, restore_duplicates::first_of_many(read.store.entries))
 }
 
 fn all_turns(read: ReadStore<'_>) -> Result<Progress, Refusal>
-    ensures { At read.entry.store.run.now read.entry.store.entries.now read.entry.omitted (length read.entry.store.entries.now) (across_says result) }
+    ensures { let r = read.entry in At r.store.run.now r.store.entries.now r.omitted (length r.store.entries.now) (across_says result) }
 {
     if read.store.entries.len() < FEW {
         few_turns(read)

@@ -93,6 +93,7 @@ fn rising(entries: &[Entry]) -> usize
 fn in_part(h: u64, last: usize, part: usize) -> bool
     ensures { result ≡ in_part last part h }
 {
+    // Kept: the new form is no plainer: std has no From from u64 to usize
     (h / 274877906944) as usize & last == part
 }
 
@@ -154,6 +155,7 @@ fn first_in<const WORDS: usize>(entries: &[Entry], last: usize, part: usize, bes
     requires { WORDS ≤ 8192 }
     ensures { result ≡ first_where (duplicate_in entries.now last part) 0 best }
 {
+    // Kept: no heap: `first_of_few` and `first_of_many` give the filter its words, whatever the store holds
     let mut bits = [0; WORDS];
     duplicates_in(entries, &mut bits, last, part, best)
 }
