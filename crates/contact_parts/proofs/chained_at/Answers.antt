@@ -7,8 +7,8 @@ use Rattle.layout.proofs.At.{typed, took, took-next}
 use Rattle.layout.proofs.Along.{Fields}
 use Rattle.layout.proofs.Walk.{start, goes, stops, all}
 use Rattle.offsets.specs.Offset.{offset}
-use Rattle.offsets.proofs.Offset.{optional-not-past, located-at, located-not}
-use Rattle.contact_parts.proofs.Walked.{refuses_here, stands_here}
+use Rattle.offsets.proofs.Offset.{optional-not-past, located-at}
+use Rattle.contact_parts.proofs.Walked.{refuses_here, stands_here, goes_by, stops_by}
 use Rattle.std.specs.Prelude.{Option}
 use Rattle.layout.specs.Layout.{group, optional}
 use Rattle.layout.proofs.Derived.{optional-lawful, list_lawful}
@@ -36,27 +36,22 @@ its-places from v chains-at chains-here skipped-at skipped-here pending-at pendi
 pub returns-in_err-pending : goal.returns-in_err-pending
 returns-in_err-pending c =
     let told : c.from_residual.result ≡ Err c.in_err-pending.field-0.0 = search rules in
-    rw told (refuses_here chained chained-fields c.args.row.now (typed _ c.type_inv.row) c.args.at tt (chained_at _) (stops (start chained c.args.row.now c.args.at) (sym (located-not (pending_at _) _ (sym c.in_err-pending.ensures)))))
+    rw told (refuses_here chained chained-fields _ (typed _ c.type_inv.row) _ tt (chained_at _) (stops_by (pending_at _) (start chained _ _) c.in_err-pending.ensures))
 
 pub returns-in_err-send : goal.returns-in_err-send
 returns-in_err-send c =
-    let pending-its = located-at (pending_at _) _ (sym c.in_ok-pending.ensures) in
     let told : c.from_residual-in_err-send.result ≡ Err c.in_err-send.field-0.0 = search rules in
-    rw told (refuses_here chained chained-fields c.args.row.now (typed _ c.type_inv.row) c.args.at tt (chained_at _) (stops (goes (start chained c.args.row.now c.args.at) (sym pending-its.read)) (sym (located-not (send_at _) _ (sym c.in_err-send.ensures)))))
+    rw told (refuses_here chained chained-fields _ (typed _ c.type_inv.row) _ tt (chained_at _) (stops_by (send_at _) (goes_by (pending_at _) (start chained _ _) c.in_ok-pending.ensures) c.in_err-send.ensures))
 
 pub returns-in_err-chains : goal.returns-in_err-chains
 returns-in_err-chains c =
-    let pending-its = located-at (pending_at _) _ (sym c.in_ok-pending.ensures) in
-    let send-its = located-at (send_at _) _ (sym c.in_ok-send.ensures) in
     let told : c.from_residual-in_err-chains.result ≡ Err c.in_err-chains.field-0.0 = search rules in
-    rw told (refuses_here chained chained-fields c.args.row.now (typed _ c.type_inv.row) c.args.at tt (chained_at _) (stops (goes (goes (start chained c.args.row.now c.args.at) (sym pending-its.read)) (sym send-its.read)) c.in_err-chains.ensures.0))
+    rw told (refuses_here chained chained-fields _ (typed _ c.type_inv.row) _ tt (chained_at _) (stops (goes_by (send_at _) (goes_by (pending_at _) (start chained _ _) c.in_ok-pending.ensures) c.in_ok-send.ensures) c.in_err-chains.ensures.0))
 
 pub returns-in_err-skipped : goal.returns-in_err-skipped
 returns-in_err-skipped c =
-    let pending-its = located-at (pending_at _) _ (sym c.in_ok-pending.ensures) in
-    let send-its = located-at (send_at _) _ (sym c.in_ok-send.ensures) in
     let told : c.from_residual-in_err-skipped.result ≡ Err c.in_err-skipped.field-0.0 = search rules in
-    rw told (refuses_here chained chained-fields c.args.row.now (typed _ c.type_inv.row) c.args.at tt (chained_at _) (stops (goes (goes (goes (start chained c.args.row.now c.args.at) (sym pending-its.read)) (sym send-its.read)) c.in_ok-chains.ensures.0) c.in_err-skipped.ensures.0))
+    rw told (refuses_here chained chained-fields _ (typed _ c.type_inv.row) _ tt (chained_at _) (stops (goes (goes_by (send_at _) (goes_by (pending_at _) (start chained _ _) c.in_ok-pending.ensures) c.in_ok-send.ensures) c.in_ok-chains.ensures.0) c.in_err-skipped.ensures.0))
 
 pub returns : goal.returns
 returns c =
@@ -76,7 +71,7 @@ returns c =
       chains = list_in (group chain) row c.in_ok-chains.chains;
       skipped = list_in (group skipped) row c.in_ok-skipped.skipped;
     } in
-    stands_here chained chained-fields c.args.row.now (typed _ c.type_inv.row) c.args.at tt (chained_at _) {v = its} (all (goes (goes (goes (goes (start chained c.args.row.now c.args.at) (sym pending-its.read)) (sym send-its.read)) c.in_ok-chains.ensures.0) c.in_ok-skipped.ensures.0))
+    stands_here chained chained-fields _ (typed _ c.type_inv.row) _ tt (chained_at _) {v = its} (all (goes (goes (goes_by (send_at _) (goes_by (pending_at _) (start chained _ _) c.in_ok-pending.ensures) c.in_ok-send.ensures) c.in_ok-chains.ensures.0) c.in_ok-skipped.ensures.0))
     (its-places c.args.at its
     (list-starts (group chain) chain-lawful row by _ c.in_ok-chains.chains c.in_ok-chains.ensures.0 send-took.inside c.in_ok-chains.ensures.1)
     (omega (arith, pending-next, send-next))

@@ -30,32 +30,32 @@ its-places from v door-a-to-b-at door-b-to-a-at route-key-at chain-key-at = λ i
 pub returns-in_err-door_a_to_b : goal.returns-in_err-door_a_to_b
 returns-in_err-door_a_to_b c =
     let told : c.from_residual.result ≡ Err c.in_err-door_a_to_b.field-0.0 = search rules in
-    rw told (refuses_here keys keys-fields c.args.row.now (typed _ c.type_inv.row) c.args.at tt (keys_at _) (cut veiled 32 (start keys c.args.row.now c.args.at) c.in_err-door_a_to_b.ensures.0))
+    rw told (refuses_here keys keys-fields _ (typed _ c.type_inv.row) _ tt (keys_at _) (cut veiled 32 (start keys _ _) c.in_err-door_a_to_b.ensures.0))
 
 pub returns-in_err-door_b_to_a : goal.returns-in_err-door_b_to_a
 returns-in_err-door_b_to_a c =
     let told : c.from_residual-in_err-door_b_to_a.result ≡ Err c.in_err-door_b_to_a.field-0.0 = search rules in
-    rw told (refuses_here keys keys-fields c.args.row.now (typed _ c.type_inv.row) c.args.at tt (keys_at _) (cut veiled 32 (runs veiled 32 (start keys c.args.row.now c.args.at) c.in_ok-door_a_to_b.ensures.0) c.in_err-door_b_to_a.ensures.0))
+    rw told (refuses_here keys keys-fields _ (typed _ c.type_inv.row) _ tt (keys_at _) (cut veiled 32 (runs veiled 32 (start keys _ _) c.in_ok-door_a_to_b.ensures.0) c.in_err-door_b_to_a.ensures.0))
 
 pub returns-in_err-route_key : goal.returns-in_err-route_key
 returns-in_err-route_key c =
     let told : c.from_residual-in_err-route_key.result ≡ Err c.in_err-route_key.field-0.0 = search rules in
-    rw told (refuses_here keys keys-fields c.args.row.now (typed _ c.type_inv.row) c.args.at tt (keys_at _) (cut veiled 32 (runs veiled 32 (runs veiled 32 (start keys c.args.row.now c.args.at) c.in_ok-door_a_to_b.ensures.0) c.in_ok-door_b_to_a.ensures.0) c.in_err-route_key.ensures.0))
+    rw told (refuses_here keys keys-fields _ (typed _ c.type_inv.row) _ tt (keys_at _) (cut veiled 32 (runs veiled 32 (runs veiled 32 (start keys _ _) c.in_ok-door_a_to_b.ensures.0) c.in_ok-door_b_to_a.ensures.0) c.in_err-route_key.ensures.0))
 
 pub returns-in_err-resume_index : goal.returns-in_err-resume_index
 returns-in_err-resume_index c =
     let told : c.from_residual-in_err-resume_index.result ≡ Err c.in_err-resume_index.field-0.0 = search rules in
-    rw told (refuses_here keys keys-fields c.args.row.now (typed _ c.type_inv.row) c.args.at tt (keys_at _) (stops (runs veiled 32 (runs veiled 32 (runs veiled 32 (start keys c.args.row.now c.args.at) c.in_ok-door_a_to_b.ensures.0) c.in_ok-door_b_to_a.ensures.0) c.in_ok-route_key.ensures.0) c.in_err-resume_index.ensures))
+    rw told (refuses_here keys keys-fields _ (typed _ c.type_inv.row) _ tt (keys_at _) (stops (runs veiled 32 (runs veiled 32 (runs veiled 32 (start keys _ _) c.in_ok-door_a_to_b.ensures.0) c.in_ok-door_b_to_a.ensures.0) c.in_ok-route_key.ensures.0) c.in_err-resume_index.ensures))
 
 pub returns-in_err-chain_key : goal.returns-in_err-chain_key
 returns-in_err-chain_key c =
     let told : c.from_residual-in_err-chain_key.result ≡ Err c.in_err-chain_key.field-0.0 = search rules in
-    rw told (refuses_here keys keys-fields c.args.row.now (typed _ c.type_inv.row) c.args.at tt (keys_at _) (cut veiled 32 (goes (runs veiled 32 (runs veiled 32 (runs veiled 32 (start keys c.args.row.now c.args.at) c.in_ok-door_a_to_b.ensures.0) c.in_ok-door_b_to_a.ensures.0) c.in_ok-route_key.ensures.0) c.in_ok-resume_index.ensures) c.in_err-chain_key.ensures.0))
+    rw told (refuses_here keys keys-fields _ (typed _ c.type_inv.row) _ tt (keys_at _) (cut veiled 32 (goes (runs veiled 32 (runs veiled 32 (runs veiled 32 (start keys _ _) c.in_ok-door_a_to_b.ensures.0) c.in_ok-door_b_to_a.ensures.0) c.in_ok-route_key.ensures.0) c.in_ok-resume_index.ensures) c.in_err-chain_key.ensures.0))
 
 pub returns-in_err-sent_msgno : goal.returns-in_err-sent_msgno
 returns-in_err-sent_msgno c =
     let told : c.from_residual-in_err-sent_msgno.result ≡ Err c.in_err-sent_msgno.field-0.0 = search rules in
-    rw told (refuses_here keys keys-fields c.args.row.now (typed _ c.type_inv.row) c.args.at tt (keys_at _) (stops (runs veiled 32 (goes (runs veiled 32 (runs veiled 32 (runs veiled 32 (start keys c.args.row.now c.args.at) c.in_ok-door_a_to_b.ensures.0) c.in_ok-door_b_to_a.ensures.0) c.in_ok-route_key.ensures.0) c.in_ok-resume_index.ensures) c.in_ok-chain_key.ensures.0) c.in_err-sent_msgno.ensures))
+    rw told (refuses_here keys keys-fields _ (typed _ c.type_inv.row) _ tt (keys_at _) (stops (runs veiled 32 (goes (runs veiled 32 (runs veiled 32 (runs veiled 32 (start keys _ _) c.in_ok-door_a_to_b.ensures.0) c.in_ok-door_b_to_a.ensures.0) c.in_ok-route_key.ensures.0) c.in_ok-resume_index.ensures) c.in_ok-chain_key.ensures.0) c.in_err-sent_msgno.ensures))
 
 pub returns : goal.returns
 returns c =
@@ -75,7 +75,7 @@ returns c =
       chain_key = take 32 (drop c.in_ok-chain_key.chain_key row);
       sent_msgno = c.in_ok-sent_msgno.sent_msgno;
     } in
-    stands_here keys keys-fields c.args.row.now (typed _ c.type_inv.row) c.args.at tt (keys_at _) {v = its} (all (goes (runs veiled 32 (goes (runs veiled 32 (runs veiled 32 (runs veiled 32 (start keys c.args.row.now c.args.at) c.in_ok-door_a_to_b.ensures.0) c.in_ok-door_b_to_a.ensures.0) c.in_ok-route_key.ensures.0) c.in_ok-resume_index.ensures) c.in_ok-chain_key.ensures.0) c.in_ok-sent_msgno.ensures))
+    stands_here keys keys-fields _ (typed _ c.type_inv.row) _ tt (keys_at _) {v = its} (all (goes (runs veiled 32 (goes (runs veiled 32 (runs veiled 32 (runs veiled 32 (start keys _ _) c.in_ok-door_a_to_b.ensures.0) c.in_ok-door_b_to_a.ensures.0) c.in_ok-route_key.ensures.0) c.in_ok-resume_index.ensures) c.in_ok-chain_key.ensures.0) c.in_ok-sent_msgno.ensures))
     (its-places c.args.at its
     (omega (arith, door_a_to_b-run.starts))
     (omega (arith, door_a_to_b-run.ends, door_b_to_a-run.starts))

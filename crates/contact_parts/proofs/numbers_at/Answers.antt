@@ -34,37 +34,37 @@ its-places from v above-at above-here unacked-at unacked-here expired-at expired
 pub returns-in_err-peer_acked : goal.returns-in_err-peer_acked
 returns-in_err-peer_acked c =
     let told : c.from_residual.result ≡ Err c.in_err-peer_acked.field-0.0 = search rules in
-    rw told (refuses_here numbers numbers-fields c.args.row.now (typed _ c.type_inv.row) c.args.at tt (numbers_at _) (stops (start numbers c.args.row.now c.args.at) c.in_err-peer_acked.ensures))
+    rw told (refuses_here numbers numbers-fields _ (typed _ c.type_inv.row) _ tt (numbers_at _) (stops (start numbers _ _) c.in_err-peer_acked.ensures))
 
 pub returns-in_err-peer_read : goal.returns-in_err-peer_read
 returns-in_err-peer_read c =
     let told : c.from_residual-in_err-peer_read.result ≡ Err c.in_err-peer_read.field-0.0 = search rules in
-    rw told (refuses_here numbers numbers-fields c.args.row.now (typed _ c.type_inv.row) c.args.at tt (numbers_at _) (stops (goes (start numbers c.args.row.now c.args.at) c.in_ok-peer_acked.ensures) c.in_err-peer_read.ensures))
+    rw told (refuses_here numbers numbers-fields _ (typed _ c.type_inv.row) _ tt (numbers_at _) (stops (goes (start numbers _ _) c.in_ok-peer_acked.ensures) c.in_err-peer_read.ensures))
 
 pub returns-in_err-read_marked : goal.returns-in_err-read_marked
 returns-in_err-read_marked c =
     let told : c.from_residual-in_err-read_marked.result ≡ Err c.in_err-read_marked.field-0.0 = search rules in
-    rw told (refuses_here numbers numbers-fields c.args.row.now (typed _ c.type_inv.row) c.args.at tt (numbers_at _) (stops (goes (goes (start numbers c.args.row.now c.args.at) c.in_ok-peer_acked.ensures) c.in_ok-peer_read.ensures) c.in_err-read_marked.ensures))
+    rw told (refuses_here numbers numbers-fields _ (typed _ c.type_inv.row) _ tt (numbers_at _) (stops (goes (goes (start numbers _ _) c.in_ok-peer_acked.ensures) c.in_ok-peer_read.ensures) c.in_err-read_marked.ensures))
 
 pub returns-in_err-contiguous : goal.returns-in_err-contiguous
 returns-in_err-contiguous c =
     let told : c.from_residual-in_err-contiguous.result ≡ Err c.in_err-contiguous.field-0.0 = search rules in
-    rw told (refuses_here numbers numbers-fields c.args.row.now (typed _ c.type_inv.row) c.args.at tt (numbers_at _) (stops (goes (goes (goes (start numbers c.args.row.now c.args.at) c.in_ok-peer_acked.ensures) c.in_ok-peer_read.ensures) c.in_ok-read_marked.ensures) c.in_err-contiguous.ensures))
+    rw told (refuses_here numbers numbers-fields _ (typed _ c.type_inv.row) _ tt (numbers_at _) (stops (goes (goes (goes (start numbers _ _) c.in_ok-peer_acked.ensures) c.in_ok-peer_read.ensures) c.in_ok-read_marked.ensures) c.in_err-contiguous.ensures))
 
 pub returns-in_err-above : goal.returns-in_err-above
 returns-in_err-above c =
     let told : c.from_residual-in_err-above.result ≡ Err c.in_err-above.field-0.0 = search rules in
-    rw told (refuses_here numbers numbers-fields c.args.row.now (typed _ c.type_inv.row) c.args.at tt (numbers_at _) (stops (goes (goes (goes (goes (start numbers c.args.row.now c.args.at) c.in_ok-peer_acked.ensures) c.in_ok-peer_read.ensures) c.in_ok-read_marked.ensures) c.in_ok-contiguous.ensures) c.in_err-above.ensures.0))
+    rw told (refuses_here numbers numbers-fields _ (typed _ c.type_inv.row) _ tt (numbers_at _) (stops (goes (goes (goes (goes (start numbers _ _) c.in_ok-peer_acked.ensures) c.in_ok-peer_read.ensures) c.in_ok-read_marked.ensures) c.in_ok-contiguous.ensures) c.in_err-above.ensures.0))
 
 pub returns-in_err-unacked : goal.returns-in_err-unacked
 returns-in_err-unacked c =
     let told : c.from_residual-in_err-unacked.result ≡ Err c.in_err-unacked.field-0.0 = search rules in
-    rw told (refuses_here numbers numbers-fields c.args.row.now (typed _ c.type_inv.row) c.args.at tt (numbers_at _) (stops (goes (goes (goes (goes (goes (start numbers c.args.row.now c.args.at) c.in_ok-peer_acked.ensures) c.in_ok-peer_read.ensures) c.in_ok-read_marked.ensures) c.in_ok-contiguous.ensures) c.in_ok-above.ensures.0) c.in_err-unacked.ensures.0))
+    rw told (refuses_here numbers numbers-fields _ (typed _ c.type_inv.row) _ tt (numbers_at _) (stops (goes (goes (goes (goes (goes (start numbers _ _) c.in_ok-peer_acked.ensures) c.in_ok-peer_read.ensures) c.in_ok-read_marked.ensures) c.in_ok-contiguous.ensures) c.in_ok-above.ensures.0) c.in_err-unacked.ensures.0))
 
 pub returns-in_err-expired : goal.returns-in_err-expired
 returns-in_err-expired c =
     let told : c.from_residual-in_err-expired.result ≡ Err c.in_err-expired.field-0.0 = search rules in
-    rw told (refuses_here numbers numbers-fields c.args.row.now (typed _ c.type_inv.row) c.args.at tt (numbers_at _) (stops (goes (goes (goes (goes (goes (goes (start numbers c.args.row.now c.args.at) c.in_ok-peer_acked.ensures) c.in_ok-peer_read.ensures) c.in_ok-read_marked.ensures) c.in_ok-contiguous.ensures) c.in_ok-above.ensures.0) c.in_ok-unacked.ensures.0) c.in_err-expired.ensures.0))
+    rw told (refuses_here numbers numbers-fields _ (typed _ c.type_inv.row) _ tt (numbers_at _) (stops (goes (goes (goes (goes (goes (goes (start numbers _ _) c.in_ok-peer_acked.ensures) c.in_ok-peer_read.ensures) c.in_ok-read_marked.ensures) c.in_ok-contiguous.ensures) c.in_ok-above.ensures.0) c.in_ok-unacked.ensures.0) c.in_err-expired.ensures.0))
 
 pub returns : goal.returns
 returns c =
@@ -88,7 +88,7 @@ returns c =
       unacked = list_in u32 row c.in_ok-unacked.unacked;
       expired = list_in (group range) row c.in_ok-expired.expired;
     } in
-    stands_here numbers numbers-fields c.args.row.now (typed _ c.type_inv.row) c.args.at tt (numbers_at _) {v = its} (all (goes (goes (goes (goes (goes (goes (goes (start numbers c.args.row.now c.args.at) c.in_ok-peer_acked.ensures) c.in_ok-peer_read.ensures) c.in_ok-read_marked.ensures) c.in_ok-contiguous.ensures) c.in_ok-above.ensures.0) c.in_ok-unacked.ensures.0) c.in_ok-expired.ensures.0))
+    stands_here numbers numbers-fields _ (typed _ c.type_inv.row) _ tt (numbers_at _) {v = its} (all (goes (goes (goes (goes (goes (goes (goes (start numbers _ _) c.in_ok-peer_acked.ensures) c.in_ok-peer_read.ensures) c.in_ok-read_marked.ensures) c.in_ok-contiguous.ensures) c.in_ok-above.ensures.0) c.in_ok-unacked.ensures.0) c.in_ok-expired.ensures.0))
     (its-places c.args.at its
     (list-starts (group range) range-lawful row by _ c.in_ok-above.above c.in_ok-above.ensures.0 contiguous-took.inside c.in_ok-above.ensures.1)
     (omega (arith, peer_acked-next, peer_read-next, read_marked-next, contiguous-next))

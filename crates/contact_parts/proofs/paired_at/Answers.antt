@@ -8,9 +8,9 @@ use Rattle.layout.proofs.At.{typed, took, took-next}
 use Rattle.layout.proofs.Along.{Fields}
 use Rattle.layout.proofs.Walk.{start, goes, stops, runs, cut, all}
 use Rattle.offsets.specs.Offset.{offset}
-use Rattle.offsets.proofs.Offset.{not-past, located-at, located-not}
+use Rattle.offsets.proofs.Offset.{not-past, located-at}
 use Rattle.offsets.proofs.Runs.{run-starts}
-use Rattle.contact_parts.proofs.Walked.{refuses_here, stands_here}
+use Rattle.contact_parts.proofs.Walked.{refuses_here, stands_here, goes_by, stops_by}
 use Rattle.layout.specs.Questions.{CARD_END}
 use Rattle.layout.specs.Layout.{group}
 use Rattle.layout.proofs.Front.{bytes-lawful}
@@ -36,37 +36,37 @@ its-places from v pair-id-at th-at nonce-b-at card-at card-here = λ i. record {
 pub returns-in_err-role : goal.returns-in_err-role
 returns-in_err-role c =
     let told : c.from_residual.result ≡ Err c.in_err-role.field-0.0 = search rules in
-    rw told (refuses_here paired paired-fields c.args.row.now (typed _ c.type_inv.row) c.args.at tt (paired_at _) (stops (start paired c.args.row.now c.args.at) c.in_err-role.ensures))
+    rw told (refuses_here paired paired-fields _ (typed _ c.type_inv.row) _ tt (paired_at _) (stops (start paired _ _) c.in_err-role.ensures))
 
 pub returns-in_err-at2 : goal.returns-in_err-at2
 returns-in_err-at2 c =
     let told : c.from_residual-in_err-at2.result ≡ Err c.in_err-at2.field-0.0 = search rules in
-    rw told (refuses_here paired paired-fields c.args.row.now (typed _ c.type_inv.row) c.args.at tt (paired_at _) (stops (goes (start paired c.args.row.now c.args.at) c.in_ok-role.ensures) c.in_err-at2.ensures))
+    rw told (refuses_here paired paired-fields _ (typed _ c.type_inv.row) _ tt (paired_at _) (stops (goes (start paired _ _) c.in_ok-role.ensures) c.in_err-at2.ensures))
 
 pub returns-in_err-verification : goal.returns-in_err-verification
 returns-in_err-verification c =
     let told : c.from_residual-in_err-verification.result ≡ Err c.in_err-verification.field-0.0 = search rules in
-    rw told (refuses_here paired paired-fields c.args.row.now (typed _ c.type_inv.row) c.args.at tt (paired_at _) (stops (goes (goes (start paired c.args.row.now c.args.at) c.in_ok-role.ensures) c.in_ok-at2.ensures) c.in_err-verification.ensures))
+    rw told (refuses_here paired paired-fields _ (typed _ c.type_inv.row) _ tt (paired_at _) (stops (goes (goes (start paired _ _) c.in_ok-role.ensures) c.in_ok-at2.ensures) c.in_err-verification.ensures))
 
 pub returns-in_err-pair_id : goal.returns-in_err-pair_id
 returns-in_err-pair_id c =
     let told : c.from_residual-in_err-pair_id.result ≡ Err c.in_err-pair_id.field-0.0 = search rules in
-    rw told (refuses_here paired paired-fields c.args.row.now (typed _ c.type_inv.row) c.args.at tt (paired_at _) (cut plain 16 (goes (goes (goes (start paired c.args.row.now c.args.at) c.in_ok-role.ensures) c.in_ok-at2.ensures) c.in_ok-verification.ensures) c.in_err-pair_id.ensures.0))
+    rw told (refuses_here paired paired-fields _ (typed _ c.type_inv.row) _ tt (paired_at _) (cut plain 16 (goes (goes (goes (start paired _ _) c.in_ok-role.ensures) c.in_ok-at2.ensures) c.in_ok-verification.ensures) c.in_err-pair_id.ensures.0))
 
 pub returns-in_err-th : goal.returns-in_err-th
 returns-in_err-th c =
     let told : c.from_residual-in_err-th.result ≡ Err c.in_err-th.field-0.0 = search rules in
-    rw told (refuses_here paired paired-fields c.args.row.now (typed _ c.type_inv.row) c.args.at tt (paired_at _) (cut plain 48 (runs plain 16 (goes (goes (goes (start paired c.args.row.now c.args.at) c.in_ok-role.ensures) c.in_ok-at2.ensures) c.in_ok-verification.ensures) c.in_ok-pair_id.ensures.0) c.in_err-th.ensures.0))
+    rw told (refuses_here paired paired-fields _ (typed _ c.type_inv.row) _ tt (paired_at _) (cut plain 48 (runs plain 16 (goes (goes (goes (start paired _ _) c.in_ok-role.ensures) c.in_ok-at2.ensures) c.in_ok-verification.ensures) c.in_ok-pair_id.ensures.0) c.in_err-th.ensures.0))
 
 pub returns-in_err-nonce_b : goal.returns-in_err-nonce_b
 returns-in_err-nonce_b c =
     let told : c.from_residual-in_err-nonce_b.result ≡ Err c.in_err-nonce_b.field-0.0 = search rules in
-    rw told (refuses_here paired paired-fields c.args.row.now (typed _ c.type_inv.row) c.args.at tt (paired_at _) (cut plain 16 (runs plain 48 (runs plain 16 (goes (goes (goes (start paired c.args.row.now c.args.at) c.in_ok-role.ensures) c.in_ok-at2.ensures) c.in_ok-verification.ensures) c.in_ok-pair_id.ensures.0) c.in_ok-th.ensures.0) c.in_err-nonce_b.ensures.0))
+    rw told (refuses_here paired paired-fields _ (typed _ c.type_inv.row) _ tt (paired_at _) (cut plain 16 (runs plain 48 (runs plain 16 (goes (goes (goes (start paired _ _) c.in_ok-role.ensures) c.in_ok-at2.ensures) c.in_ok-verification.ensures) c.in_ok-pair_id.ensures.0) c.in_ok-th.ensures.0) c.in_err-nonce_b.ensures.0))
 
 pub returns-in_err-card : goal.returns-in_err-card
 returns-in_err-card c =
     let told : c.from_residual-in_err-card.result ≡ Err c.in_err-card.field-0.0 = search rules in
-    rw told (refuses_here paired paired-fields c.args.row.now (typed _ c.type_inv.row) c.args.at tt (paired_at _) (stops (runs plain 16 (runs plain 48 (runs plain 16 (goes (goes (goes (start paired c.args.row.now c.args.at) c.in_ok-role.ensures) c.in_ok-at2.ensures) c.in_ok-verification.ensures) c.in_ok-pair_id.ensures.0) c.in_ok-th.ensures.0) c.in_ok-nonce_b.ensures.0) (sym (located-not (card_at _) _ (sym c.in_err-card.ensures)))))
+    rw told (refuses_here paired paired-fields _ (typed _ c.type_inv.row) _ tt (paired_at _) (stops_by (card_at _) (runs plain 16 (runs plain 48 (runs plain 16 (goes (goes (goes (start paired _ _) c.in_ok-role.ensures) c.in_ok-at2.ensures) c.in_ok-verification.ensures) c.in_ok-pair_id.ensures.0) c.in_ok-th.ensures.0) c.in_ok-nonce_b.ensures.0) c.in_err-card.ensures))
 
 pub returns : goal.returns
 returns c =
@@ -90,7 +90,7 @@ returns c =
       nonce_b = take 16 (drop c.in_ok-nonce_b.nonce_b row);
       card = card-its.value;
     } in
-    stands_here paired paired-fields c.args.row.now (typed _ c.type_inv.row) c.args.at tt (paired_at _) {v = its} (all (goes (runs plain 16 (runs plain 48 (runs plain 16 (goes (goes (goes (start paired c.args.row.now c.args.at) c.in_ok-role.ensures) c.in_ok-at2.ensures) c.in_ok-verification.ensures) c.in_ok-pair_id.ensures.0) c.in_ok-th.ensures.0) c.in_ok-nonce_b.ensures.0) (sym card-its.read)))
+    stands_here paired paired-fields _ (typed _ c.type_inv.row) _ tt (paired_at _) {v = its} (all (goes_by (card_at _) (runs plain 16 (runs plain 48 (runs plain 16 (goes (goes (goes (start paired _ _) c.in_ok-role.ensures) c.in_ok-at2.ensures) c.in_ok-verification.ensures) c.in_ok-pair_id.ensures.0) c.in_ok-th.ensures.0) c.in_ok-nonce_b.ensures.0) c.in_ok-card.ensures))
     (its-places c.args.at its
     (omega (arith, role-next, mode-next, verification-next, pair_id-run.starts))
     (omega (arith, role-next, mode-next, verification-next, pair_id-run.ends, th-run.starts))

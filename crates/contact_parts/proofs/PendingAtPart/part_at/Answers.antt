@@ -27,12 +27,12 @@ its-places from v chain-key-at msg-seed-at = λ i. record { chain_key = chain-ke
 pub returns-in_err-chain_key : goal.returns-in_err-chain_key
 returns-in_err-chain_key c =
     let told : c.from_residual.result ≡ Err c.in_err-chain_key.field-0.0 = search rules in
-    rw told (refuses_here pending pending-fields c.args.row.now (typed _ c.type_inv.row) c.args.at tt (pending_keys_at _) (cut veiled 32 (start pending c.args.row.now c.args.at) c.in_err-chain_key.ensures.0))
+    rw told (refuses_here pending pending-fields _ (typed _ c.type_inv.row) _ tt (pending_keys_at _) (cut veiled 32 (start pending _ _) c.in_err-chain_key.ensures.0))
 
 pub returns-in_err-msg_seed : goal.returns-in_err-msg_seed
 returns-in_err-msg_seed c =
     let told : c.from_residual-in_err-msg_seed.result ≡ Err c.in_err-msg_seed.field-0.0 = search rules in
-    rw told (refuses_here pending pending-fields c.args.row.now (typed _ c.type_inv.row) c.args.at tt (pending_keys_at _) (cut veiled 32 (runs veiled 32 (start pending c.args.row.now c.args.at) c.in_ok-chain_key.ensures.0) c.in_err-msg_seed.ensures.0))
+    rw told (refuses_here pending pending-fields _ (typed _ c.type_inv.row) _ tt (pending_keys_at _) (cut veiled 32 (runs veiled 32 (start pending _ _) c.in_ok-chain_key.ensures.0) c.in_err-msg_seed.ensures.0))
 
 pub returns : goal.returns
 returns c =
@@ -41,5 +41,5 @@ returns c =
     let chain_key-run = run-starts row _ 32 by (omega arith) c.in_ok-chain_key.ensures.0 c.in_ok-chain_key.ensures.1 in
     let msg_seed-run = run-starts row _ 32 by (omega arith) c.in_ok-msg_seed.ensures.0 c.in_ok-msg_seed.ensures.1 in
     let its : Pending = record { chain_key = take 32 (drop c.in_ok-chain_key.chain_key row); msg_seed = take 32 (drop c.in_ok-msg_seed.msg_seed row) } in
-    stands_here pending pending-fields c.args.row.now (typed _ c.type_inv.row) c.args.at tt (pending_keys_at _) {v = its} (all (runs veiled 32 (runs veiled 32 (start pending c.args.row.now c.args.at) c.in_ok-chain_key.ensures.0) c.in_ok-msg_seed.ensures.0))
+    stands_here pending pending-fields _ (typed _ c.type_inv.row) _ tt (pending_keys_at _) {v = its} (all (runs veiled 32 (runs veiled 32 (start pending _ _) c.in_ok-chain_key.ensures.0) c.in_ok-msg_seed.ensures.0))
     (its-places c.args.at its (omega (arith, chain_key-run.starts)) (omega (arith, chain_key-run.ends, msg_seed-run.starts)))

@@ -30,22 +30,22 @@ its-places from v key-at = λ i. record { key = key-at i; idx = v.idx; gen_ = v.
 pub returns-in_err-gen_ : goal.returns-in_err-gen_
 returns-in_err-gen_ c =
     let told : c.from_residual.result ≡ Err c.in_err-gen_.field-0.0 = search rules in
-    rw told (refuses_here send send-fields c.args.row.now (typed _ c.type_inv.row) c.args.at tt (send_chain_at _) (stops (start send c.args.row.now c.args.at) c.in_err-gen_.ensures))
+    rw told (refuses_here send send-fields _ (typed _ c.type_inv.row) _ tt (send_chain_at _) (stops (start send _ _) c.in_err-gen_.ensures))
 
 pub returns-in_err-dir : goal.returns-in_err-dir
 returns-in_err-dir c =
     let told : c.from_residual-in_err-dir.result ≡ Err c.in_err-dir.field-0.0 = search rules in
-    rw told (refuses_here send send-fields c.args.row.now (typed _ c.type_inv.row) c.args.at tt (send_chain_at _) (stops (goes (start send c.args.row.now c.args.at) c.in_ok-gen_.ensures) c.in_err-dir.ensures))
+    rw told (refuses_here send send-fields _ (typed _ c.type_inv.row) _ tt (send_chain_at _) (stops (goes (start send _ _) c.in_ok-gen_.ensures) c.in_err-dir.ensures))
 
 pub returns-in_err-idx : goal.returns-in_err-idx
 returns-in_err-idx c =
     let told : c.from_residual-in_err-idx.result ≡ Err c.in_err-idx.field-0.0 = search rules in
-    rw told (refuses_here send send-fields c.args.row.now (typed _ c.type_inv.row) c.args.at tt (send_chain_at _) (stops (goes (goes (start send c.args.row.now c.args.at) c.in_ok-gen_.ensures) c.in_ok-dir.ensures) c.in_err-idx.ensures))
+    rw told (refuses_here send send-fields _ (typed _ c.type_inv.row) _ tt (send_chain_at _) (stops (goes (goes (start send _ _) c.in_ok-gen_.ensures) c.in_ok-dir.ensures) c.in_err-idx.ensures))
 
 pub returns-in_err-key : goal.returns-in_err-key
 returns-in_err-key c =
     let told : c.from_residual-in_err-key.result ≡ Err c.in_err-key.field-0.0 = search rules in
-    rw told (refuses_here send send-fields c.args.row.now (typed _ c.type_inv.row) c.args.at tt (send_chain_at _) (cut veiled 32 (goes (goes (goes (start send c.args.row.now c.args.at) c.in_ok-gen_.ensures) c.in_ok-dir.ensures) c.in_ok-idx.ensures) c.in_err-key.ensures.0))
+    rw told (refuses_here send send-fields _ (typed _ c.type_inv.row) _ tt (send_chain_at _) (cut veiled 32 (goes (goes (goes (start send _ _) c.in_ok-gen_.ensures) c.in_ok-dir.ensures) c.in_ok-idx.ensures) c.in_err-key.ensures.0))
 
 pub returns : goal.returns
 returns c =
@@ -58,5 +58,5 @@ returns c =
     let idx-next = took-next _ _ u32 (number-lawful 4) by (sym c.in_ok-idx.ensures) (took _ _ dir dir-lawful by dir-read).inside in
     let key-run = run-starts row _ 32 by (omega arith) c.in_ok-key.ensures.0 c.in_ok-key.ensures.1 in
     let its : Send = record { gen = c.in_ok-gen_.gen_; dir = c.in_ok-dir.dir; idx = c.in_ok-idx.idx; key = take 32 (drop c.in_ok-key.key row) } in
-    stands_here send send-fields c.args.row.now (typed _ c.type_inv.row) c.args.at tt (send_chain_at _) {v = its} (all (runs veiled 32 (goes (goes (goes (start send c.args.row.now c.args.at) c.in_ok-gen_.ensures) c.in_ok-dir.ensures) c.in_ok-idx.ensures) c.in_ok-key.ensures.0))
+    stands_here send send-fields _ (typed _ c.type_inv.row) _ tt (send_chain_at _) {v = its} (all (runs veiled 32 (goes (goes (goes (start send _ _) c.in_ok-gen_.ensures) c.in_ok-dir.ensures) c.in_ok-idx.ensures) c.in_ok-key.ensures.0))
     (its-places c.args.at its (omega (arith, gen-next, dir-next, idx-next, key-run.starts)))
