@@ -1,16 +1,16 @@
 -- `contact_parts::keys_at` meets its contract: along the layout, and each field at its place.
 -- Assumes nothing.
 use Rattle.std.proofs.Common.{rules, ◌≡◌, ◌+◌, ℕ, List, take, drop, Err, arith}
-use mathlib.Core.Path.{sym}
-use Rattle.layout.specs.Veil.{plain, veiled}
+use mathlib.Core.Path.{refl}
+use Rattle.layout.specs.Veil.{veiled}
 use Rattle.layout.specs.RowLaws.{Bytes}
-use Rattle.layout.proofs.At.{typed, took, took-next}
+use Rattle.layout.proofs.At.{typed}
 use Rattle.layout.proofs.Along.{Fields}
 use Rattle.layout.proofs.Walk.{start, goes, stops, runs, cut, all}
 use Rattle.offsets.specs.Offset.{offset}
-use Rattle.offsets.proofs.Runs.{run-starts}
+use Rattle.offsets.proofs.Runs.{run-starts, field-ends}
 use Rattle.contact_parts.proofs.Walked.{refuses_here, stands_here}
-use Rattle.layout.specs.Form.{bytes, u64}
+use Rattle.layout.specs.Form.{u64}
 use Rattle.layout.proofs.Front.{bytes-lawful, number-lawful}
 use Rattle.contact_parts.specs.Parts.{Keys, keys}
 use Rattle.contact_parts.specs.Offsets.{keys_at}
@@ -64,8 +64,7 @@ returns c =
     let door_a_to_b-run = run-starts row _ 32 by (omega arith) c.in_ok-door_a_to_b.ensures.0 c.in_ok-door_a_to_b.ensures.1 in
     let door_b_to_a-run = run-starts row _ 32 by (omega arith) c.in_ok-door_b_to_a.ensures.0 c.in_ok-door_b_to_a.ensures.1 in
     let route_key-run = run-starts row _ 32 by (omega arith) c.in_ok-route_key.ensures.0 c.in_ok-route_key.ensures.1 in
-    let route-key-took = took row _ (bytes plain 32) (bytes-lawful plain 32) by (sym c.in_ok-route_key.ensures.0) in
-    let resume-index-next = took-next _ _ u64 (number-lawful 8) by (sym c.in_ok-resume_index.ensures) route-key-took.inside in
+    let resume-index-next = field-ends _ _ u64 (number-lawful 8) by refl c.in_ok-resume_index.ensures in
     let chain_key-run = run-starts row _ 32 by (omega arith) c.in_ok-chain_key.ensures.0 c.in_ok-chain_key.ensures.1 in
     let its : Keys = record {
       door_a_to_b = take 32 (drop c.in_ok-door_a_to_b.door_a_to_b row);

@@ -3,11 +3,11 @@
 use Rattle.std.proofs.Common.{rules, ◌≡◌, ◌+◌, ℕ, List, Err, arith}
 use mathlib.Core.Path.{refl, sym, ap, ◌∙◌}
 use Rattle.layout.specs.RowLaws.{Bytes}
-use Rattle.layout.proofs.At.{typed, took, took-next}
+use Rattle.layout.proofs.At.{typed, took}
 use Rattle.layout.proofs.Along.{Fields}
 use Rattle.layout.proofs.Walk.{start, goes, stops, all}
 use Rattle.offsets.specs.Offset.{offset}
-use Rattle.offsets.proofs.Offset.{not-past}
+use Rattle.offsets.proofs.Runs.{field-ends}
 use Rattle.contact_parts.proofs.Walked.{refuses_here, stands_here}
 use Rattle.layout.specs.Form.{u32}
 use Rattle.layout.specs.Layout.{group}
@@ -70,10 +70,10 @@ pub returns : goal.returns
 returns c =
     let row : List ℕ = c.args.row.now in
     let by : Bytes row = typed row c.type_inv.row in
-    let peer_acked-next = took-next _ _ u32 (number-lawful 4) by (sym c.in_ok-peer_acked.ensures) (not-past _ _ u32 refl (sym c.in_ok-peer_acked.ensures)) in
-    let peer_read-next = took-next _ _ u32 (number-lawful 4) by (sym c.in_ok-peer_read.ensures) (took _ _ u32 (number-lawful 4) by (sym c.in_ok-peer_acked.ensures)).inside in
-    let read_marked-next = took-next _ _ u32 (number-lawful 4) by (sym c.in_ok-read_marked.ensures) (took _ _ u32 (number-lawful 4) by (sym c.in_ok-peer_read.ensures)).inside in
-    let contiguous-next = took-next _ _ u32 (number-lawful 4) by (sym c.in_ok-contiguous.ensures) (took _ _ u32 (number-lawful 4) by (sym c.in_ok-read_marked.ensures)).inside in
+    let peer_acked-next = field-ends _ _ u32 (number-lawful 4) by refl c.in_ok-peer_acked.ensures in
+    let peer_read-next = field-ends _ _ u32 (number-lawful 4) by refl c.in_ok-peer_read.ensures in
+    let read_marked-next = field-ends _ _ u32 (number-lawful 4) by refl c.in_ok-read_marked.ensures in
+    let contiguous-next = field-ends _ _ u32 (number-lawful 4) by refl c.in_ok-contiguous.ensures in
     let contiguous-took = took _ _ u32 (number-lawful 4) by (sym c.in_ok-contiguous.ensures) in
     let above-took = list-took (group range) range-lawful row by _ c.in_ok-above.above c.in_ok-above.ensures.0 in
     let above-next = list-next (group range) range-lawful row by _ c.in_ok-above.above c.in_ok-above.ensures.0 contiguous-took.inside in

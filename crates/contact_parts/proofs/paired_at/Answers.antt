@@ -4,12 +4,12 @@ use Rattle.std.proofs.Common.{rules, ◌≡◌, ◌+◌, ℕ, List, take, drop, 
 use mathlib.Core.Path.{refl, sym, ap, ◌∙◌}
 use Rattle.layout.specs.Veil.{plain}
 use Rattle.layout.specs.RowLaws.{Bytes}
-use Rattle.layout.proofs.At.{typed, took, took-next}
+use Rattle.layout.proofs.At.{typed}
 use Rattle.layout.proofs.Along.{Fields}
 use Rattle.layout.proofs.Walk.{start, goes, stops, runs, cut, all}
 use Rattle.offsets.specs.Offset.{offset}
-use Rattle.offsets.proofs.Offset.{not-past, located-at}
-use Rattle.offsets.proofs.Runs.{run-starts}
+use Rattle.offsets.proofs.Offset.{located-at}
+use Rattle.offsets.proofs.Runs.{run-starts, field-ends}
 use Rattle.contact_parts.proofs.Walked.{refuses_here, stands_here, goes_by, stops_by}
 use Rattle.layout.specs.Questions.{CARD_END}
 use Rattle.layout.specs.Layout.{group}
@@ -73,12 +73,9 @@ returns c =
     let row : List ℕ = c.args.row.now in
     let by : Bytes row = typed row c.type_inv.row in
     let card-its = located-at (card_at _) _ (sym c.in_ok-card.ensures) in
-    let role-read = sym c.in_ok-role.ensures in
-    let mode-read = sym c.in_ok-at2.ensures in
-    let verification-read = sym c.in_ok-verification.ensures in
-    let role-next = took-next _ _ role role-lawful by role-read (not-past _ _ role refl role-read) in
-    let mode-next = took-next _ _ mode mode-lawful by mode-read (took _ _ role role-lawful by role-read).inside in
-    let verification-next = took-next _ _ verification verification-lawful by verification-read (took _ _ mode mode-lawful by mode-read).inside in
+    let role-next = field-ends _ _ role role-lawful by refl c.in_ok-role.ensures in
+    let mode-next = field-ends _ _ mode mode-lawful by refl c.in_ok-at2.ensures in
+    let verification-next = field-ends _ _ verification verification-lawful by refl c.in_ok-verification.ensures in
     let pair_id-run = run-starts row _ 16 by (omega arith) c.in_ok-pair_id.ensures.0 c.in_ok-pair_id.ensures.1 in
     let th-run = run-starts row _ 48 by (omega arith) c.in_ok-th.ensures.0 c.in_ok-th.ensures.1 in
     let nonce_b-run = run-starts row _ 16 by (omega arith) c.in_ok-nonce_b.ensures.0 c.in_ok-nonce_b.ensures.1 in

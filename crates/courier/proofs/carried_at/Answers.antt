@@ -9,14 +9,13 @@ use Rattle.layout.specs.Field.{takes, read_at}
 use Rattle.layout.specs.Layout.{group}
 use Rattle.layout.specs.RowLaws.{Bytes}
 use Rattle.layout.proofs.Front.{number-lawful}
-use Rattle.layout.proofs.At.{typed, took, took-next, takes_at, refuses-at}
+use Rattle.layout.proofs.At.{typed, took, takes_at, refuses-at}
 use Rattle.layout.proofs.Along.{along, part-along}
 use Rattle.rows.specs.Checks.{sealed_carried}
 use Rattle.rows.specs.Values.{Carried}
 use Rattle.rows.specs.Rows.{carried}
 use Rattle.offsets.specs.Offset.{offset}
-use Rattle.offsets.proofs.Offset.{not-past}
-use Rattle.offsets.proofs.Runs.{run-starts}
+use Rattle.offsets.proofs.Runs.{run-starts, field-ends}
 use Rattle.sealed.proofs.Text.{text-took, text-refused}
 use Rattle.courier.specs.Courier.{carried_at}
 use Rattle.courier.specs.declared.CarriedAt.{CarriedAt}
@@ -85,11 +84,11 @@ pub returns : goal.returns
 returns c =
     let row : List ℕ = c.args.row.now in
     let by : Bytes row = typed row c.type_inv.row in
-    let depositor = took-next row c.args.at u64 (number-lawful 8) by (sym c.in_ok-depositor.ensures) (not-past row c.args.at u64 refl (sym c.in_ok-depositor.ensures)) in
+    let depositor = field-ends row _ u64 (number-lawful 8) by refl c.in_ok-depositor.ensures in
     let tag = run-starts row c.in_ok-depositor.at1 16 by (omega arith) c.in_ok-tag.ensures.0 c.in_ok-tag.ensures.1 in
     let its-c = run-starts row c.in_ok-tag.at2 16 by (omega arith) c.in_ok-c.ensures.0 c.in_ok-c.ensures.1 in
-    let expiry = took-next row c.in_ok-c.at3 u32 (number-lawful 4) by (sym c.in_ok-expiry_min.ensures) (not-past row c.in_ok-c.at3 u32 refl (sym c.in_ok-expiry_min.ensures)) in
-    let copies = took-next row c.in_ok-expiry_min.at4 u8 (number-lawful 1) by (sym c.in_ok-copies.ensures) (not-past row c.in_ok-expiry_min.at4 u8 refl (sym c.in_ok-copies.ensures)) in
+    let expiry = field-ends row _ u32 (number-lawful 4) by refl c.in_ok-expiry_min.ensures in
+    let copies = field-ends row _ u8 (number-lawful 1) by refl c.in_ok-copies.ensures in
     let sealed : ℕ = c.in_ok-copies.at5 in
     let text = text-took veiled SEALED_LENGTH sealed_carried row sealed (inside (goal.at.returns c).In_ok-copies) (sym c.sealed_carried.ensures ∙ c.if-not-sealed_carried.false) in
     let left = takes_at row sealed (to_end veiled SEALED_LENGTH sealed_carried) text.reads text.inside in

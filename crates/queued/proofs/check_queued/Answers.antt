@@ -19,6 +19,7 @@ use Rattle.rows.specs.Rows.{own_envelope, queued}
 use Rattle.rows.proofs.Lawful.{own_envelope-lawful}
 use Rattle.offsets.specs.Offset.{offset}
 use Rattle.offsets.proofs.Offset.{Located, located-at, located-not}
+use Rattle.offsets.proofs.Runs.{field-ends}
 use Rattle.sealed.proofs.Text.{text-took, text-refused}
 use Rattle.queued.specs.Queued.{own_at}
 use Rattle.queued.proofs.Rows.{queued-reads}
@@ -73,9 +74,9 @@ returns c =
     let own-lawful = optional-lawful (group own_envelope) own_envelope-lawful in
     let idx = took row _ leb128 leb128-lawful by (sym c.in_ok-idx.ensures) in
     let text = text-took veiled SEALED_LENGTH sealed_queued row c.in_ok-idx.at4 idx.inside fit in
-    let created-next = took-next row 0 u64 (number-lawful 8) by (sym c.in_ok-created_s.ensures) (omega arith) in
+    let created-next = field-ends row 0 u64 (number-lawful 8) by refl c.in_ok-created_s.ensures in
     let own-next = took-next row _ (optional (group own_envelope)) own-lawful by own.read (took row 0 u64 (number-lawful 8) by (sym c.in_ok-created_s.ensures)).inside in
-    let gen-next = took-next row _ u8 (number-lawful 1) by (sym c.in_ok-gen_.ensures) (took row _ (optional (group own_envelope)) own-lawful by own.read).inside in
+    let gen-next = field-ends row _ u8 (number-lawful 1) by refl c.in_ok-gen_.ensures in
     let idx-next = took-next row _ leb128 leb128-lawful by (sym c.in_ok-idx.ensures) (took row _ u8 (number-lawful 1) by (sym c.in_ok-gen_.ensures)).inside in
     let its : Queued = record { created_s = c.in_ok-created_s.created_s; envelope = own.value; gen = c.in_ok-gen_.gen_; idx = c.in_ok-idx.idx; sealed = drop c.in_ok-idx.at4 row } in
     let own-at : c.in_ok-created_s.at1 ≡ offset (queued 3) 1 its = omega (arith, created-next) in

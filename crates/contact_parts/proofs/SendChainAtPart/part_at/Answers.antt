@@ -1,15 +1,14 @@
 -- `<SendChainAt as Part>::part_at` meets its contract: along the layout, and each field at its place.
 -- Assumes nothing.
 use Rattle.std.proofs.Common.{rules, ◌≡◌, ◌+◌, ℕ, List, take, drop, Err, arith}
-use mathlib.Core.Path.{refl, sym}
+use mathlib.Core.Path.{refl}
 use Rattle.layout.specs.Veil.{veiled}
 use Rattle.layout.specs.RowLaws.{Bytes}
-use Rattle.layout.proofs.At.{typed, took, took-next}
+use Rattle.layout.proofs.At.{typed}
 use Rattle.layout.proofs.Along.{Fields}
 use Rattle.layout.proofs.Walk.{start, goes, stops, runs, cut, all}
 use Rattle.offsets.specs.Offset.{offset}
-use Rattle.offsets.proofs.Offset.{not-past}
-use Rattle.offsets.proofs.Runs.{run-starts}
+use Rattle.offsets.proofs.Runs.{run-starts, field-ends}
 use Rattle.contact_parts.proofs.Walked.{refuses_here, stands_here}
 use Rattle.layout.specs.Form.{u8, u32}
 use Rattle.layout.proofs.Front.{bytes-lawful, number-lawful}
@@ -51,11 +50,9 @@ pub returns : goal.returns
 returns c =
     let row : List ℕ = c.args.row.now in
     let by : Bytes row = typed row c.type_inv.row in
-    let gen-read = sym c.in_ok-gen_.ensures in
-    let dir-read = sym c.in_ok-dir.ensures in
-    let gen-next = took-next _ _ u8 (number-lawful 1) by gen-read (not-past _ _ u8 refl gen-read) in
-    let dir-next = took-next _ _ dir dir-lawful by dir-read (took _ _ u8 (number-lawful 1) by gen-read).inside in
-    let idx-next = took-next _ _ u32 (number-lawful 4) by (sym c.in_ok-idx.ensures) (took _ _ dir dir-lawful by dir-read).inside in
+    let gen-next = field-ends _ _ u8 (number-lawful 1) by refl c.in_ok-gen_.ensures in
+    let dir-next = field-ends _ _ dir dir-lawful by refl c.in_ok-dir.ensures in
+    let idx-next = field-ends _ _ u32 (number-lawful 4) by refl c.in_ok-idx.ensures in
     let key-run = run-starts row _ 32 by (omega arith) c.in_ok-key.ensures.0 c.in_ok-key.ensures.1 in
     let its : Send = record { gen = c.in_ok-gen_.gen_; dir = c.in_ok-dir.dir; idx = c.in_ok-idx.idx; key = take 32 (drop c.in_ok-key.key row) } in
     stands_here send send-fields _ (typed _ c.type_inv.row) _ tt (send_chain_at _) {v = its} (all (runs veiled 32 (goes (goes (goes (start send _ _) c.in_ok-gen_.ensures) c.in_ok-dir.ensures) c.in_ok-idx.ensures) c.in_ok-key.ensures.0))
