@@ -13,7 +13,7 @@ ghost use Rattle.c_card.specs.Faces.{leaves, shown, zero_or};
 ghost use Rattle.c_rows.specs.Faces.{covered, answered, insert_range};
 
 use layout::Question;
-use received::Change;
+use received::{Change, Received, ReceivedMut};
 
 // How many places of its answer a cover fills.
 const PLACES: usize = 4;
@@ -43,6 +43,7 @@ pub extern "C" fn sicklestar_courier(version: u32, row: &[u8], out: &mut [u8]) -
 }
 
 // Whether a number is covered: 1 or 0.
+// Kept: the C interface passes contiguous, the list and the count by themselves
 #[unsafe(no_mangle)]
 pub extern "C" fn sicklestar_contains(
     contiguous: u32,
@@ -52,10 +53,16 @@ pub extern "C" fn sicklestar_contains(
 ) -> u32
     ensures { result ≡ flag_byte (contains (received_in contiguous count above.now) msgno) }
 {
-    u32::from(received::contains(contiguous, above, count, msgno))
+    let received = Received {
+        contiguous,
+        above,
+        count,
+    };
+    u32::from(received.contains(msgno))
 }
 
 // Whether from..to is covered: 1 or 0.
+// Kept: the C interface passes contiguous, the list and the count by themselves
 #[unsafe(no_mangle)]
 pub extern "C" fn sicklestar_covers(
     contiguous: u32,
@@ -66,7 +73,12 @@ pub extern "C" fn sicklestar_covers(
 ) -> u32
     ensures { result ≡ flag_byte (covers (received_in contiguous count above.now) from to) }
 {
-    u32::from(received::covers(contiguous, above, count, from, to))
+    let received = Received {
+        contiguous,
+        above,
+        count,
+    };
+    u32::from(received.covers(from, to))
 }
 
 // Writes contiguous, how many ranges lie above it, whether it moved (1 or 0), and how many numbers are new to the answer's first four places.
@@ -75,6 +87,7 @@ fn put_change(answer: &mut [u64], change: Change)
     ensures { record { answer = wrote 4; out = answer.exit.now } ≡ answered (accepted change) answer.entry.now }
 {
     answer[0] = u64::from(change.contiguous);
+    // Kept: the new form is no plainer: std has no From<usize> for u64
     answer[1] = change.count as u64;
     answer[2] = u64::from(change.moved);
     answer[3] = change.added;
@@ -82,6 +95,7 @@ fn put_change(answer: &mut [u64], change: Change)
 
 // Covers from..to: 0, and the answer's first four places hold contiguous, how many ranges lie above it, whether it moved (1 or 0), and how many numbers are new;
 // or the question's number.
+// Kept: the C interface passes contiguous, the list and the count by themselves
 #[unsafe(no_mangle)]
 pub extern "C" fn sicklestar_insert(
     contiguous: u32,
@@ -95,12 +109,22 @@ pub extern "C" fn sicklestar_insert(
 {
     // without room for the answer nothing is covered, and 38 is asked first
     if answer.len() < PLACES {
-        return match received::plan(contiguous, above, count, from, to) {
+        let received = Received {
+            contiguous,
+            above,
+            count,
+        };
+        return match received.plan(from, to) {
             Ok(_) => u32::from(Question::Output.number()),
             Err(refusal) => u32::from(refusal.number()),
         };
     }
-    match received::insert(contiguous, above, count, from, to) {
+    let received = ReceivedMut {
+        contiguous,
+        above,
+        count,
+    };
+    match received.insert(from, to) {
         Ok(change) => {
             put_change(answer, change);
             0

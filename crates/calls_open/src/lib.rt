@@ -14,7 +14,7 @@ use calls_find::Sought;
 use calls_step::Mark;
 use contact::Contact;
 use layout::Question;
-use received::Change;
+use received::{Change, Received, ReceivedMut};
 use rows::ContactId;
 
 // Open answers yes; cover whether contiguous moved, and how many numbers were not covered before; contains and covers a truth; take the
@@ -72,7 +72,12 @@ fn renumbered(contact: Contact, sent: u32, contiguous: u32, above: usize) -> Con
 pub fn contains(contact: Contact, mark: Mark, above: &[u32], msgno: u32) -> Left
     ensures { outcome_of result ≡ left contact mark (contains_says contact above.now msgno) }
 {
-    let is = received::contains(contact.contiguous, above, contact.above, msgno);
+    let received = Received {
+        contiguous: contact.contiguous,
+        above,
+        count: contact.above,
+    };
+    let is = received.contains(msgno);
     answered(contact, mark, Ok(Answer::Truth(is)))
 }
 
@@ -83,7 +88,12 @@ pub fn covers(contact: Contact, mark: Mark, above: &[u32], from: u32, to: u32) -
     if !in_order(from, to) {
         return answered(contact, mark, Err(Question::Range));
     }
-    let are = received::covers(contact.contiguous, above, contact.above, from, to);
+    let received = Received {
+        contiguous: contact.contiguous,
+        above,
+        count: contact.above,
+    };
+    let are = received.covers(from, to);
     answered(contact, mark, Ok(Answer::Truth(are)))
 }
 
@@ -108,7 +118,12 @@ pub fn cover(contact: Contact, mark: Mark, above: &mut [u32], from: u32, to: u32
     if !in_order(from, to) {
         return answered(contact, mark, Err(Question::Range));
     }
-    let planned = received::insert(contact.contiguous, above, contact.above, from, to);
+    let received = ReceivedMut {
+        contiguous: contact.contiguous,
+        above,
+        count: contact.above,
+    };
+    let planned = received.insert(from, to);
     covered(contact, mark, planned)
 }
 

@@ -9,6 +9,8 @@ use Rattle.numbers.specs.Lists.{limit_of}
 use Rattle.numbers.specs.Ranges.{Received, received, range, inserted}
 use Rattle.received.specs.Change.{change_of}
 use Rattle.received.specs.declared.Change.{Change}
+use Rattle.received.specs.declared.Received as lent
+use Rattle.received.specs.declared.ReceivedMut.{ReceivedMut}
 use Rattle.layout.specs.Layout.{Answer, accepted, refused_by}
 
 -- the first k pairs, or as many as there are
@@ -27,6 +29,13 @@ ranges_of ps = map as_range ps
 
 abbrev pub received_in : ℕ → ℕ → List ℕ → Received
 received_in contiguous count l = received contiguous (pairs count l)
+
+-- what is lent to be read, and what is lent to be changed
+abbrev pub received_of : lent.Received → Received
+received_of r = received_in r.contiguous r.count r.above.now
+
+abbrev pub received_then : ReceivedMut → Received
+received_then r = received_in r.contiguous r.count r.above.now
 
 abbrev pub flat : List Range → List ℕ
 flat [] = []

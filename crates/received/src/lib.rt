@@ -6,9 +6,9 @@
 ghost use Rattle.std.specs.Prelude.{◌≡◌, ◌*◌, ◌^◌, ◌≤◌, ◌<◌, length};
 ghost use Rattle.layout.specs.Says.{answers};
 ghost use Rattle.rows.specs.Checks.{any};
-ghost use Rattle.numbers.specs.Ranges.{received, range, inside, contains, covers, below, merged, uncovered, added};
+ghost use Rattle.numbers.specs.Ranges.{range, inside, contains, covers, below, merged, uncovered, added};
 ghost use Rattle.received.specs.Change.{change_of, applied};
-ghost use Rattle.received.specs.Lent.{pairs, ranges_of, received_in, stored, plan_of, list_after, Fitting};
+ghost use Rattle.received.specs.Lent.{pairs, ranges_of, received_of, received_then, stored, plan_of, list_after, Fitting};
 ghost use Rattle.numbers.specs.Lists.{limit_of};
 
 use layout::Question;
@@ -39,33 +39,11 @@ struct Merged {
     after: usize,
 }
 
-// The ranges that the list holds, each its from and its to.
-fn ranges(above: &[u32], count: usize) -> &[[u32; 2]]
-    ensures { (ranges_of result.now ≡ pairs count above.now) × (2 * length result.now ≤ length above.now) × (length above.now < 2 ^ 64) }
-{
-    let (lent, _) = above.as_chunks::<2>();
-    &lent[..count.min(above.len() / 2)]
-}
-
 // Whether all of from..to lies in one of the ranges.
 fn in_one(ranges: &[[u32; 2]], from: u32, to: u32) -> bool
     ensures { result ≡ any (inside from to) (ranges_of ranges.now) }
 {
     ranges.iter().any(|[a, b]| *a <= from && to <= *b)
-}
-
-// Whether from..to is covered.
-pub fn covers(contiguous: u32, above: &[u32], count: usize, from: u32, to: u32) -> bool
-    ensures { result ≡ covers (received_in contiguous count above.now) from to }
-{
-    to <= contiguous || in_one(ranges(above, count), from, to)
-}
-
-// Whether a number is covered; 0 is not.
-pub fn contains(contiguous: u32, above: &[u32], count: usize, msgno: u32) -> bool
-    ensures { result ≡ contains (received_in contiguous count above.now) msgno }
-{
-    msgno != 0 && covers(contiguous, above, count, msgno, msgno)
 }
 
 // How many ranges at the front end below from, without touching it.
@@ -115,70 +93,11 @@ fn uncovered(ranges: &[[u32; 2]], at: u64, to: u32) -> u64
     found + end.saturating_sub(here)
 }
 
-// How many of from..to are not covered.
-fn added(contiguous: u32, ranges: &[[u32; 2]], from: u32, to: u32) -> u64
-    ensures { result ≡ added (received contiguous (ranges_of ranges.now)) from to }
-{
-    let behind = u64::from(contiguous) + 1;
-    uncovered(ranges, behind.max(u64::from(from)), to)
-}
-
-// What covering from..to leaves, if there is room for it.
-fn change_of(contiguous: u32, ranges: &[[u32; 2]], from: u32, to: u32) -> Change
-    requires { length ranges.now < usize.MAX }
-    ensures { result ≡ change_of (received contiguous (ranges_of ranges.now)) from to }
-{
-    let added = added(contiguous, ranges, from, to);
-    if u64::from(from) <= u64::from(contiguous) + 1 {
-        let m = merge(ranges, 0, to.max(contiguous));
-        return Change {
-            before: 0,
-            after: m.after,
-            count: m.after,
-            contiguous: m.to,
-            from: m.from,
-            to: m.to,
-            moved: m.to != contiguous,
-            added,
-        };
-    }
-    let below = below(ranges, from);
-    let m = merge(&ranges[below..], from, to);
-    let before = below + 1;
-    Change {
-        before,
-        after: m.after,
-        count: before + m.after,
-        contiguous,
-        from: m.from,
-        to: m.to,
-        moved: false,
-        added,
-    }
-}
-
 // The most ranges that may be left in a list of so many numbers.
 fn limit(len: usize) -> usize
     ensures { result ≡ limit_of len }
 {
     MAX_RANGES.min(len / 2)
-}
-
-// What `insert` would answer; nothing is changed.
-pub fn plan(
-    contiguous: u32,
-    above: &[u32],
-    count: usize,
-    from: u32,
-    to: u32,
-) -> Result<Change, Question>
-    ensures { answers result ≡ plan_of (received_in contiguous count above.now) (length above.now) from to }
-{
-    let change = change_of(contiguous, ranges(above, count), from, to);
-    if limit(above.len()) < change.count {
-        return Err(Question::RangesFit);
-    }
-    Ok(change)
 }
 
 // Carries a change out: the ranges behind it move to their places, and it is put in front of them, unless it is a part of 1..contiguous.
@@ -198,20 +117,124 @@ fn apply(above: &mut [u32], held: usize, change: Change)
     above[freed..end].fill(0);
 }
 
-// Covers from..to: the ranges that it touches or overlaps become one with it, and contiguous moves where it reaches that.
-// A refusal changes nothing. Places that held a range and hold none any more become 0.
-pub fn insert(
-    contiguous: u32,
-    above: &mut [u32],
-    count: usize,
-    from: u32,
-    to: u32,
-) -> Result<Change, Question>
-    ensures value { answers result ≡ plan_of (received_in contiguous count above.old) (length above.old) from to }
-    ensures above_after { above.new ≡ list_after (received_in contiguous count above.old) above.old from to }
-{
-    let change = plan(contiguous, above, count, from, to)?;
-    let held = ranges(above, count).len();
-    apply(above, held, change);
-    Ok(change)
+// The covered numbers, in a list that is lent to be read.
+#[derive(Clone, Copy)]
+pub struct Received<'a> {
+    pub contiguous: u32,
+    // Kept: no heap: a list is lent longer than its ranges, and the count says how many there are
+    pub above: &'a [u32],
+    pub count: usize,
+}
+
+impl<'a> Received<'a> {
+    // The ranges that the list holds, each its from and its to.
+    fn ranges(self) -> &'a [[u32; 2]]
+        ensures { (ranges_of result.now ≡ pairs self.entry.count self.entry.above.now) × (2 * length result.now ≤ length self.entry.above.now) × (length self.entry.above.now < 2 ^ 64) }
+    {
+        let (lent, _) = self.above.as_chunks::<2>();
+        &lent[..self.count.min(self.above.len() / 2)]
+    }
+
+    // Whether from..to is covered.
+    pub fn covers(self, from: u32, to: u32) -> bool
+        ensures { result ≡ covers (received_of self.entry) from to }
+    {
+        to <= self.contiguous || in_one(self.ranges(), from, to)
+    }
+
+    // Whether a number is covered; 0 is not.
+    pub fn contains(self, msgno: u32) -> bool
+        ensures { result ≡ contains (received_of self.entry) msgno }
+    {
+        msgno != 0 && self.covers(msgno, msgno)
+    }
+
+    // How many of from..to are not covered.
+    fn added(self, from: u32, to: u32) -> u64
+        ensures { result ≡ added (received_of self.entry) from to }
+    {
+        let behind = u64::from(self.contiguous) + 1;
+        uncovered(self.ranges(), behind.max(u64::from(from)), to)
+    }
+
+    // What covering from..to leaves, if there is room for it.
+    fn change_of(self, from: u32, to: u32) -> Change
+        ensures { result ≡ change_of (received_of self.entry) from to }
+    {
+        let ranges = self.ranges();
+        let added = self.added(from, to);
+        if u64::from(from) <= u64::from(self.contiguous) + 1 {
+            let m = merge(ranges, 0, to.max(self.contiguous));
+            return Change {
+                before: 0,
+                after: m.after,
+                count: m.after,
+                contiguous: m.to,
+                from: m.from,
+                to: m.to,
+                moved: m.to != self.contiguous,
+                added,
+            };
+        }
+        let below = below(ranges, from);
+        let m = merge(&ranges[below..], from, to);
+        let before = below + 1;
+        Change {
+            before,
+            after: m.after,
+            count: before + m.after,
+            contiguous: self.contiguous,
+            from: m.from,
+            to: m.to,
+            moved: false,
+            added,
+        }
+    }
+
+    // What `insert` would answer; nothing is changed.
+    pub fn plan(self, from: u32, to: u32) -> Result<Change, Question>
+        ensures { answers result ≡ plan_of (received_of self.entry) (length self.entry.above.now) from to }
+    {
+        let change = self.change_of(from, to);
+        if limit(self.above.len()) < change.count {
+            return Err(Question::RangesFit);
+        }
+        Ok(change)
+    }
+}
+
+// The same, in a list that is lent to be changed.
+#[derive(Drop)]
+pub struct ReceivedMut<'a> {
+    pub contiguous: u32,
+    // Kept: no heap: a list is lent longer than its ranges, and the count says how many there are
+    pub above: &'a mut [u32],
+    pub count: usize,
+}
+
+impl ReceivedMut<'_> {
+    fn read(&self) -> Received<'_>
+        ensures contiguous { result.contiguous ≡ self.now.contiguous }
+        ensures above { result.above.now ≡ self.now.above.now }
+        ensures count { result.count ≡ self.now.count }
+    {
+        Received {
+            contiguous: self.contiguous,
+            above: self.above,
+            count: self.count,
+        }
+    }
+
+    // Covers from..to: the ranges that it touches or overlaps become one with it, and contiguous moves where it reaches that.
+    // A refusal changes nothing. Places that held a range and hold none any more become 0. In the contract `self.exit.1.0` is the list afterwards.
+    pub fn insert(self, from: u32, to: u32) -> Result<Change, Question>
+        ensures value { answers result ≡ plan_of (received_then self.entry) (length self.entry.above.now) from to }
+        ensures above_after { self.exit.1.0.now ≡ list_after (received_then self.entry) self.entry.above.now from to }
+    {
+        let received = self.read();
+        let change = received.plan(from, to)?;
+        let held = received.ranges().len();
+        apply(self.above, held, change);
+        Ok(change)
+    }
 }
