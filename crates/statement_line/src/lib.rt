@@ -33,10 +33,10 @@ pub fn statement_line(
 ) -> Result<usize, Question>
     ensures { leaves result out.new ≡ stored (line_of contact.0 sent acked contiguous beyond queued expired) out.old }
 {
-    let n = width::wide(sent);
-    let a = width::wide(acked);
-    let c = width::wide(contiguous);
-    let fields = [contact.0, n, a, c, beyond, queued, expired];
+    let sent = u64::from(sent);
+    let acked = u64::from(acked);
+    let contiguous = u64::from(contiguous);
+    let fields = [contact.0, sent, acked, contiguous, beyond, queued, expired];
     let len = 1 + ascii::fields_len(fields, FIELDS);
     if out.len() < len {
         return Err(Question::Output);
@@ -49,8 +49,8 @@ pub fn statement_line(
 pub fn size_from(from: u32, to: u32, lowest: u64) -> u64
     ensures { (result ≡ to + 1 - max from lowest) × (result ≤ 2 ^ 32) }
 {
-    let start = width::wide(from).max(lowest);
-    let end = width::wide(to) + 1;
+    let start = u64::from(from).max(lowest);
+    let end = u64::from(to) + 1;
     end.saturating_sub(start)
 }
 

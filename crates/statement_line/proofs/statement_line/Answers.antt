@@ -11,40 +11,28 @@ use Rattle.put.proofs.Put.{put_front}
 use Rattle.store.specs.Line.{line_text, line_of}
 use Rattle.statement_line.proofs.Text.{same_line}
 use Rattle.statement_line.proofs.statement_line.Goals as goal
+use Rattle.statement_line.proofs.statement_line.Goals.{After-fields_len-len}
+
+module _ (c : After-fields_len-len) where
+  abbrev line : List ℕ
+  line = let a = c.args in line_of a.contact.0 a.sent a.acked a.contiguous a.beyond a.queued a.expired
+
+  -- the numbers that are written are the line's
+  same : line_text (c.args.contact.0 ∷ c.from-sent.result ∷ c.from-acked.result ∷ c.from-contiguous.result ∷ c.args.beyond ∷ c.args.queued ∷ c.args.expired ∷ []) ≡ line
+  same = same_line c.args.contact.0 c.args.queued c.from-sent.ensures c.from-acked.ensures c.from-contiguous.ensures refl refl
+
+  long : 1 + c.fields_len-len.result ≡ length line
+  long = omega (arith, c.fields_len-len.ensures.0, ap length same)
 
 pub returns-then-out-len : goal.returns-then-out-len
 returns-then-out-len c =
-    sym (stored_short ((let a = c.args in line_of a.contact.0 a.sent a.acked a.contiguous a.beyond a.queued a.expired)) c.args.out.now (omega (
-      arith,
-      (let long : 1 + c.fields_len-len.result ≡ length ((let a = c.args in line_of a.contact.0 a.sent a.acked a.contiguous a.beyond a.queued a.expired)) = omega (
-        arith,
-        c.fields_len-len.ensures.0,
-        ap length ((let same : line_text ((let a = c.args in
-            a.contact.0 ∷ c.wide-n.result ∷ c.wide-a.result ∷ c.wide-c.result ∷ a.beyond ∷ a.queued ∷ a.expired ∷ [])) ≡ (let a = c.args in line_of a.contact.0 a.sent a.acked a.contiguous a.beyond a.queued a.expired) = let a = c.args in
-            same_line a.contact.0 a.queued c.wide-n.ensures.0 c.wide-a.ensures.0 c.wide-c.ensures.0 refl refl in same)),
-      ) in long),
-    )))
+    let here = (goal.at.returns-then-out-len c).After-fields_len-len in
+    sym (stored_short (line here) c.args.out.now (omega (arith, long here)))
 
 pub returns : goal.returns
 returns c =
+    let here = (goal.at.returns c).After-fields_len-len in
     let out = c.args.out.now in
-    let room : length ((let a = c.args in line_of a.contact.0 a.sent a.acked a.contiguous a.beyond a.queued a.expired)) ≤ length out = omega (
-      arith,
-      (let long : 1 + c.fields_len-len.result ≡ length ((let a = c.args in line_of a.contact.0 a.sent a.acked a.contiguous a.beyond a.queued a.expired)) = omega (
-        arith,
-        c.fields_len-len.ensures.0,
-        ap length ((let same : line_text ((let a = c.args in
-            a.contact.0 ∷ c.wide-n.result ∷ c.wide-a.result ∷ c.wide-c.result ∷ a.beyond ∷ a.queued ∷ a.expired ∷ [])) ≡ (let a = c.args in line_of a.contact.0 a.sent a.acked a.contiguous a.beyond a.queued a.expired) = let a = c.args in
-            same_line a.contact.0 a.queued c.wide-n.ensures.0 c.wide-a.ensures.0 c.wide-c.ensures.0 refl refl in same)),
-      ) in long),
-    ) in
-    let now-is = c.put_line.ensures.1.now-is ∙ ap (put out 0) ((let same : line_text ((let a = c.args in
-    a.contact.0 ∷ c.wide-n.result ∷ c.wide-a.result ∷ c.wide-c.result ∷ a.beyond ∷ a.queued ∷ a.expired ∷ [])) ≡ (let a = c.args in line_of a.contact.0 a.sent a.acked a.contiguous a.beyond a.queued a.expired) = let a = c.args in
-    same_line a.contact.0 a.queued c.wide-n.ensures.0 c.wide-a.ensures.0 c.wide-c.ensures.0 refl refl in same)) ∙ put_front out ((let a = c.args in line_of a.contact.0 a.sent a.acked a.contiguous a.beyond a.queued a.expired)) room in
-    ap₂ (λ (k : ℕ) (l : List ℕ). record { answer = wrote k; out = l }) ((let long : 1 + c.fields_len-len.result ≡ length ((let a = c.args in line_of a.contact.0 a.sent a.acked a.contiguous a.beyond a.queued a.expired)) = omega (
-      arith,
-      c.fields_len-len.ensures.0,
-      ap length ((let same : line_text ((let a = c.args in
-          a.contact.0 ∷ c.wide-n.result ∷ c.wide-a.result ∷ c.wide-c.result ∷ a.beyond ∷ a.queued ∷ a.expired ∷ [])) ≡ (let a = c.args in line_of a.contact.0 a.sent a.acked a.contiguous a.beyond a.queued a.expired) = let a = c.args in
-          same_line a.contact.0 a.queued c.wide-n.ensures.0 c.wide-a.ensures.0 c.wide-c.ensures.0 refl refl in same)),
-    ) in long)) now-is ∙ sym (stored_row ((let a = c.args in line_of a.contact.0 a.sent a.acked a.contiguous a.beyond a.queued a.expired)) out room)
+    let room : length (line here) ≤ length out = omega (arith, long here) in
+    let now-is = c.put_line.ensures.1.now-is ∙ ap (put out 0) (same here) ∙ put_front out (line here) room in
+    ap₂ (λ (k : ℕ) (l : List ℕ). record { answer = wrote k; out = l }) (long here) now-is ∙ sym (stored_row (line here) out room)
