@@ -254,6 +254,7 @@ pub fn hex(bytes: &[u8], out: &mut [u8]) -> Result<usize, Question>
 pub fn decimal_len(n: u64) -> usize
     ensures { (result ≡ length (decimal n)) × (result ≤ 20) }
 {
+    // Kept: the new form is no plainer: std has no From<u32> for usize
     n.max(1).ilog10() as usize + 1
 }
 
@@ -265,6 +266,7 @@ pub fn put_decimal(out: &mut [u8], at: usize, n: u64) -> usize
     let digits = decimal_len(n);
     let mut rest = n;
     for i in (0..digits).rev() {
+        // Kept: the new form is no plainer: a digit fits a byte, and u8::try_from would ask for an answer that is never given
         out[at + i] = b'0' + (rest % 10) as u8;
         rest /= 10;
     }

@@ -1,42 +1,24 @@
 -- `ascii::hex` meets its contract: its tests are those of the definition; the room is compared by halves, so that nothing overflows.
 -- Assumes nothing.
-use Prim.Native.Nat.{ℕ, zero, suc, ◌≤◌}
-use mathlib.Core.List.{◌∷◌, []}
-use mathlib.Core.Path.{◌≡◌, refl}
+use Prim.Native.Nat.{◌≤◌}
+use mathlib.Core.Path.{◌≡◌}
 use native.Mathlib.Omega.{arith}
 use lib.ListN.{length}
-use borrow.Author.Tests.{eq-eqb, ne_eqb}
+use borrow.Author.Tests.{ne_eqb}
 use Rattle.layout.proofs.Write.{stored_short, stored_row}
-use Rattle.put.specs.Put as put
 use Rattle.put.proofs.Put.{put_front}
-use Rattle.ascii.specs.Hex.{DASH, pairs_of}
+use Rattle.ascii.specs.Hex.{pairs_of}
 use Rattle.ascii.proofs.Pairs.{length_pairs}
 use Rattle.ascii.proofs.hex.Goals as goal
 
-some-room : (n : ℕ) → (n ≡ 0 → ⊥) → 1 ≤ n
-some-room zero h = absurd (h refl)
-some-room (suc n) h = omega arith
-
-pub returns-then-out-eq0 : goal.returns-then-out-eq0
-returns-then-out-eq0 c =
-    let a = c.args in
-    rw (eq-eqb _ 0 c.if-bytes-eq0.true, stored_short (DASH ∷ []) a.out.now (omega arith))
-
-pub returns-then-bytes-eq0 : goal.returns-then-bytes-eq0
-unfolding put.put
-returns-then-bytes-eq0 c =
-    let a = c.args in
-    let room : length (DASH ∷ []) ≤ length a.out.now = some-room (length a.out.now) c.if-out-eq0.false in
-    rw (eq-eqb _ 0 c.if-bytes-eq0.true, stored_row (DASH ∷ []) a.out.now room, ← put_front a.out.now (DASH ∷ []) room)
-
 pub returns-then-out-bytes : goal.returns-then-out-bytes
 returns-then-out-bytes c =
-    let a = c.args in
-    rw (ne_eqb _ 0 c.if-bytes-eq0.false, stored_short (pairs_of a.bytes.now) a.out.now (omega (arith, length_pairs a.bytes.now)))
+    let bytes = c.args.bytes.now in
+    rw (ne_eqb _ 0 c.if-bytes-eq0.false, stored_short (pairs_of bytes) c.args.out.now (omega (arith, length_pairs bytes)))
 
 pub returns : goal.returns
 returns c =
-    let a = c.args in
-    let e : c.put_pairs.result ≡ length (pairs_of a.bytes.now) = omega (arith, c.put_pairs.ensures.1.next-is) in
-    let room : length (pairs_of a.bytes.now) ≤ length a.out.now = omega (arith, length_pairs a.bytes.now) in
-    rw (ne_eqb _ 0 c.if-bytes-eq0.false, stored_row (pairs_of a.bytes.now) a.out.now room, e, c.put_pairs.ensures.1.now-is, put_front a.out.now (pairs_of a.bytes.now) room)
+    let text = pairs_of c.args.bytes.now in
+    let room : length text ≤ length c.args.out.now = omega (arith, length_pairs c.args.bytes.now) in
+    let long : c.put_pairs.result ≡ length text = omega (arith, c.put_pairs.ensures.1.next-is) in
+    rw (ne_eqb _ 0 c.if-bytes-eq0.false, stored_row text c.args.out.now room, long, c.put_pairs.ensures.1.now-is, put_front c.args.out.now text room)
