@@ -17,6 +17,7 @@ pub struct WriteAnswer {
     pub number: u32,
 }
 
+// Kept: the C interface answers a length and a number where Rust has a Result
 fn length_or(written: Result<usize, Question>) -> WriteAnswer
     ensures { result ≡ length_or (written_says written) }
 {
@@ -30,6 +31,7 @@ fn length_or(written: Result<usize, Question>) -> WriteAnswer
 }
 
 // 0 where the call was granted, the question's number otherwise: what other crates' faces answer too.
+// Kept: the C interface answers a number where Rust has a Result
 pub fn zero_or(written: Result<usize, Question>) -> u32
     ensures { result ≡ zero_or (written_says written) }
 {
@@ -49,6 +51,7 @@ pub fn sicklestar_read_leb128(input: &[u8], answer: &mut [u64]) -> u32
                 return u32::from(Question::Output.number());
             }
             answer[0] = u64::from(value);
+            // Kept: the new form is no plainer: std has no From<usize> for u64
             answer[1] = taken as u64;
             0
         }
