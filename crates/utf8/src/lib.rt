@@ -23,7 +23,8 @@ fn lead_in(table: &[u16; 256], b: u8) -> Lead
     requires { table.now ≡ leads }
     ensures { result ≡ lead_of (following b) }
 {
-    let entry = table[b as usize];
+    let entry = table[usize::from(b)];
+    // Kept: the new form is no plainer: an entry is made of bytes, and u8::try_from would ask for an answer that is never given
     Lead {
         len: (entry / 0x1000) as u8,
         lo: (entry / 0x100 % 0x10 * 0x10) as u8,
@@ -49,7 +50,7 @@ fn character(name: &[u8], at: usize, lead: Lead) -> usize
     requires { (at < length name.now) × (lead ≡ lead_of (following (get_or name.now at 0))) }
     ensures { Character name.now at result }
 {
-    let len = lead.len as usize;
+    let len = usize::from(lead.len);
     if len < 2 {
         return len;
     }
