@@ -23,6 +23,7 @@ pub struct Card {
     pub caps: u8,
     pub name_len: u8,
     pub beacon_key: [u8; 32],
+    // Kept: no heap: fixed memory for the longest name
     pub name: [u8; 48],
     pub static_ek: [u8; 1184],
 }
@@ -62,10 +63,11 @@ pub fn check_card(input: &[u8]) -> Result<CardAt, Question>
     let (beacon_day, at2) = fields::u32_at(input, at1)?;
     let (_beacon_key, at3) = fields::run_at(input, at2, 32)?;
     let (name_len, at4) = fields::byte_at(input, at3)?;
-    if rows::MAX_NAME_LEN < name_len as usize {
+    let name_bytes = usize::from(name_len);
+    if rows::MAX_NAME_LEN < name_bytes {
         return Err(Question::NameLength);
     }
-    let (name, at5) = fields::run_at(input, at4, name_len as usize)?;
+    let (name, at5) = fields::run_at(input, at4, name_bytes)?;
     if !utf8::is_utf8(&input[name..at5]) {
         return Err(Question::NameUtf8);
     }
@@ -84,6 +86,7 @@ fn name_from(input: &[u8], from: usize, n: usize) -> [u8; 48]
     requires { (n ≤ 48) × (from + n ≤ length input.now) }
     ensures { result ≡ take n (drop from input.now) ++ zeros (48 - n) }
 {
+    // Kept: no heap: the struct's own array, of fixed memory
     let mut name = [0u8; 48];
     put::put_run(&mut name, 0, input, from, n);
     name
@@ -93,7 +96,7 @@ fn name_from(input: &[u8], from: usize, n: usize) -> [u8; 48]
 fn length_of(caps: u8, name_len: u8) -> usize
     ensures { result ≡ length_of caps name_len }
 {
-    let name_end = NAME_AT + name_len as usize;
+    let name_end = NAME_AT + usize::from(name_len);
     if caps / 2 % 2 == 1 {
         return name_end + rows::MLKEM768_ENCAPSULATION_KEY_LEN;
     }
@@ -104,7 +107,7 @@ fn length_of(caps: u8, name_len: u8) -> usize
 fn card_fits(caps: u8, name_len: u8, room: usize) -> bool
     ensures { result ≡ card_fits caps name_len room }
 {
-    if rows::MAX_NAME_LEN < name_len as usize {
+    if rows::MAX_NAME_LEN < usize::from(name_len) {
         return false;
     }
     length_of(caps, name_len) <= room
@@ -117,9 +120,10 @@ pub fn card_from(input: &[u8], at: CardAt) -> Card
     if !card_fits(at.caps, at.name_len, input.len()) {
         return Card::zero();
     }
-    let n = at.name_len as usize;
+    let n = usize::from(at.name_len);
     let beacon_key = put::copy_array(input, BEACON_KEY_AT);
     let name = name_from(input, NAME_AT, n);
+    // Kept: no heap: the struct's own array, of fixed memory
     let mut static_ek = [0u8; 1184];
     if at.caps / 2 % 2 == 1 {
         static_ek = put::copy_array(input, NAME_AT + n);
@@ -185,7 +189,7 @@ pub fn card_size(card: Card) -> Result<usize, Question>
     if 4 <= card.caps {
         return Err(Question::Caps);
     }
-    let n = card.name_len as usize;
+    let n = usize::from(card.name_len);
     if rows::MAX_NAME_LEN < n {
         return Err(Question::NameLength);
     }
@@ -226,7 +230,7 @@ fn put_row(out: &mut [u8], at: usize, card: Card) -> usize
 {
     typed(card);
     let beacon_day_at = put::put_byte(out, at, card.caps);
-    let beacon_key_at = put::put_be(out, beacon_day_at, 4, card.beacon_day as u64);
+    let beacon_key_at = put::put_be(out, beacon_day_at, 4, u64::from(card.beacon_day));
     let beacon_key = card.beacon_key;
     let name_len_at = put::put_array(out, beacon_key_at, &beacon_key);
     put_name(out, name_len_at, card)
@@ -240,7 +244,7 @@ fn put_name(out: &mut [u8], at: usize, card: Card) -> usize
     typed(card);
     let name_at = put::put_byte(out, at, card.name_len);
     let name = card.name;
-    let key_at = put::put_run(out, name_at, &name, 0, card.name_len as usize);
+    let key_at = put::put_run(out, name_at, &name, 0, usize::from(card.name_len));
     if card.caps / 2 % 2 == 1 {
         let key = card.static_ek;
         return put::put_run(out, key_at, &key, 0, rows::MLKEM768_ENCAPSULATION_KEY_LEN);

@@ -1,5 +1,5 @@
 -- `card::put_card` meets its contract: the row where it fits, and nothing where it does not.
-use Prim.Native.Nat.{ℕ, ◌-◌, ◌≤◌}
+use Prim.Native.Nat.{ℕ, ◌-◌}
 use mathlib.Core.List.{List}
 use mathlib.Core.Bool.{Bool, true, false, ◌&&◌, and-false}
 use mathlib.Core.Path.{◌≡◌, sym, ap, ◌∙◌}
@@ -35,23 +35,16 @@ module _ (c : Card) (ty : CardTyped c) (room : ℕ) where
 
 pub returns-then-len-at : goal.returns-then-len-at
 returns-then-len-at c =
-    let a = c.args in
-    let room = length a.out.now - a.at in
-    not-stored a.card c.typed.ensures room a.out.now a.at (none-fits a.card c.typed.ensures room (omega arith))
+    let room = length c.args.out.now - c.args.at in
+    not-stored c.args.card c.typed.ensures room c.args.out.now c.args.at (none-fits c.args.card c.typed.ensures room (omega arith))
 
 pub returns-then-not-card_fits : goal.returns-then-not-card_fits
-returns-then-not-card_fits c =
-    let a = c.args in
-    not-stored a.card c.typed.ensures (length a.out.now - a.at) a.out.now a.at (sym c.card_fits.ensures ∙ c.if-not-card_fits.true)
+returns-then-not-card_fits c = not-stored c.args.card c.typed.ensures _ _ _ (sym c.card_fits.ensures ∙ c.if-not-card_fits.true)
 
 pub put_row-requires : goal.put_row-requires
 put_row-requires c =
-    let a = c.args in
     let both = and_both _ _ (sym c.card_fits.ensures ∙ c.if-not-card_fits.false) in
-    let room : length_of a.card.caps a.card.name_len ≤ length a.out.now - a.at = leb-true _ _ both.1 in
-    (leb-true _ _ both.0, omega (arith, length-image a.card c.typed.ensures, c.if-len-at.false))
+    (leb-true _ _ both.0, omega (arith, leb-true _ _ both.1, length-image c.args.card c.typed.ensures, c.if-len-at.false))
 
 pub returns : goal.returns
-returns c =
-    let a = c.args in
-    whole-stored a.card c.typed.ensures (length a.out.now - a.at) (sym c.card_fits.ensures ∙ c.if-not-card_fits.false) c.put_row.ensures.1
+returns c = whole-stored c.args.card c.typed.ensures _ (sym c.card_fits.ensures ∙ c.if-not-card_fits.false) c.put_row.ensures.1

@@ -47,8 +47,8 @@ put_run-requires c =
 
 pub returns-then-card-eq1 : goal.returns-then-card-eq1
 returns-then-card-eq1 c =
-    with-key c.args.card c.typed.ensures (eq-eqb _ _ c.if-card-eq1.true) (c.put_byte-name_at.ensures.1 then (c.put_run-key_at.ensures.1 then c.put_run.ensures.1))
+    with-key c.args.card c.typed.ensures (eq-eqb _ _ c.if-card-eq1.true) (c.put_byte-name_at.ensures.1 then ((rw c.from.ensures at c.put_run-key_at.ensures.1) then c.put_run.ensures.1))
 
 pub returns : goal.returns
 returns c =
-    without-key c.args.card (ne_eqb _ _ c.if-card-eq1.false) (c.put_byte-name_at.ensures.1 then c.put_run-key_at.ensures.1)
+    without-key c.args.card (ne_eqb _ _ c.if-card-eq1.false) (c.put_byte-name_at.ensures.1 then (rw c.from.ensures at c.put_run-key_at.ensures.1))

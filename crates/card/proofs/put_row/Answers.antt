@@ -33,5 +33,5 @@ put_name-requires c = (
 
 pub returns : goal.returns
 returns c =
-    let w = c.put_byte-beacon_day_at.ensures.1 then (c.put_be-beacon_key_at.ensures.1 then (c.put_array-name_len_at.ensures.1 then c.put_name.ensures.1)) in
+    let w = c.put_byte-beacon_day_at.ensures.1 then ((rw c.from.ensures at c.put_be-beacon_key_at.ensures.1) then (c.put_array-name_len_at.ensures.1 then c.put_name.ensures.1)) in
     rw (image-is c.args.card c.typed.ensures c.requires.0) (w.next-is, w)
