@@ -7,6 +7,8 @@ ghost use Rattle.contact.specs.Contact.{lists_before, lists_after};
 ghost use Rattle.rewrite.specs.Rewrite.{rewrites};
 ghost use Rattle.c_contact.specs.Faces.{check_number, leaves, shown};
 
+use contact::ListsMut;
+
 // Whether a contact row is accepted; nothing is copied.
 #[unsafe(no_mangle)]
 pub extern "C" fn sicklestar_check_contact(version: u32, row: &[u8]) -> u32
@@ -32,7 +34,12 @@ pub extern "C" fn sicklestar_contact(
 ) -> u32
     ensures { leaves result (lists_after chains skipped above unacked expired) out.new ≡ shown (rewrites version row.now (lists_before chains skipped above unacked expired) out.old) }
 {
-    c_card::zero_or(rewrite::rewrite_contact(
-        version, row, chains, skipped, above, unacked, expired, out,
-    ))
+    let mut lists = ListsMut {
+        chains,
+        skipped,
+        above,
+        unacked,
+        expired,
+    };
+    c_card::zero_or(rewrite::rewrite_contact(version, row, &mut lists, out))
 }

@@ -12,7 +12,7 @@ ghost use Rattle.calls_open.specs.Calls.{left, outcome_of, contains_says, covers
 
 use calls_find::Sought;
 use calls_step::Mark;
-use contact::Contact;
+use contact::{Contact, ListsMut, ListsRef};
 use layout::Question;
 use received::{Change, Received, ReceivedMut};
 use rows::ContactId;
@@ -199,9 +199,14 @@ pub fn write(
 ) -> Left
     ensures { let row = writes_contact contact (lists chains.now skipped.now above.now unacked.now expired.now) out.old in WrittenBy contact mark row_says row result out.new }
 {
-    let written = contact_row::write_contact(
-        contact, chains, skipped, above, unacked, expired, out,
-    );
+    let lists = ListsRef {
+        chains,
+        skipped,
+        above,
+        unacked,
+        expired,
+    };
+    let written = contact_row::write_contact(contact, lists, out);
     answered(contact, mark, of_row(written))
 }
 
@@ -242,6 +247,13 @@ pub fn open(
     }
     let e = sought.entry;
     let row = store::part_of(run, e);
-    let read = Contact::decode(e.version, row, chains, skipped, above, unacked, expired);
+    let mut lists = ListsMut {
+        chains,
+        skipped,
+        above,
+        unacked,
+        expired,
+    };
+    let read = Contact::decode(e.version, row, &mut lists);
     opened_by(id, mark, contact, read)
 }

@@ -9,7 +9,7 @@ ghost use Rattle.calls_find.specs.Sought.{sought_in};
 ghost use Rattle.calls_store.specs.Passes.{Writable, WritableFor, omitted_for, count_for, yes_for, passed_as, passes_for};
 
 use calls_find::Sought;
-use contact::Contact;
+use contact::{Contact, ListsRef};
 use restore::Restored;
 use rows::ContactId;
 use store::{Entry, Omitted};
@@ -47,7 +47,14 @@ fn is_writable(
     ensures { Writable contact (lists chains.now skipped.now above.now unacked.now expired.now) result }
 {
     contact_image::typed(contact);
-    contact_row::contact_size(contact, chains, skipped, above, unacked, expired).is_ok()
+    let lists = ListsRef {
+        chains,
+        skipped,
+        above,
+        unacked,
+        expired,
+    };
+    contact_row::contact_size(contact, lists).is_ok()
 }
 
 // 34 asks that of opened fields alone; of anything else the answer is no.

@@ -1,11 +1,9 @@
 -- What reading a contact row leaves, from what the check found.
 -- Assumes nothing.
-use Prim.Native.Nat.{ℕ, ◌/◌}
+use Prim.Native.Nat.{ℕ}
 use mathlib.Core.List.{List}
-use mathlib.Core.Bool.{Bool, true, false, ◌&&◌}
+use mathlib.Core.Bool.{Bool, true, false}
 use mathlib.Core.Path.{◌≡◌}
-use lib.ListN.{length}
-use lib.Dec.{leb}
 use borrow.Author.Tests.{leb-true}
 use Rattle.layout.specs.Questions.{LISTS}
 use Rattle.layout.specs.Layout.{accepted, refused_by, read_row}
@@ -15,9 +13,10 @@ use Rattle.rows.specs.Values as value
 use Rattle.rows.specs.Rows.{contact}
 use Rattle.rows.proofs.Lawful.{chain-lawful, skipped-lawful, range-lawful}
 use Rattle.contact_lists.proofs.Ends.{listed-fits}
-use Rattle.contact.specs.Check.{contact_from, Offsets}
+use Rattle.numbers.specs.Lists.{room_for}
+use Rattle.contact.specs.Check.{contact_from, counts_at, Offsets}
 use Rattle.contact.specs.Contact as spec
-use Rattle.contact.specs.Contact.{Lists, contact_of, long_enough, filled, reads, Fillable}
+use Rattle.contact.specs.Contact.{Lists, lengths_of, contact_of, long_enough, filled, reads, Fillable}
 use Rattle.contact.specs.declared.ContactAt.{ContactAt}
 use Rattle.contact.proofs.Counts.{five, in-51, in-46, in-2}
 
@@ -37,15 +36,10 @@ module _ (version : ℕ) (row : List ℕ) (l : Lists) where
 
 -- ---- 36, asked of the counts
 module _ (row : List ℕ) (by : Bytes row) (at : ContactAt) (p : Offsets row at) (l : Lists) where
-  abbrev pub counts : Bool
-  counts =
-      leb at.chained.chains.count (length l.chains / 51)
-      && leb at.chained.skipped.count (length l.skipped / 46)
-      && leb at.numbers.above.count (length l.above / 2)
-      && leb at.numbers.unacked.count (length l.unacked)
-      && leb at.numbers.expired.count (length l.expired / 2)
+  abbrev pub has_room : Bool
+  has_room = room_for (counts_at at) (lengths_of l)
 
-  pub counts-are : long_enough (contact_from row at) l ≡ counts
+  pub counts-are : long_enough (contact_from row at) l ≡ has_room
   counts-are =
       rw (
         (listed-fits _ chain-lawful by p.chained.chains).0,
@@ -55,7 +49,7 @@ module _ (row : List ℕ) (by : Bytes row) (at : ContactAt) (p : Offsets row at)
         (listed-fits _ range-lawful by p.numbers.expired).0,
       )
 
-  pub fillable : counts ≡ true → Fillable row at l
+  pub fillable : has_room ≡ true → Fillable row at l
   fillable e =
       let h = five _ _ _ _ _ e in
       record {

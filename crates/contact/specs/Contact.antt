@@ -1,6 +1,6 @@
 -- An opened contact: a struct, and five lists that the caller lends. What reading a row leaves in them.
 -- Assumes nothing.
-use Rattle.std.specs.Prelude.{ℕ, ◌*◌, ◌≤◌, List, Bool, false, cond, length}
+use Rattle.std.specs.Prelude.{ℕ, ◌*◌, ◌≤◌, List, Bool, false, cond, ◌≡◌, length}
 use Rattle.std.proofs.Math.Option.{Option, none, some}
 use Rattle.std.specs.Borrow.{MutBor}
 use denote.Triple.Both.{Both}
@@ -21,6 +21,8 @@ use Rattle.received.specs.Lent.{flat}
 use Rattle.numbers.specs.Lists.{CHAIN_PLACE, SKIPPED_PLACE, Counts, counts, items_of, room_for}
 use Rattle.contact.specs.declared.SendChain.{SendChain}
 use Rattle.contact.specs.declared.Contact.{Contact}
+use Rattle.contact.specs.declared.ListsRef.{ListsRef}
+use Rattle.contact.specs.declared.ListsMut.{ListsMut}
 use Rattle.contact.specs.Check.{Offsets}
 use Rattle.contact.specs.declared.ContactAt.{ContactAt}
 use Rattle.contact.specs.declared.PendingKeys.{PendingKeys}
@@ -40,6 +42,22 @@ pub record Lists : Type 0 where
 
 abbrev pub lists : (chains skipped above unacked expired : List ℕ) → Lists
 lists chains skipped above unacked expired = record { chains = chains; skipped = skipped; above = above; unacked = unacked; expired = expired }
+
+-- those that a struct lends
+abbrev pub read_in : ListsRef → Lists
+read_in l = lists l.chains.now l.skipped.now l.above.now l.unacked.now l.expired.now
+
+abbrev pub held_in : ListsMut → Lists
+held_in l = lists l.chains.now l.skipped.now l.above.now l.unacked.now l.expired.now
+
+-- the struct lends the same five slices, whatever stands in them
+abbrev pub SameLists : (before after : ListsMut) → Type 0
+SameLists before after =
+    (after.chains.ghost_name ≡ before.chains.ghost_name)
+    × (after.skipped.ghost_name ≡ before.skipped.ghost_name)
+    × (after.above.ghost_name ≡ before.above.ghost_name)
+    × (after.unacked.ghost_name ≡ before.unacked.ghost_name)
+    × (after.expired.ghost_name ≡ before.expired.ghost_name)
 
 abbrev pub lengths_of : Lists → Counts
 lengths_of l = counts (length l.chains) (length l.skipped) (length l.above) (length l.unacked) (length l.expired)

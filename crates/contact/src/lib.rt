@@ -6,13 +6,13 @@ ghost use Rattle.layout.specs.Read.{first};
 ghost use Rattle.layout.specs.Layout.{read_row};
 ghost use Rattle.rows.specs.Answers.{verdict_of};
 ghost use Rattle.rows.specs.Rows as layouts;
-ghost use Rattle.numbers.specs.Lists.{counts, room_for};
+ghost use Rattle.numbers.specs.Lists.{room_for};
 ghost use Rattle.card.specs.Card.{card_of};
 ghost use Rattle.contact_parts.specs.Offsets.{ChainedLists, NumbersLists, chained_from, numbers_from, CardOffsets, card_in, pending_from, send_from};
 ghost use Rattle.contact.specs.Consistent.{chains_refusal, numbers_refusal, refusal_in};
 ghost use Rattle.layout.specs.Says.{answers, made};
 ghost use Rattle.contact.specs.Check.{contact_at, contact_from, counts_at, PendingRuns, SendRuns, Filling};
-ghost use Rattle.contact.specs.Contact.{pending_keys_of, send_part_of, contact_of, zero_contact, lists, lists_before, lists_after, filled, Fillable, leaves, reads};
+ghost use Rattle.contact.specs.Contact.{pending_keys_of, send_part_of, contact_of, zero_contact, lengths_of, read_in, held_in, SameLists, filled, Fillable, leaves, reads};
 
 use card::Card;
 use contact_parts::{ChainedAt, KeysAt, NumbersAt, PairedAt};
@@ -46,6 +46,7 @@ pub struct Contact {
     pub send: Option<SendChain>,
     pub role: PairingRole,
     pub verification: Verification,
+    // Kept: a flag beside two keys. write_contact and contact_size speak of every Contact, also of one whose flag is false before keys that are not 0: an Option has none such.
     pub pending: bool,
     pub peer: Card,
     pub pair_id: [u8; 16],
@@ -58,6 +59,41 @@ pub struct Contact {
     pub pending_chain_key: [u8; 32],
     pub pending_msg_seed: [u8; 32],
     pub send_key: [u8; 32],
+}
+
+// The lists of an opened contact, lent to be read: chains in places of 51 bytes, skipped keys in places of 46, and ranges as from, to, from, to.
+// Kept: each list is as long as its caller likes, and its count stands in Contact, since memory is fixed and there is no heap.
+#[derive(Clone, Copy)]
+pub struct ListsRef<'a> {
+    pub chains: &'a [u8],
+    pub skipped: &'a [u8],
+    pub above: &'a [u32],
+    pub unacked: &'a [u32],
+    pub expired: &'a [u32],
+}
+
+// The same lists, lent to be filled.
+#[derive(Drop)]
+pub struct ListsMut<'a> {
+    pub chains: &'a mut [u8],
+    pub skipped: &'a mut [u8],
+    pub above: &'a mut [u32],
+    pub unacked: &'a mut [u32],
+    pub expired: &'a mut [u32],
+}
+
+impl ListsMut<'_> {
+    pub fn read(&self) -> ListsRef<'_>
+        ensures { read_in result ≡ held_in self.now }
+    {
+        ListsRef {
+            chains: self.chains,
+            skipped: self.skipped,
+            above: self.above,
+            unacked: self.unacked,
+            expired: self.expired,
+        }
+    }
 }
 
 // A contact row's numbers, and where its runs and lists stand in the row.
@@ -108,7 +144,7 @@ fn numbers_consistent(row: &[u8], sent: u32, at: NumbersAt) -> Result<(), Questi
         return Err(Question::Unacked);
     }
     let above = at.above;
-    let from = width::wide(at.contiguous) + 2;
+    let from = u64::from(at.contiguous) + 2;
     if !contact_checks::canonical_in_row(row, above.first, above.count, from, u32::MAX) {
         return Err(Question::Above);
     }
@@ -210,29 +246,14 @@ impl Contact {
     }
 
     // Reads the row into the struct and the lent lists. A refusal changes no list.
-    pub fn decode(
-        version: u32,
-        row: &[u8],
-        chains: &mut [u8],
-        skipped: &mut [u8],
-        above: &mut [u32],
-        unacked: &mut [u32],
-        expired: &mut [u32],
-    ) -> Result<Contact, Question>
-        ensures { leaves result (lists_after chains skipped above unacked expired) ≡ reads version row.now (lists_before chains skipped above unacked expired) }
+    pub fn decode(version: u32, row: &[u8], lists: &mut ListsMut<'_>) -> Result<Contact, Question>
+        ensures { (leaves result (held_in lists.new) ≡ reads version row.now (held_in lists.old)) × SameLists lists.old lists.new }
     {
         let at = check_contact(version, row)?;
-        if !long_enough(
-            at,
-            chains.len(),
-            skipped.len(),
-            above.len(),
-            unacked.len(),
-            expired.len(),
-        ) {
+        if !long_enough(at, lists.read()) {
             return Err(Question::Lists);
         }
-        fill_lists(row, at, chains, skipped, above, unacked, expired);
+        fill_lists(row, at, lists);
         Ok(contact_from(row, at))
     }
 }
@@ -240,6 +261,7 @@ impl Contact {
 // ---- a checked row's contact
 
 // The keys of a Resume that awaits its confirmation; 0 where there is none.
+// Kept: a flag in place of an Option, which contact_from would only take apart again, into the flag and the two keys of Contact.
 #[derive(Clone, Copy)]
 struct PendingKeys {
     present: bool,
@@ -348,50 +370,47 @@ fn contact_from(row: &[u8], at: ContactAt) -> Contact
     }
 }
 
-// Question 36, of lists of these lengths: whether each is long enough for the row's items.
-pub fn long_enough(
-    at: ContactAt,
-    chains: usize,
-    skipped: usize,
-    above: usize,
-    unacked: usize,
-    expired: usize,
-) -> bool
-    ensures { result ≡ room_for (counts_at at) (counts chains skipped above unacked expired) }
+// Question 36: whether each list is long enough for the row's items.
+pub fn long_enough(at: ContactAt, lists: ListsRef<'_>) -> bool
+    ensures { result ≡ room_for (counts_at at) (lengths_of (read_in lists.entry)) }
 {
-    if chains / contact_lent::CHAIN_PLACE < at.chained.chains.count {
-        return false;
-    }
-    if skipped / contact_lent::SKIPPED_PLACE < at.chained.skipped.count {
-        return false;
-    }
-    if above / 2 < at.numbers.above.count {
-        return false;
-    }
-    if unacked < at.numbers.unacked.count {
-        return false;
-    }
-    at.numbers.expired.count <= expired / 2
+    at.chained.chains.count <= lists.chains.len() / contact_lent::CHAIN_PLACE
+        && at.chained.skipped.count <= lists.skipped.len() / contact_lent::SKIPPED_PLACE
+        && at.numbers.above.count <= lists.above.len() / 2
+        && at.numbers.unacked.count <= lists.unacked.len()
+        && at.numbers.expired.count <= lists.expired.len() / 2
 }
 
 // Copies the row's items into the lent lists; places past them stay.
-fn fill_lists(
-    row: &[u8],
-    at: ContactAt,
-    chains: &mut [u8],
-    skipped: &mut [u8],
-    above: &mut [u32],
-    unacked: &mut [u32],
-    expired: &mut [u32],
-)
-    requires { Fillable row.now at (lists chains.old skipped.old above.old unacked.old expired.old) }
-    ensures { lists_after chains skipped above unacked expired ≡ filled (contact_from row.now at) (lists_before chains skipped above unacked expired) }
+fn fill_lists(row: &[u8], at: ContactAt, lists: &mut ListsMut<'_>)
+    requires { Fillable row.now at (held_in lists.old) }
+    ensures { (held_in lists.new ≡ filled (contact_from row.now at) (held_in lists.old)) × SameLists lists.old lists.new }
 {
     let chained = at.chained;
     let numbers = at.numbers;
-    contact_lent::fill_chains(row, chained.chains.first, chained.chains.count, chains);
-    contact_lent::fill_skipped(row, chained.skipped.first, chained.skipped.count, skipped);
-    contact_lent::fill_ranges(row, numbers.above.first, numbers.above.count, above);
-    contact_lent::fill_numbers(row, numbers.unacked.first, numbers.unacked.count, unacked);
-    contact_lent::fill_ranges(row, numbers.expired.first, numbers.expired.count, expired);
+    contact_lent::fill_chains(
+        row,
+        chained.chains.first,
+        chained.chains.count,
+        lists.chains,
+    );
+    contact_lent::fill_skipped(
+        row,
+        chained.skipped.first,
+        chained.skipped.count,
+        lists.skipped,
+    );
+    contact_lent::fill_ranges(row, numbers.above.first, numbers.above.count, lists.above);
+    contact_lent::fill_numbers(
+        row,
+        numbers.unacked.first,
+        numbers.unacked.count,
+        lists.unacked,
+    );
+    contact_lent::fill_ranges(
+        row,
+        numbers.expired.first,
+        numbers.expired.count,
+        lists.expired,
+    );
 }

@@ -6,21 +6,27 @@ use mathlib.Core.List.{List, [], ◌∷◌, ◌++◌, append-nil, append_assoc}
 use mathlib.Core.Bool.{true, false}
 use mathlib.Core.Option.{none, some}
 use mathlib.Core.Path.{◌≡◌, refl, sym, ap, subst, ◌∙◌}
-use lib.ListN.{length}
+use lib.ListN.{length, take}
+use lib.Seq.{length-take-le}
 use Rattle.layout.specs.Questions.{CARD_END}
-use Rattle.layout.specs.Form.{Form, bytes_of, print_many}
+use Rattle.layout.specs.Form.{Form, bytes_of, u32, print_many}
 use Rattle.layout.specs.Layout.{print, group, optional, list, sized}
 use Rattle.layout.specs.Layout as layout
 use Rattle.layout.proofs.Front.{byte-print}
 use Rattle.rows.specs.Values as value
-use Rattle.rows.specs.Rows.{role_byte, verification_byte, dir_byte, pending, send, card}
+use Rattle.rows.specs.Rows.{role_byte, verification_byte, dir_byte, pending, send, card, chain, skipped, range}
 use Rattle.card.specs.Card as cards
 use Rattle.card.specs.Card.{value_of}
 use Rattle.contact_parts.specs.Parts.{paired, keys, numbers}
+use Rattle.received.specs.Lent.{pairs}
+use Rattle.received.proofs.Pairs.{length_pairs}
+use Rattle.contact_lent.specs.Lent.{chains_of, skipped_of}
+use Rattle.contact_lent.proofs.Records.{chains-row, skipped-row}
 use Rattle.contact.specs.Contact.{Lists}
 use Rattle.contact.specs.declared.SendChain.{SendChain}
 use Rattle.contact.specs.declared.Contact.{Contact}
-use Rattle.contact_image.specs.Row.{paired_of, keys_of, pending_of, send_of, numbers_of, counters, lists_image, SendTyped, ContactTyped}
+use Rattle.contact_image.specs.Row as spec
+use Rattle.contact_image.specs.Row.{paired_of, keys_of, pending_of, send_of, numbers_of, counters, lists_image, chained_image, SendTyped, ContactTyped, ListsTyped, ChainsLent, NumbersLent}
 
 -- ---- forms that the parts share
 -- a part behind its flag
@@ -93,3 +99,25 @@ module _ (c : Contact) where
 pub numbers-are : (c : Contact) (l : Lists) → print numbers (numbers_of c l) ≡ counters c ++ lists_image c l
 unfolding layout.print
 numbers-are c l = simp (append_assoc, append-nil)
+
+pub lists_are : (c : Contact) (l : Lists) → NumbersLent c l → lists_image c l
+    ≡ bytes_of 2 c.above
+    ++ (print_many (group range) (pairs c.above l.above)
+    ++ (bytes_of 2 c.unacked ++ (print_many u32 (take c.unacked l.unacked) ++ (bytes_of 2 c.expired ++ print_many (group range) (pairs c.expired l.expired)))))
+lists_are c l lent =
+    rw (
+      list-is (group range) (pairs c.above l.above) (length_pairs c.above l.above lent.above),
+      list-is u32 (take c.unacked l.unacked) (length-take-le c.unacked l.unacked lent.unacked),
+      list-is (group range) (pairs c.expired l.expired) (length_pairs c.expired l.expired lent.expired),
+      append_assoc,
+      append_assoc,
+    )
+
+-- ---- what it awaits and sends, and its chains: no question refuses a place
+module _ (c : Contact) (l : Lists) (ty : ListsTyped l) (lent : ChainsLent c l) where
+  pub chained_is : chained_image c l
+      ≡ (optional (group pending)).print (pending_of c)
+      ++ ((optional (group send)).print (send_of c.send c.send_key)
+      ++ (bytes_of 2 c.chains ++ (print_many (group chain) (chains_of c.chains l.chains) ++ (bytes_of 2 c.skipped ++ print_many (group skipped) (skipped_of c.skipped l.skipped)))))
+  unfolding spec.chained_image
+  chained_is = rw (chains-row c.chains l.chains ty.chains lent.chains lent.chains_granted, ← skipped-row c.skipped l.skipped ty.skipped lent.skipped lent.skipped_granted, append_assoc)

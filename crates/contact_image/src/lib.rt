@@ -3,6 +3,7 @@
 
 ghost use Rattle.std.specs.Prelude.{◌≡◌, true, [], ◌∷◌, ◌++◌, ◌+◌, ◌*◌, ◌≤◌, length, take};
 ghost use Rattle.layout.specs.Form.{bytes_of, u32};
+ghost use Rattle.layout.specs.RowLaws.{Bytes};
 ghost use Rattle.layout.specs.Layout.{print, group, optional, list};
 ghost use Rattle.put.specs.Put.{Wrote};
 ghost use Rattle.rows.specs.Rows.{role_byte, verification_byte, pending, send, chain, skipped, range};
@@ -10,10 +11,10 @@ ghost use Rattle.card.specs.Card as cards;
 ghost use Rattle.contact_parts.specs.Parts.{paired, keys, numbers};
 ghost use Rattle.received.specs.Lent.{pairs};
 ghost use Rattle.contact_lent.specs.Lent.{Granted, chains_bytes, skipped_bytes};
-ghost use Rattle.contact_image.specs.Row.{SendTyped, ContactTyped, paired_of, keys_of, pending_of, send_of, numbers_of, counters, lists_image, chained_image, image, ChainsLent, NumbersLent, Writable};
-ghost use Rattle.contact.specs.Contact.{lists};
+ghost use Rattle.contact_image.specs.Row.{SendTyped, ContactTyped, paired_of, keys_of, pending_of, send_of, numbers_of, counters, lists_image, chained_image, image, ListsTyped, Words, ChainsLent, NumbersLent, Writable};
+ghost use Rattle.contact.specs.Contact.{read_in};
 
-use contact::{Contact, SendChain};
+use contact::{Contact, ListsRef, SendChain};
 
 // What the types say, as facts.
 fn send_typed(send: Option<SendChain>) -> bool
@@ -30,6 +31,30 @@ pub fn typed(contact: Contact) -> bool
     true
 }
 
+fn bytes_typed(bytes: &[u8]) -> bool
+    ensures { Bytes bytes.now }
+{
+    bytes.is_empty()
+}
+
+fn words_typed(words: &[u32]) -> bool
+    ensures { Words words.now }
+{
+    words.is_empty()
+}
+
+// True; what the type of each lent list says, as facts.
+pub fn lists_typed(lists: ListsRef<'_>) -> bool
+    ensures { (result ≡ true) × ListsTyped (read_in lists.entry) }
+{
+    bytes_typed(lists.chains);
+    bytes_typed(lists.skipped);
+    words_typed(lists.above);
+    words_typed(lists.unacked);
+    words_typed(lists.expired);
+    true
+}
+
 // The codes: role, mode and verification.
 fn put_codes(out: &mut [u8], at: usize, contact: Contact) -> usize
     requires { at + 3 ≤ length out.old }
@@ -41,6 +66,7 @@ fn put_codes(out: &mut [u8], at: usize, contact: Contact) -> usize
 }
 
 // Who the contact is: the codes, the pairing's runs, and the card behind its length.
+#[tactic(auto, using(crate::proofs::Lengths::paired_long))]
 fn put_paired(out: &mut [u8], at: usize, contact: Contact) -> usize
     requires { (contact.peer.name_len ≤ 48) × (at + length (print paired (paired_of contact)) ≤ length out.old) }
     ensures { (result ≡ at + length (print paired (paired_of contact))) × Wrote out.old at (print paired (paired_of contact)) out.new result }
@@ -68,6 +94,7 @@ fn put_peer(out: &mut [u8], at: usize, contact: Contact) -> usize
 }
 
 // The keys, and the last number sent.
+#[tactic(auto, using(crate::proofs::Lengths::keys_long))]
 fn put_keys(out: &mut [u8], at: usize, contact: Contact) -> usize
     requires { at + length (print keys (keys_of contact)) ≤ length out.old }
     ensures { (result ≡ at + length (print keys (keys_of contact))) × Wrote out.old at (print keys (keys_of contact)) out.new result }
@@ -82,10 +109,11 @@ fn put_keys(out: &mut [u8], at: usize, contact: Contact) -> usize
     let chain_key_at = put::put_be(out, resume_index_at, 8, contact.resume_index);
     let chain_key = contact.chain_key;
     let sent_msgno_at = put::put_array(out, chain_key_at, &chain_key);
-    put::put_be(out, sent_msgno_at, 4, contact.sent_msgno as u64)
+    put::put_be(out, sent_msgno_at, 4, u64::from(contact.sent_msgno))
 }
 
 // The flag, and what it awaits.
+#[tactic(auto, using(crate::proofs::Lengths::pending_long, crate::proofs::Lengths::pending_absent))]
 fn put_pending(out: &mut [u8], at: usize, contact: Contact) -> usize
     requires { at + length ((optional (group pending)).print (pending_of contact)) ≤ length out.old }
     ensures { (result ≡ at + length ((optional (group pending)).print (pending_of contact))) × Wrote out.old at ((optional (group pending)).print (pending_of contact)) out.new result }
@@ -102,6 +130,7 @@ fn put_pending(out: &mut [u8], at: usize, contact: Contact) -> usize
 }
 
 // The flag, and its send chain.
+#[tactic(auto, using(crate::proofs::Lengths::send_long, crate::proofs::Lengths::send_absent))]
 fn put_send(out: &mut [u8], at: usize, contact: Contact) -> usize
     requires { at + length ((optional (group send)).print (send_of contact.send contact.send_key)) ≤ length out.old }
     ensures { (result ≡ at + length ((optional (group send)).print (send_of contact.send contact.send_key)))
@@ -119,40 +148,12 @@ fn put_send(out: &mut [u8], at: usize, contact: Contact) -> usize
     put::put_array(out, key_at, &key)
 }
 
-// The chains behind their count.
-fn put_chain_list(out: &mut [u8], at: usize, lent: &[u8], count: usize) -> usize
-    requires { (51 * count ≤ length lent.now) × Granted 51 (group chain) count lent.now × (at + (2 + length (chains_bytes count lent.now)) ≤ length out.old) }
-    ensures { (result ≡ at + (2 + length (chains_bytes count lent.now))) × Wrote out.old at (bytes_of 2 count ++ chains_bytes count lent.now) out.new result }
+// How many items a list has; they stand behind it.
+fn put_count(out: &mut [u8], at: usize, count: usize) -> usize
+    requires { at + 2 ≤ length out.old }
+    ensures { (result ≡ at + 2) × Wrote out.old at (bytes_of 2 count) out.new result }
 {
-    let chains_at = put::put_be(out, at, 2, count as u64);
-    contact_lent::put_chains(out, chains_at, lent, count)
-}
-
-// The skipped keys behind their count.
-fn put_skipped_list(out: &mut [u8], at: usize, lent: &[u8], count: usize) -> usize
-    requires { (46 * count ≤ length lent.now) × Granted 46 (group skipped) count lent.now × (at + (2 + 46 * count) ≤ length out.old) }
-    ensures { (result ≡ at + (2 + 46 * count)) × Wrote out.old at (bytes_of 2 count ++ skipped_bytes count lent.now) out.new result }
-{
-    let skipped_at = put::put_be(out, at, 2, count as u64);
-    contact_lent::put_skipped(out, skipped_at, lent, count)
-}
-
-// The ranges behind their count.
-fn put_range_list(out: &mut [u8], at: usize, ranges: &[u32], count: usize) -> usize
-    requires { (2 * count ≤ length ranges.now) × (at + (2 + 8 * count) ≤ length out.old) }
-    ensures { (result ≡ at + (2 + 8 * count)) × Wrote out.old at ((list (group range)).print (pairs count ranges.now)) out.new result }
-{
-    let ranges_at = put::put_be(out, at, 2, count as u64);
-    contact_lent::put_ranges(out, ranges_at, ranges, count)
-}
-
-// The numbers behind their count.
-fn put_number_list(out: &mut [u8], at: usize, numbers: &[u32], count: usize) -> usize
-    requires { (count ≤ length numbers.now) × (at + (2 + 4 * count) ≤ length out.old) }
-    ensures { (result ≡ at + (2 + 4 * count)) × Wrote out.old at ((list u32).print (take count numbers.now)) out.new result }
-{
-    let numbers_at = put::put_be(out, at, 2, count as u64);
-    contact_lent::put_numbers(out, numbers_at, numbers, count)
+    put::put_be(out, at, 2, count as u64)
 }
 
 // The numbers that are no lists.
@@ -160,74 +161,64 @@ fn put_counters(out: &mut [u8], at: usize, contact: Contact) -> usize
     requires { at + 16 ≤ length out.old }
     ensures { (result ≡ at + 16) × Wrote out.old at (counters contact) out.new result }
 {
-    let peer_read_at = put::put_be(out, at, 4, contact.peer_acked as u64);
-    let read_marked_at = put::put_be(out, peer_read_at, 4, contact.peer_read as u64);
-    let contiguous_at = put::put_be(out, read_marked_at, 4, contact.read_marked as u64);
-    put::put_be(out, contiguous_at, 4, contact.contiguous as u64)
+    let peer_read_at = put::put_be(out, at, 4, u64::from(contact.peer_acked));
+    let read_marked_at = put::put_be(out, peer_read_at, 4, u64::from(contact.peer_read));
+    let contiguous_at = put::put_be(out, read_marked_at, 4, u64::from(contact.read_marked));
+    put::put_be(out, contiguous_at, 4, u64::from(contact.contiguous))
 }
 
 // The three lists of numbers.
-fn put_lists(
-    out: &mut [u8],
-    at: usize,
-    contact: Contact,
-    above: &[u32],
-    unacked: &[u32],
-    expired: &[u32],
-) -> usize
-    requires { NumbersLent contact (lists [] [] above.now unacked.now expired.now) × (at + (6 + 8 * contact.above + 4 * contact.unacked + 8 * contact.expired) ≤ length out.old) }
+fn put_lists(out: &mut [u8], at: usize, contact: Contact, lists: ListsRef<'_>) -> usize
+    requires { NumbersLent contact (read_in lists) × (at + (6 + 8 * contact.above + 4 * contact.unacked + 8 * contact.expired) ≤ length out.old) }
     ensures { (result ≡ at + (6 + 8 * contact.above + 4 * contact.unacked + 8 * contact.expired))
-        × Wrote out.old at (lists_image contact (lists [] [] above.now unacked.now expired.now)) out.new result }
+        × Wrote out.old at (lists_image contact (read_in lists.entry)) out.new result }
 {
-    let unacked_at = put_range_list(out, at, above, contact.above);
-    let expired_at = put_number_list(out, unacked_at, unacked, contact.unacked);
-    put_range_list(out, expired_at, expired, contact.expired)
+    let above_at = put_count(out, at, contact.above);
+    let unacked_count_at = contact_lent::put_ranges(out, above_at, lists.above, contact.above);
+    let unacked_at = put_count(out, unacked_count_at, contact.unacked);
+    let expired_count_at = contact_lent::put_numbers(
+        out,
+        unacked_at,
+        lists.unacked,
+        contact.unacked,
+    );
+    let expired_at = put_count(out, expired_count_at, contact.expired);
+    contact_lent::put_ranges(out, expired_at, lists.expired, contact.expired)
 }
 
 // The message numbers.
-fn put_numbers(
-    out: &mut [u8],
-    at: usize,
-    contact: Contact,
-    above: &[u32],
-    unacked: &[u32],
-    expired: &[u32],
-) -> usize
-    requires { NumbersLent contact (lists [] [] above.now unacked.now expired.now) × (at + (22 + 8 * contact.above + 4 * contact.unacked + 8 * contact.expired) ≤ length out.old) }
+fn put_numbers(out: &mut [u8], at: usize, contact: Contact, lists: ListsRef<'_>) -> usize
+    requires { NumbersLent contact (read_in lists) × (at + (22 + 8 * contact.above + 4 * contact.unacked + 8 * contact.expired) ≤ length out.old) }
     ensures { (result ≡ at + (22 + 8 * contact.above + 4 * contact.unacked + 8 * contact.expired))
-        × Wrote out.old at (print numbers (numbers_of contact (lists [] [] above.now unacked.now expired.now))) out.new result }
+        × Wrote out.old at (print numbers (numbers_of contact (read_in lists.entry))) out.new result }
 {
     let lists_at = put_counters(out, at, contact);
-    put_lists(out, lists_at, contact, above, unacked, expired)
+    put_lists(out, lists_at, contact, lists)
 }
 
 // What it awaits and sends, its chains and its skipped keys.
-fn put_chained(out: &mut [u8], at: usize, contact: Contact, chains: &[u8], skipped: &[u8]) -> usize
-    requires { ChainsLent contact (lists chains.now skipped.now [] [] []) × (at + length (chained_image contact (lists chains.now skipped.now [] [] [])) ≤ length out.old) }
-    ensures { (result ≡ at + length (chained_image contact (lists chains.now skipped.now [] [] [])))
-        × Wrote out.old at (chained_image contact (lists chains.now skipped.now [] [] [])) out.new result }
+#[tactic(auto, using(crate::proofs::Lengths::chained_long))]
+fn put_chained(out: &mut [u8], at: usize, contact: Contact, lists: ListsRef<'_>) -> usize
+    requires { ChainsLent contact (read_in lists) × (at + length (chained_image contact (read_in lists)) ≤ length out.old) }
+    ensures { (result ≡ at + length (chained_image contact (read_in lists.entry)))
+        × Wrote out.old at (chained_image contact (read_in lists.entry)) out.new result }
 {
+    lists_typed(lists);
     let send_at = put_pending(out, at, contact);
-    let chains_at = put_send(out, send_at, contact);
-    let skipped_at = put_chain_list(out, chains_at, chains, contact.chains);
-    put_skipped_list(out, skipped_at, skipped, contact.skipped)
+    let chain_count_at = put_send(out, send_at, contact);
+    let chains_at = put_count(out, chain_count_at, contact.chains);
+    let skipped_count_at = contact_lent::put_chains(out, chains_at, lists.chains, contact.chains);
+    let skipped_at = put_count(out, skipped_count_at, contact.skipped);
+    contact_lent::put_skipped(out, skipped_at, lists.skipped, contact.skipped)
 }
 
 // Stores the row at the front of a buffer with room for it; the length of the row.
-pub fn put_row(
-    out: &mut [u8],
-    contact: Contact,
-    chains: &[u8],
-    skipped: &[u8],
-    above: &[u32],
-    unacked: &[u32],
-    expired: &[u32],
-) -> usize
-    requires { Writable contact (lists chains.now skipped.now above.now unacked.now expired.now) out.old }
-    ensures { (result ≡ length (image contact (lists chains.now skipped.now above.now unacked.now expired.now))) × Wrote out.old 0 (image contact (lists chains.now skipped.now above.now unacked.now expired.now)) out.new result }
+pub fn put_row(out: &mut [u8], contact: Contact, lists: ListsRef<'_>) -> usize
+    requires { Writable contact (read_in lists) out.old }
+    ensures { (result ≡ length (image contact (read_in lists.entry))) × Wrote out.old 0 (image contact (read_in lists.entry)) out.new result }
 {
     let keys_at = put_paired(out, 0, contact);
     let chained_at = put_keys(out, keys_at, contact);
-    let numbers_at = put_chained(out, chained_at, contact, chains, skipped);
-    put_numbers(out, numbers_at, contact, above, unacked, expired)
+    let numbers_at = put_chained(out, chained_at, contact, lists);
+    put_numbers(out, numbers_at, contact, lists)
 }

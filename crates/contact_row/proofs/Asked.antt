@@ -1,9 +1,9 @@
 -- What a writer of contact rows is asked before the output, from the answers about the row's parts.
 -- Assumes nothing.
-use Prim.Native.Nat.{ℕ, zero, suc, ◌*◌, ◌/◌, ◌^◌, ◌≤◌, ◌<◌}
+use Prim.Native.Nat.{ℕ, zero, suc, ◌*◌, ◌^◌, ◌≤◌, ◌<◌}
 use Rattle.std.specs.Prelude as code
 use mathlib.Core.List.{List, [], append-nil}
-use mathlib.Core.Bool.{Bool, true, false, cond, ◌&&◌}
+use mathlib.Core.Bool.{Bool, true, false, cond}
 use mathlib.Core.Option.{Option, none, some}
 use mathlib.Core.Path.{◌≡◌, refl, sym, ap, ◌∙◌}
 use native.Mathlib.Omega.{arith}
@@ -30,16 +30,16 @@ use Rattle.contact_lent.specs.Lent.{size_of, Granted, chains_of, skipped_of, cha
 use Rattle.contact_lent.proofs.Laws.{chains-printed, skipped-printed}
 use Rattle.contact_parts.specs.Parts.{paired}
 use Rattle.contact.specs.Consistent.{inconsistency}
-use Rattle.contact.specs.Contact.{Lists}
+use Rattle.contact.specs.Contact.{Lists, lengths_of, counts_of}
 use Rattle.contact.specs.declared.Contact.{Contact}
 use Rattle.contact.specs.declared.SendChain.{SendChain}
 use Rattle.contact_image.specs.Row as spec
-use Rattle.numbers.specs.Lists.{within}
-use Rattle.contact_image.specs.Row.{counted, paired_of, pending_of, send_of, contact_in, image, asked_contact, ContactTyped, ListsTyped}
+use Rattle.numbers.specs.Lists as lists
+use Rattle.contact_image.specs.Row.{counted, paired_of, pending_of, send_of, contact_in, image, asked_contact, ContactTyped, ListsTyped, ChainsLent, NumbersLent}
 use Rattle.contact_image.proofs.Counts.{AllCounted, all-counted}
 use Rattle.contact_image.proofs.Fits.{paired-refusal}
 use Rattle.contact_image.proofs.Image.{paired-refused, chains-refused, skipped-refused, all_read}
-use Rattle.contact_image.proofs.Lengths.{paired_long, keys-long, pending-absent, pending-long, send-absent, send-long, chained-long, numbers-long, image-long}
+use Rattle.contact_image.proofs.Lengths.{paired_long, keys_long, pending_absent, pending_long, send_absent, send_long, chained_long, numbers_long, image_long}
 use Rattle.contact_row.specs.Sizes.{send_size, row_size}
 
 same_number : {p q : ℕ} → refuses p ≡ refuses q → p ≡ q
@@ -97,8 +97,7 @@ card-few c ty = rw (append-nil (print row.card (cards.value_of c.peer))) (card.p
 
 -- ---- question 36, as the code asks it
 module _ (c : Contact) (l : Lists) where
-  pub counted_is : {t : Bool} → t ≡ (within c.chains (length l.chains / 51) && within c.skipped (length l.skipped / 46) && within c.above (length l.above / 2)
-      && within c.unacked (length l.unacked) && within c.expired (length l.expired / 2)) → counted c l ≡ t
+  pub counted_is : {t : Bool} → t ≡ lists.counted (counts_of c) (lengths_of l) → counted c l ≡ t
   unfolding spec.counted
   counted_is e = sym e
 
@@ -106,7 +105,7 @@ module _ (c : Contact) (l : Lists) where
   unfolding spec.asked_contact
   not-counted e = rw e
 
-module _ (c : Contact) (ty : ContactTyped c) (l : Lists) (lt : ListsTyped l) where
+module _ {c : Contact} (ty : ContactTyped c) {l : Lists} (lt : ListsTyped l) where
   module _ (counts : counted c l ≡ true) where
     abbrev all : AllCounted c l
     all = all-counted c l counts
@@ -147,20 +146,27 @@ module _ (c : Contact) (ty : ContactTyped c) (l : Lists) (lt : ListsTyped l) whe
           pub whole : inconsistency (contact_in c l) ≡ none → asked_contact c l ≡ wrote (length (image c l))
           whole e = asks-row ∙ asked-yes (contact 3) (image c l) (row_read ∙ ap (λ (o : Option ℕ). said o (contact_in c l) []) e)
 
+          -- the items are all there
+          pub chains_lent : ChainsLent c l
+          chains_lent = record { chains_granted = chains; skipped_granted = skips; chains = all.chains.held; skipped = all.skipped.held }
+
+          pub numbers_lent : NumbersLent c l
+          numbers_lent = record { above = all.above.held; unacked = omega (arith, all.unacked.held); expired = all.expired.held }
+
           -- ---- the length
           pending-size : length ((optional (group pending)).print (pending_of c)) ≡ cond c.pending 65 1
           pending-size = go c.pending refl
             where
               go : (t : Bool) → c.pending ≡ t → length ((optional (group pending)).print (pending_of c)) ≡ cond t 65 1
-              go true e = pending-long c ty e
-              go false e = pending-absent c ty e
+              go true e = pending_long c ty e
+              go false e = pending_absent c ty e
 
           send-size : length ((optional (group send)).print (send_of c.send c.send_key)) ≡ send_size c.send
           send-size = go c.send refl
             where
               go : (s : code.Option SendChain) → c.send ≡ s → length ((optional (group send)).print (send_of c.send c.send_key)) ≡ send_size s
-              go code.None e = send-absent c ty e
-              go (code.Some s) e = send-long c ty e
+              go code.None e = send_absent c ty e
+              go (code.Some s) e = send_long c ty e
 
           chain-bytes-are : {n : ℕ} → n ≡ length (print_many (group chain) (chains_of c.chains l.chains)) → length (chains_bytes c.chains l.chains) ≡ n
           chain-bytes-are e = ap (λ (x : List ℕ). length x) (chains-printed c.chains l.chains chains.reads lt.chains all.chains.held).bytes ∙ sym e
@@ -179,7 +185,5 @@ module _ (c : Contact) (ty : ContactTyped c) (l : Lists) (lt : ListsTyped l) whe
 
           pub size_is : {card chains-len skipped-len : ℕ} → card ≡ length (cards.image c.peer) → chains-len ≡ length (print_many (group chain) (chains_of c.chains l.chains))
               → skipped-len ≡ length (print_many (group skipped) (skipped_of c.skipped l.skipped)) → row_size c card chains-len skipped-len ≡ length (image c l)
-          size_is {card} {chains-len} {skipped-len} e f g =
-              let chain-bytes = chain-bytes-are f in
-              let skipped-bytes = skipped-bytes-are g in
-              omega (arith, image-long c l, paired_long c ty, keys-long c ty, chained-long c l all.skipped.held, numbers-long c l all, pending-size, send-size)
+          size_is e f g =
+              omega (arith, image_long c l, paired_long c ty, keys_long c ty, chained_long c l lt chains_lent, numbers_long c l all, pending-size, send-size)

@@ -33,15 +33,15 @@ module _ (c : Contact) (ty : ContactTyped c) (l : Lists) (lt : ListsTyped l) whe
           → (x : Read (List value.Skipped)) → read_places 46 (group skipped) c.skipped l.skipped ≡ x → Writable c l out
       skips t a g (value ks rest) r = record { counts = t; name = asked-few c.peer ty.peer a; chains = g; skipped = granted 46 (group skipped) c.skipped l.skipped r; room = room }
       skips t a g (refused q) r =
-          absurd (wrote≢refuses (sym e ∙ bad-skipped c ty l lt t a g {q = q} (ap (λ (x : Read (List value.Skipped)). size_of (times (group skipped) c.skipped) x) r)))
+          absurd (wrote≢refuses (sym e ∙ bad-skipped ty lt t a g {q = q} (ap (λ (x : Read (List value.Skipped)). size_of (times (group skipped) c.skipped) x) r)))
 
       chains : (t : counted c l ≡ true) {k : ℕ} → asked card_row (cards.image c.peer) ≡ wrote k → (x : Read (List value.Chain)) → read_places 51 (group chain) c.chains l.chains ≡ x → Writable c l out
       chains t a (value cs rest) r = skips t a (granted 51 (group chain) c.chains l.chains r) (read_places 46 (group skipped) c.skipped l.skipped) refl
-      chains t a (refused q) r = absurd (wrote≢refuses (sym e ∙ bad-chains c ty l lt t a {q = q} (ap (λ (x : Read (List value.Chain)). size_of (times (group chain) c.chains) x) r)))
+      chains t a (refused q) r = absurd (wrote≢refuses (sym e ∙ bad-chains ty lt t a {q = q} (ap (λ (x : Read (List value.Chain)). size_of (times (group chain) c.chains) x) r)))
 
       card : counted c l ≡ true → (x : Written) → asked card_row (cards.image c.peer) ≡ x → Writable c l out
       card t (wrote k) a = chains t a (read_places 51 (group chain) c.chains l.chains) refl
-      card t (refuses q) a = absurd (wrote≢refuses (sym e ∙ bad-card c ty l lt t {q = q} a))
+      card t (refuses q) a = absurd (wrote≢refuses (sym e ∙ bad-card ty lt t {q = q} a))
 
       counts : (t : Bool) → counted c l ≡ t → Writable c l out
       counts true t = card t (asked card_row (cards.image c.peer)) refl

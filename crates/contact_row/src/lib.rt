@@ -6,12 +6,12 @@ ghost use Rattle.layout.specs.Says.{written_says, leaves};
 ghost use Rattle.received.specs.Lent.{pairs};
 ghost use Rattle.contact_lent.specs.Lent.{chains_of, skipped_of};
 ghost use Rattle.contact.specs.Consistent.{chains_refusal, numbers_refusal, inconsistency, refusal_in};
-ghost use Rattle.contact.specs.Contact.{lists, counts_of};
-ghost use Rattle.numbers.specs.Lists.{counts, within, counted};
+ghost use Rattle.contact.specs.Contact.{lists, read_in, lengths_of, counts_of};
+ghost use Rattle.numbers.specs.Lists.{within, counted};
 ghost use Rattle.contact_image.specs.Row.{ChainsLent, NumbersLent, contact_in, asked_contact, writes_contact};
 ghost use Rattle.contact_row.specs.Sizes.{send_size, row_size};
 
-use contact::{Contact, SendChain};
+use contact::{Contact, ListsRef, SendChain};
 use layout::Question;
 
 // The most items that a count of a row says.
@@ -24,22 +24,19 @@ fn within(count: usize, items: usize) -> bool
     count <= items && count <= MAX_COUNT
 }
 
-// Question 36, of lists of these lengths.
-fn counts_fit(
-    contact: Contact,
-    chains: usize,
-    skipped: usize,
-    above: usize,
-    unacked: usize,
-    expired: usize,
-) -> bool
-    ensures { result ≡ counted (counts_of contact) (counts chains skipped above unacked expired) }
+// Question 36, of all five lists.
+fn counts_fit(contact: Contact, lists: ListsRef<'_>) -> bool
+    ensures { result ≡ counted (counts_of contact) (lengths_of (read_in lists.entry)) }
 {
-    within(contact.chains, chains / contact_lent::CHAIN_PLACE)
-        && within(contact.skipped, skipped / contact_lent::SKIPPED_PLACE)
-        && within(contact.above, above / 2)
-        && within(contact.unacked, unacked)
-        && within(contact.expired, expired / 2)
+    within(
+        contact.chains,
+        lists.chains.len() / contact_lent::CHAIN_PLACE,
+    ) && within(
+        contact.skipped,
+        lists.skipped.len() / contact_lent::SKIPPED_PLACE,
+    ) && within(contact.above, lists.above.len() / 2)
+        && within(contact.unacked, lists.unacked.len())
+        && within(contact.expired, lists.expired.len() / 2)
 }
 
 // Questions 54 and 17 to 20, of lent chains and skipped keys that no question refused.
@@ -67,28 +64,24 @@ fn chains_consistent(contact: Contact, chains: &[u8], skipped: &[u8]) -> Result<
 }
 
 // Questions 21 to 24, of lent numbers.
-fn numbers_consistent(
-    contact: Contact,
-    above: &[u32],
-    unacked: &[u32],
-    expired: &[u32],
-) -> Result<(), Question>
-    requires { NumbersLent contact (lists [] [] above.now unacked.now expired.now) }
+fn numbers_consistent(contact: Contact, lists: ListsRef<'_>) -> Result<(), Question>
+    requires { NumbersLent contact (read_in lists) }
     ensures { refusal_in result ≡ numbers_refusal contact.sent_msgno contact.peer_acked contact.contiguous
-        (pairs contact.above above.now) (take contact.unacked unacked.now) (pairs contact.expired expired.now) }
+        (pairs contact.above lists.entry.above.now) (take contact.unacked lists.entry.unacked.now) (pairs contact.expired lists.entry.expired.now) }
 {
+    contact_image::lists_typed(lists);
     let sent = contact.sent_msgno;
     if sent < contact.peer_acked {
         return Err(Question::PeerAcked);
     }
-    if !contact_checks::rising_lent(unacked, contact.unacked, sent) {
+    if !contact_checks::rising_lent(lists.unacked, contact.unacked, sent) {
         return Err(Question::Unacked);
     }
-    let from = width::wide(contact.contiguous) + 2;
-    if !contact_checks::canonical_lent(above, contact.above, from, u32::MAX) {
+    let from = u64::from(contact.contiguous) + 2;
+    if !contact_checks::canonical_lent(lists.above, contact.above, from, u32::MAX) {
         return Err(Question::Above);
     }
-    if !contact_checks::canonical_lent(expired, contact.expired, 1, sent) {
+    if !contact_checks::canonical_lent(lists.expired, contact.expired, 1, sent) {
         return Err(Question::Expired);
     }
     Ok(())
@@ -115,67 +108,44 @@ fn row_size(contact: Contact, card: usize, chains: usize, skipped: usize) -> usi
 }
 
 // 54 and 17 to 24.
-fn consistent_lent(
-    contact: Contact,
-    chains: &[u8],
-    skipped: &[u8],
-    above: &[u32],
-    unacked: &[u32],
-    expired: &[u32],
-) -> Result<(), Question>
-    requires { ChainsLent contact (lists chains.now skipped.now [] [] []) × NumbersLent contact (lists [] [] above.now unacked.now expired.now) }
-    ensures { refusal_in result ≡ inconsistency (contact_in contact (lists chains.now skipped.now above.now unacked.now expired.now)) }
+fn consistent_lent(contact: Contact, lists: ListsRef<'_>) -> Result<(), Question>
+    requires { ChainsLent contact (read_in lists) × NumbersLent contact (read_in lists) }
+    ensures { refusal_in result ≡ inconsistency (contact_in contact (read_in lists.entry)) }
 {
-    chains_consistent(contact, chains, skipped)?;
-    numbers_consistent(contact, above, unacked, expired)
+    chains_consistent(contact, lists.chains, lists.skipped)?;
+    numbers_consistent(contact, lists)
 }
 
 // The row's length, or the question that is a no: 36, and then what reading the row would ask.
-pub fn contact_size(
-    contact: Contact,
-    chains: &[u8],
-    skipped: &[u8],
-    above: &[u32],
-    unacked: &[u32],
-    expired: &[u32],
-) -> Result<usize, Question>
-    ensures { written_says result ≡ asked_contact contact (lists chains.now skipped.now above.now unacked.now expired.now) }
+pub fn contact_size(contact: Contact, lists: ListsRef<'_>) -> Result<usize, Question>
+    ensures { written_says result ≡ asked_contact contact (read_in lists.entry) }
 {
     contact_image::typed(contact);
-    if !counts_fit(
-        contact,
-        chains.len(),
-        skipped.len(),
-        above.len(),
-        unacked.len(),
-        expired.len(),
-    ) {
+    contact_image::lists_typed(lists);
+    if !counts_fit(contact, lists) {
         return Err(Question::Lists);
     }
     let card = card::card_size(contact.peer)?;
-    let chain_bytes = contact_lent::chains_size(chains, contact.chains)?;
-    let skipped_bytes = contact_lent::skipped_size(skipped, contact.skipped)?;
-    consistent_lent(contact, chains, skipped, above, unacked, expired)?;
+    let chain_bytes = contact_lent::chains_size(lists.chains, contact.chains)?;
+    let skipped_bytes = contact_lent::skipped_size(lists.skipped, contact.skipped)?;
+    consistent_lent(contact, lists)?;
     Ok(row_size(contact, card, chain_bytes, skipped_bytes))
 }
 
 // Writes the row to the front of the output. A refusal writes nothing.
 pub fn write_contact(
     contact: Contact,
-    chains: &[u8],
-    skipped: &[u8],
-    above: &[u32],
-    unacked: &[u32],
-    expired: &[u32],
+    lists: ListsRef<'_>,
     out: &mut [u8],
 ) -> Result<usize, Question>
-    ensures { leaves result out.new ≡ writes_contact contact (lists chains.now skipped.now above.now unacked.now expired.now) out.old }
+    ensures { leaves result out.new ≡ writes_contact contact (read_in lists.entry) out.old }
 {
     contact_image::typed(contact);
-    let n = contact_size(contact, chains, skipped, above, unacked, expired)?;
+    contact_image::lists_typed(lists);
+    let n = contact_size(contact, lists)?;
     if out.len() < n {
         return Err(Question::Output);
     }
-    contact_image::put_row(out, contact, chains, skipped, above, unacked, expired);
+    contact_image::put_row(out, contact, lists);
     Ok(n)
 }

@@ -3,7 +3,7 @@ use super::{Asked, Script};
 use ascii::first;
 use calls_session::Session;
 use calls_step::Mark;
-use contact::Contact;
+use contact::{Contact, ListsRef};
 use failure::fail;
 use layout::Question;
 use rows::ContactId;
@@ -47,9 +47,14 @@ fn opened_state(
 ) -> Result<usize, Question> {
     // Kept: fixed memory, so a row is written to a local array
     let mut row = [0u8; 131072];
-    let size = contact_row::write_contact(
-        contact, chains, skipped, above, unacked, expired, &mut row,
-    );
+    let lists = ListsRef {
+        chains,
+        skipped,
+        above,
+        unacked,
+        expired,
+    };
+    let size = contact_row::write_contact(contact, lists, &mut row);
     match size {
         Ok(n) => replay_answer::state_line(id, first(&row, n), above, written, line),
         Err(refusal) => replay_answer::number_line(b"no ", u64::from(refusal.number()), line),

@@ -3,6 +3,7 @@ ghost use Rattle.std.specs.Prelude.{◌≤◌};
 
 use super::{ABOVE, Asked, CHAINS, EXPIRED, SKIPPED, Script, UNACKED, at_most};
 use ascii::first;
+use contact::ListsMut;
 use layout::Question;
 use replay_script::Command;
 use sheet::State;
@@ -177,16 +178,14 @@ fn read_contact(version: u32, word: &[u8], row: &[u8], out: &mut [u8]) -> Result
     let a = 2 * at_most(ascii::number(word, b',', 2), ABOVE);
     let u = at_most(ascii::number(word, b',', 3), UNACKED);
     let e = 2 * at_most(ascii::number(word, b',', 4), EXPIRED);
-    rewrite::rewrite_contact(
-        version,
-        row,
-        &mut chains[0..c],
-        &mut skipped[0..k],
-        &mut above[0..a],
-        &mut unacked[0..u],
-        &mut expired[0..e],
-        out,
-    )
+    let mut lists = ListsMut {
+        chains: &mut chains[0..c],
+        skipped: &mut skipped[0..k],
+        above: &mut above[0..a],
+        unacked: &mut unacked[0..u],
+        expired: &mut expired[0..e],
+    };
+    rewrite::rewrite_contact(version, row, &mut lists, out)
 }
 
 // What reading a row and writing it again answers.

@@ -7,11 +7,11 @@ ghost use Rattle.layout.specs.Write.{writes};
 ghost use Rattle.rows.specs.Rows.{device, queued, courier, contact};
 ghost use Rattle.layout.specs.Says.{written_says, leaves};
 ghost use Rattle.layout.specs.Questions.{number_of};
-ghost use Rattle.contact.specs.Contact.{lists, lists_before, lists_after};
+ghost use Rattle.contact.specs.Contact.{read_in, held_in, SameLists};
 ghost use Rattle.rewrite.specs.Rewrite as spec;
 ghost use Rattle.rewrite.specs.Rewrite.{without_room, rewrites};
 
-use contact::Contact;
+use contact::{Contact, ListsMut, ListsRef};
 use layout::Question;
 
 pub fn rewrite_device(version: u32, row: &[u8], out: &mut [u8]) -> Result<usize, Question>
@@ -37,29 +37,14 @@ pub fn rewrite_courier(version: u32, row: &[u8], out: &mut [u8]) -> Result<usize
 }
 
 // The refusal where the output is too short for the row: what reading it asks, 36, then 40.
-fn without_room(
-    version: u32,
-    row: &[u8],
-    chains: &[u8],
-    skipped: &[u8],
-    above: &[u32],
-    unacked: &[u32],
-    expired: &[u32],
-) -> Question
-    ensures { number_of result ≡ without_room (read_row (contact version) row.now) (lists chains.now skipped.now above.now unacked.now expired.now) }
+fn without_room(version: u32, row: &[u8], lists: ListsRef<'_>) -> Question
+    ensures { number_of result ≡ without_room (read_row (contact version) row.now) (read_in lists.entry) }
 {
     let at = match contact::check_contact(version, row) {
         Ok(at) => at,
         Err(refusal) => return refusal,
     };
-    if contact::long_enough(
-        at,
-        chains.len(),
-        skipped.len(),
-        above.len(),
-        unacked.len(),
-        expired.len(),
-    ) {
+    if contact::long_enough(at, lists) {
         return Question::Output;
     }
     Question::Lists
@@ -69,19 +54,14 @@ fn without_room(
 pub fn rewrite_contact(
     version: u32,
     row: &[u8],
-    chains: &mut [u8],
-    skipped: &mut [u8],
-    above: &mut [u32],
-    unacked: &mut [u32],
-    expired: &mut [u32],
+    lists: &mut ListsMut<'_>,
     out: &mut [u8],
 ) -> Result<usize, Question>
-    ensures { spec.leaves (written_says result) (lists_after chains skipped above unacked expired) out.new
-        ≡ rewrites version row.now (lists_before chains skipped above unacked expired) out.old }
+    ensures { (spec.leaves (written_says result) (held_in lists.new) out.new ≡ rewrites version row.now (held_in lists.old) out.old) × SameLists lists.old lists.new }
 {
     if out.len() < row.len() {
-        return Err(without_room(version, row, chains, skipped, above, unacked, expired));
+        return Err(without_room(version, row, lists.read()));
     }
-    let contact = Contact::decode(version, row, chains, skipped, above, unacked, expired)?;
-    contact_row::write_contact(contact, chains, skipped, above, unacked, expired, out)
+    let contact = Contact::decode(version, row, lists)?;
+    contact_row::write_contact(contact, lists.read(), out)
 }

@@ -6,6 +6,7 @@ ghost use Rattle.std.specs.Prelude.{◌≡◌, ◌+◌, ◌*◌, ◌<◌, ◌≤
 ghost use Rattle.sheet_entries.specs.Table as tables;
 
 use card::Card;
+use contact::ListsMut;
 use layout::Question;
 use restore::Restored;
 use sheet::RECORD;
@@ -196,16 +197,14 @@ fn contact_again(version: u32, row: &[u8], again: &mut [u8]) -> Result<usize, Qu
     let mut above = [0u32; 512];
     let mut unacked = [0u32; 512];
     let mut expired = [0u32; 512];
-    rewrite::rewrite_contact(
-        version,
-        row,
-        &mut chains,
-        &mut skipped,
-        &mut above,
-        &mut unacked,
-        &mut expired,
-        again,
-    )
+    let mut lists = ListsMut {
+        chains: &mut chains,
+        skipped: &mut skipped,
+        above: &mut above,
+        unacked: &mut unacked,
+        expired: &mut expired,
+    };
+    rewrite::rewrite_contact(version, row, &mut lists, again)
 }
 
 // Reads a row of the letter's kind and writes it again.

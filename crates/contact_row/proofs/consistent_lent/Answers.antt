@@ -4,6 +4,11 @@ use mathlib.Core.Path.{sym}
 use Rattle.contact.proofs.Consistent.{stands, goes_on}
 use Rattle.contact_row.proofs.consistent_lent.Goals as goal
 
+pub chains_consistent-requires : goal.chains_consistent-requires
+chains_consistent-requires c =
+    let lent = c.requires.0 in
+    record { chains_granted = lent.chains_granted; skipped_granted = lent.skipped_granted; chains = lent.chains; skipped = lent.skipped }
+
 pub returns-in_err-chains_consistent : goal.returns-in_err-chains_consistent
 returns-in_err-chains_consistent c =
     let no : c.from_residual.result ≡ Err c.in_err-chains_consistent.field-0.0 = search rules in

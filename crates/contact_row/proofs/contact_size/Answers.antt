@@ -1,103 +1,90 @@
 -- `contact_row::contact_size` meets its contract: 36, the card, the places, 54 and 17 to 24, and then the length.
-use Rattle.std.proofs.Common.{rules, ◌≡◌, true, Err, length, arith}
+use Rattle.std.proofs.Common.{rules, ◌≡◌, true, Err, length}
 use mathlib.Core.Path.{sym, ap, ◌∙◌}
 use Rattle.layout.specs.Form.{print_many}
 use Rattle.layout.specs.Layout.{group}
 use Rattle.layout.specs.Write.{wrote}
-use Rattle.layout.proofs.At.{typed}
 use Rattle.layout.proofs.Write.{asked-length}
 use Rattle.rows.specs.Rows.{card_row, chain, skipped}
 use Rattle.card.specs.Card as cards
 use Rattle.contact_lent.specs.Lent.{Granted, chains_of, skipped_of}
 use Rattle.contact_lent.proofs.Offsets.{size-granted}
-use Rattle.contact.specs.Contact.{Lists, lists}
-use Rattle.contact_image.specs.Row.{counted, ListsTyped}
+use Rattle.contact.specs.Contact.{read_in}
+use Rattle.contact_image.specs.Row.{counted}
 use Rattle.contact_image.proofs.Counts.{all-counted}
-use Rattle.contact_row.proofs.Asked.{counted_is, not-counted, bad-card, bad-chains, bad-skipped, inconsistent, whole, size_is, sizes-few}
+use Rattle.contact_row.proofs.Asked.{counted_is, not-counted, bad-card, bad-chains, bad-skipped, inconsistent, whole, chains_lent, numbers_lent, size_is, sizes-few}
 use Rattle.contact_row.proofs.contact_size.Goals as goal
 use Rattle.contact_row.proofs.contact_size.Goals.{Else-not-counts_fit, In_ok-card, In_ok-chain_bytes, In_ok-skipped_bytes}
 
--- ---- what is known so far: the types, 36, and the lengths of the card, the chains and the skipped keys
-abbrev lent : Else-not-counts_fit → Lists
-lent c = lists c.args.chains.now c.args.skipped.now c.args.above.now c.args.unacked.now c.args.expired.now
-
-bytes : (c : Else-not-counts_fit) → ListsTyped (lent c)
-bytes c = record {
-  chains = typed c.args.chains.now c.type_inv.chains;
-  skipped = typed c.args.skipped.now c.type_inv.skipped;
-  above = λ i. (c.type_inv.above i).fits;
-  unacked = λ i. (c.type_inv.unacked i).fits;
-  expired = λ i. (c.type_inv.expired i).fits;
-}
-
-counts : (c : Else-not-counts_fit) → counted c.args.contact (lent c) ≡ true
-counts c = counted_is c.args.contact (lent c) c.counts_fit.ensures ∙ c.if-not-counts_fit.false
+-- ---- what is known so far: 36, and the lengths of the card, the chains and the skipped keys
+counts : (c : Else-not-counts_fit) → counted c.args.contact (read_in c.args.lists) ≡ true
+counts c = counted_is c.args.contact (read_in c.args.lists) c.counts_fit.ensures ∙ c.if-not-counts_fit.false
 
 card_is : (c : In_ok-card) → c.in_ok-card.card ≡ length (cards.image c.args.contact.peer)
 card_is c = asked-length card_row (cards.image c.args.contact.peer) (sym c.in_ok-card.ensures)
 
-chains : (c : In_ok-chain_bytes) → Granted 51 (group chain) c.args.contact.chains c.args.chains.now × (c.in_ok-chain_bytes.chain_bytes ≡ length (print_many (group chain) (chains_of c.args.contact.chains c.args.chains.now)))
-chains c = size-granted 51 (group chain) c.args.contact.chains c.args.chains.now (sym c.in_ok-chain_bytes.ensures)
+chains : (c : In_ok-chain_bytes) → Granted 51 (group chain) c.args.contact.chains c.args.lists.chains.now
+    × (c.in_ok-chain_bytes.chain_bytes ≡ length (print_many (group chain) (chains_of c.args.contact.chains c.args.lists.chains.now)))
+chains c = size-granted 51 (group chain) c.args.contact.chains c.args.lists.chains.now (sym c.in_ok-chain_bytes.ensures)
 
-skips : (c : In_ok-skipped_bytes) → Granted 46 (group skipped) c.args.contact.skipped c.args.skipped.now × (c.in_ok-skipped_bytes.skipped_bytes ≡ length (print_many (group skipped) (skipped_of c.args.contact.skipped c.args.skipped.now)))
-skips c = size-granted 46 (group skipped) c.args.contact.skipped c.args.skipped.now (sym c.in_ok-skipped_bytes.ensures)
+skips : (c : In_ok-skipped_bytes) → Granted 46 (group skipped) c.args.contact.skipped c.args.lists.skipped.now
+    × (c.in_ok-skipped_bytes.skipped_bytes ≡ length (print_many (group skipped) (skipped_of c.args.contact.skipped c.args.lists.skipped.now)))
+skips c = size-granted 46 (group skipped) c.args.contact.skipped c.args.lists.skipped.now (sym c.in_ok-skipped_bytes.ensures)
 
 -- ---- the answers
 pub returns-then-not-counts_fit : goal.returns-then-not-counts_fit
-returns-then-not-counts_fit c =
-    let lent : Lists = lists c.args.chains.now c.args.skipped.now c.args.above.now c.args.unacked.now c.args.expired.now in
-    sym (not-counted c.args.contact lent (counted_is c.args.contact lent c.counts_fit.ensures ∙ c.if-not-counts_fit.true))
+returns-then-not-counts_fit c = sym (not-counted _ _ (counted_is c.args.contact (read_in c.args.lists) c.counts_fit.ensures ∙ c.if-not-counts_fit.true))
 
 pub returns-in_err-card : goal.returns-in_err-card
 returns-in_err-card c =
-    let k = (goal.at.returns-in_err-card c).Else-not-counts_fit in
+    let counts = counts (goal.at.returns-in_err-card c).Else-not-counts_fit in
     let no : c.from_residual.result ≡ Err c.in_err-card.field-0.0 = search rules in
-    rw no (sym (bad-card c.args.contact c.typed.ensures.1 (lent k) (bytes k) (counts k) (sym c.in_err-card.ensures)))
+    rw no (sym (bad-card c.typed.ensures.1 c.lists_typed.ensures.1 counts (sym c.in_err-card.ensures)))
 
 pub returns-in_err-chain_bytes : goal.returns-in_err-chain_bytes
 returns-in_err-chain_bytes c =
-    let k = (goal.at.returns-in_err-chain_bytes c).Else-not-counts_fit in
+    let counts = counts (goal.at.returns-in_err-chain_bytes c).Else-not-counts_fit in
     let no : c.from_residual-in_err-chain_bytes.result ≡ Err c.in_err-chain_bytes.field-0.0 = search rules in
-    rw no (sym (bad-chains c.args.contact c.typed.ensures.1 (lent k) (bytes k) (counts k) (sym c.in_ok-card.ensures) (sym c.in_err-chain_bytes.ensures)))
+    rw no (sym (bad-chains c.typed.ensures.1 c.lists_typed.ensures.1 counts (sym c.in_ok-card.ensures) (sym c.in_err-chain_bytes.ensures)))
 
 pub returns-in_err-skipped_bytes : goal.returns-in_err-skipped_bytes
 returns-in_err-skipped_bytes c =
     let g = goal.at.returns-in_err-skipped_bytes c in
-    let k = g.Else-not-counts_fit in
     let no : c.from_residual-in_err-skipped_bytes.result ≡ Err c.in_err-skipped_bytes.field-0.0 = search rules in
-    rw no (sym (bad-skipped c.args.contact c.typed.ensures.1 (lent k) (bytes k) (counts k) (sym c.in_ok-card.ensures) (chains g.In_ok-chain_bytes).0 (sym c.in_err-skipped_bytes.ensures)))
+    rw no (sym (bad-skipped c.typed.ensures.1 c.lists_typed.ensures.1 (counts g.Else-not-counts_fit) (sym c.in_ok-card.ensures) (chains g.In_ok-chain_bytes).0 (sym c.in_err-skipped_bytes.ensures)))
 
 pub consistent_lent-requires : goal.consistent_lent-requires
 consistent_lent-requires c =
     let g = goal.at.consistent_lent-requires c in
-    let all = all-counted c.args.contact (lent g.Else-not-counts_fit) (counts g.Else-not-counts_fit) in (
-      record { chains_granted = (chains g.In_ok-chain_bytes).0; skipped_granted = (skips g.In_ok-skipped_bytes).0; chains = all.chains.held; skipped = all.skipped.held },
-      record { above = all.above.held; unacked = omega (arith, all.unacked.held); expired = all.expired.held },
-    )
+    let counts = counts g.Else-not-counts_fit in
+    let asked = sym c.in_ok-card.ensures in
+    let chains = (chains g.In_ok-chain_bytes).0 in
+    let skips = (skips g.In_ok-skipped_bytes).0 in
+    (chains_lent c.typed.ensures.1 c.lists_typed.ensures.1 counts asked chains skips, numbers_lent c.typed.ensures.1 c.lists_typed.ensures.1 counts asked chains skips)
 
 pub returns-in_err-consistent_lent : goal.returns-in_err-consistent_lent
 returns-in_err-consistent_lent c =
     let g = goal.at.returns-in_err-consistent_lent c in
-    let k = g.Else-not-counts_fit in
     let no : c.from_residual-in_err-consistent_lent.result ≡ Err c.in_err-consistent_lent.field-0.0 = search rules in
     rw no
-    (sym (inconsistent c.args.contact c.typed.ensures.1 (lent k) (bytes k) (counts k) (sym c.in_ok-card.ensures) (chains g.In_ok-chain_bytes).0 (skips g.In_ok-skipped_bytes).0 (sym c.in_err-consistent_lent.ensures)))
+    (sym (inconsistent c.typed.ensures.1 c.lists_typed.ensures.1 (counts g.Else-not-counts_fit) (sym c.in_ok-card.ensures) (chains g.In_ok-chain_bytes).0 (skips g.In_ok-skipped_bytes).0 (sym c.in_err-consistent_lent.ensures)))
 
 pub row_size-requires : goal.row_size-requires
 row_size-requires c =
     let g = goal.at.row_size-requires c in
-    let k = g.Else-not-counts_fit in
+    let counts = counts g.Else-not-counts_fit in
     let chains = chains g.In_ok-chain_bytes in
     let skips = skips g.In_ok-skipped_bytes in
-    let all = all-counted c.args.contact (lent k) (counts k) in
-    let few = sizes-few c.args.contact c.typed.ensures.1 (lent k) (bytes k) (counts k) (sym c.in_ok-card.ensures) chains.0 skips.0 (card_is g.In_ok-card) chains.1 skips.1 in
+    let all = all-counted c.args.contact (read_in c.args.lists) counts in
+    let few = sizes-few c.typed.ensures.1 c.lists_typed.ensures.1 counts (sym c.in_ok-card.ensures) chains.0 skips.0 (card_is g.In_ok-card) chains.1 skips.1 in
     (few.0, few.1, few.2, all.above.few, all.unacked.few, all.expired.few)
 
 pub returns : goal.returns
 returns c =
     let g = goal.at.returns c in
-    let k = g.Else-not-counts_fit in
+    let counts = counts g.Else-not-counts_fit in
+    let asked = sym c.in_ok-card.ensures in
     let chains = chains g.In_ok-chain_bytes in
     let skips = skips g.In_ok-skipped_bytes in
-    ap wrote (c.row_size.ensures ∙ size_is c.args.contact c.typed.ensures.1 (lent k) (bytes k) (counts k) (sym c.in_ok-card.ensures) chains.0 skips.0 (card_is g.In_ok-card) chains.1 skips.1)
-    ∙ sym (whole c.args.contact c.typed.ensures.1 (lent k) (bytes k) (counts k) (sym c.in_ok-card.ensures) chains.0 skips.0 (sym c.in_ok-consistent_lent.ensures))
+    ap wrote (c.row_size.ensures ∙ size_is c.typed.ensures.1 c.lists_typed.ensures.1 counts asked chains.0 skips.0 (card_is g.In_ok-card) chains.1 skips.1)
+    ∙ sym (whole c.typed.ensures.1 c.lists_typed.ensures.1 counts asked chains.0 skips.0 (sym c.in_ok-consistent_lent.ensures))

@@ -2,10 +2,9 @@
 use Rattle.std.proofs.Common.{rules, ◌≡◌, ℕ, List, Ok, Err, arith}
 use mathlib.Core.Path.{sym, ap, ◌∙◌}
 use Rattle.layout.specs.Says.{leaves}
-use Rattle.layout.proofs.At.{typed}
 use Rattle.put.proofs.Put.{put_front}
-use Rattle.contact.specs.Contact.{Lists, lists}
-use Rattle.contact_image.specs.Row.{image, ListsTyped}
+use Rattle.contact.specs.Contact.{read_in}
+use Rattle.contact_image.specs.Row.{image}
 use Rattle.contact_row.proofs.Written.{writable, length-is, left-refused, left-short, left-row}
 use Rattle.contact_row.proofs.write_contact.Goals as goal
 
@@ -19,19 +18,12 @@ returns-then-out-n c = sym (left-short c.args.contact _ c.args.out.now (sym c.in
 
 pub put_row-requires : goal.put_row-requires
 put_row-requires c =
-    let lent : Lists = lists c.args.chains.now c.args.skipped.now c.args.above.now c.args.unacked.now c.args.expired.now in
-    let bytes : ListsTyped lent = record {
-      chains = typed c.args.chains.now c.type_inv.chains;
-      skipped = typed c.args.skipped.now c.type_inv.skipped;
-      above = λ i. (c.type_inv.above i).fits;
-      unacked = λ i. (c.type_inv.unacked i).fits;
-      expired = λ i. (c.type_inv.expired i).fits;
-    } in
-    writable c.args.contact c.typed.ensures.1 lent bytes c.args.out.now (sym c.in_ok-n.ensures) (omega (arith, length-is c.args.contact lent c.args.out.now (sym c.in_ok-n.ensures)))
+    let n = length-is c.args.contact (read_in c.args.lists) c.args.out.now (sym c.in_ok-n.ensures) in
+    writable c.args.contact c.typed.ensures.1 (read_in c.args.lists) c.lists_typed.ensures.1 c.args.out.now (sym c.in_ok-n.ensures) (omega arith)
 
 pub returns : goal.returns
 returns c =
-    let lent : Lists = lists c.args.chains.now c.args.skipped.now c.args.above.now c.args.unacked.now c.args.expired.now in
+    let lent = read_in c.args.lists in
     let n = length-is c.args.contact lent c.args.out.now (sym c.in_ok-n.ensures) in
     ap (λ (l : List ℕ). leaves (Ok c.in_ok-n.n) l) (c.put_row.ensures.1.now-is ∙ put_front c.args.out.now (image c.args.contact lent) (omega arith))
     ∙ sym (left-row c.args.contact lent c.args.out.now (sym c.in_ok-n.ensures) c.if-out-n.false)

@@ -5,7 +5,7 @@ use Rattle.layout.specs.Layout.{accepted, read_row}
 use Rattle.layout.proofs.At.{typed}
 use Rattle.rows.specs.Rows.{contact}
 use Rattle.contact.specs.Check.{contact_from}
-use Rattle.contact.specs.Contact.{lists, long_enough}
+use Rattle.contact.specs.Contact.{read_in, long_enough}
 use Rattle.contact.proofs.Placed.{placed, unplaced}
 use Rattle.contact.proofs.Read.{counts-are}
 use Rattle.rewrite.proofs.without_room.Goals as goal
@@ -13,7 +13,7 @@ use Rattle.rewrite.proofs.without_room.Goals.{After-long_enough}
 
 -- 36 is asked of the row's counts
 enough : (c : After-long_enough) → (read_row (contact c.args.version) c.args.row.now ≡ accepted (contact_from c.args.row.now c.in-Ok.at))
-    × (long_enough (contact_from c.args.row.now c.in-Ok.at) (lists c.args.chains.now c.args.skipped.now c.args.above.now c.args.unacked.now c.args.expired.now) ≡ c.long_enough.result)
+    × (long_enough (contact_from c.args.row.now c.in-Ok.at) (read_in c.args.lists) ≡ c.long_enough.result)
 enough c =
     let by = typed c.args.row.now c.type_inv.row in
     let its = placed c.args.row.now by c.args.version (rw c.in-Ok.is at c.check_contact.ensures) in
