@@ -39,6 +39,7 @@ fn answer_of(restored: Result<Granted, Refusal>) -> RestoreAnswer
     }
 }
 
+// Kept: the C interface needs it: C lends the run and the entries each by a pointer and a length.
 #[unsafe(no_mangle)]
 pub extern "C" fn sicklestar_restore(run: &[u8], entries: &[Entry]) -> RestoreAnswer
     ensures { result ≡ answer_of (answered (restore (store_of run.now entries.now))) }

@@ -334,6 +334,7 @@ fn kind_turn(
     requires { Searchable (part_of run.now c) owner }
     ensures { turn_says i result ≡ entry_turn_as (kind_of e.kind) run.now e c i p first owner w }
 {
+    // Kept: the new form is no plainer: a kind is a number that C lends, and a table of turns would stand for these arms
     match e.kind {
         store::DEVICE => Ok(device_turn(run, e, w)),
         store::CONTACT => contact_turn(e, i, first, w),

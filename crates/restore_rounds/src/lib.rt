@@ -54,6 +54,7 @@ fn courier_verdict(version: u32, row: &[u8]) -> Result<(), Question>
 fn row_verdict(kind: u32, version: u32, row: &[u8]) -> Result<(), Question>
     ensures { verdict_in result ≡ refusal_in (read_row (layout_of (kind_of kind) version) row.now) }
 {
+    // Kept: the new form is no plainer: a kind is a number that C lends, and a table of checks would stand for these arms
     match kind {
         store::DEVICE => device_verdict(version, row),
         store::CONTACT => contact_verdict(version, row),
@@ -91,6 +92,7 @@ fn verdict(
 ) -> Result<(), Question>
     ensures { verdict_in result ≡ round_asks run.now omitted before e round i }
 {
+    // Kept: the new form is no plainer: a closure for each round would say in a contract of its own what `round_asks` says once
     match round {
         Round::Order => ask(Question::Order, in_order(i, before.kind, e.kind)),
         Round::Bounds => ask(Question::Bounds, store::is_within(e, run.len())),
