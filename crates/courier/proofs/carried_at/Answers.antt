@@ -1,6 +1,6 @@
 -- `courier::carried_at` meets its contract: along the layout, what is carried is what was taken so far.
 use Rattle.std.proofs.Common.{rules, ◌≡◌, ℕ, ◌+◌, ◌≤◌, List, Err, length, take, drop, arith}
-use mathlib.Core.Path.{refl, sym, ap, ◌∙◌}
+use mathlib.Core.Path.{refl, sym, ◌∙◌}
 use borrow.Author.Tests.{eq-eqb, ne_eqb}
 use Rattle.layout.specs.Questions.{SEALED_LENGTH}
 use Rattle.layout.specs.Veil.{veiled}
@@ -17,21 +17,12 @@ use Rattle.rows.specs.Rows.{carried}
 use Rattle.offsets.specs.Offset.{offset}
 use Rattle.offsets.proofs.Runs.{run-starts, field-ends}
 use Rattle.sealed.proofs.Text.{text-took, text-refused}
-use Rattle.courier.specs.Courier.{carried_at}
-use Rattle.courier.specs.declared.CarriedAt.{CarriedAt}
 use Rattle.courier.proofs.Rows.{carried-fields}
 use Rattle.courier.proofs.carried_at.Goals as goal
 use Rattle.courier.proofs.carried_at.Goals.{In_ok-copies}
 
 reads : (row : List ℕ) → Bytes row → (at : ℕ) → read_at (group carried) row at ≡ along carried row at
 reads row by at = part-along row by carried carried-fields at tt
-
-its-places : (from : ℕ) (v : Carried)
-    → {tag_at : ℕ} → tag_at ≡ from + offset carried 1 v
-    → {c-at : ℕ} → c-at ≡ from + offset carried 2 v
-    → {sealed-at : ℕ} → sealed-at ≡ from + offset carried 5 v
-    → record { depositor = record { 0 = v.depositor }; tag = tag_at; c = c-at; sealed = sealed-at; expiry_min = v.expiry_min; copies = v.copies } ≡ carried_at from v
-its-places from v tag_at c-at sealed-at = λ i. record { depositor = record { 0 = v.depositor }; tag = tag_at i; c = c-at i; sealed = sealed-at i; expiry_min = v.expiry_min; copies = v.copies }
 
 -- the numbers end in the row
 inside : (c : In_ok-copies) → c.in_ok-copies.at5 ≤ length c.args.row.now
@@ -104,4 +95,4 @@ returns c =
     let c-place : c.in_ok-c.c ≡ c.args.at + offset carried 2 its = omega (arith, depositor, tag.ends, its-c.starts) in
     let sealed-place : sealed ≡ c.args.at + offset carried 5 its = omega (arith, depositor, tag.ends, its-c.ends, expiry, copies) in
     rw (reads row by, ← c.in_ok-depositor.ensures, ← c.in_ok-tag.ensures.0, ← c.in_ok-c.ensures.0, ← c.in_ok-expiry_min.ensures, ne_eqb _ _ c.if-expiry_min-eq0.false, ← c.in_ok-copies.ensures, ne_eqb _ _ c.if-copies-eq0.false, left)
-    (ap (λ (at : CarriedAt). takes at (length row)) (its-places c.args.at its tag-place c-place sealed-place))
+    (λ i. takes (record { depositor = record { 0 = its.depositor }; tag = tag-place i; c = c-place i; sealed = sealed-place i; expiry_min = its.expiry_min; copies = its.copies }) (length row))

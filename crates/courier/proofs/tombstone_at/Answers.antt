@@ -1,6 +1,6 @@
 -- `courier::tombstone_at` meets its contract: along the layout, a tombstone's fields are what was taken so far.
 use Rattle.std.proofs.Common.{rules, ◌≡◌, ℕ, ◌+◌, List, Err, take, drop, arith}
-use mathlib.Core.Path.{refl, ap}
+use mathlib.Core.Path.{refl}
 use Rattle.layout.specs.Field.{takes, read_at}
 use Rattle.layout.specs.Layout.{group}
 use Rattle.layout.specs.RowLaws.{Bytes}
@@ -10,19 +10,11 @@ use Rattle.rows.specs.Values.{Tombstone}
 use Rattle.rows.specs.Rows.{tombstone}
 use Rattle.offsets.specs.Offset.{offset}
 use Rattle.offsets.proofs.Runs.{run-starts}
-use Rattle.courier.specs.Courier.{tombstone_at}
-use Rattle.courier.specs.declared.TombstoneAt.{TombstoneAt}
 use Rattle.courier.proofs.Rows.{tombstone-fields}
 use Rattle.courier.proofs.tombstone_at.Goals as goal
 
 reads : (row : List ℕ) → Bytes row → (at : ℕ) → read_at (group tombstone) row at ≡ along tombstone row at
 reads row by at = part-along row by tombstone tombstone-fields at tt
-
-its-places : (from : ℕ) (v : Tombstone)
-    → {tag_at : ℕ} → tag_at ≡ from + offset tombstone 0 v
-    → {s-at : ℕ} → s-at ≡ from + offset tombstone 1 v
-    → record { tag = tag_at; s = s-at; expiry_min = v.expiry_min } ≡ tombstone_at from v
-its-places from v tag_at s-at = λ i. record { tag = tag_at i; s = s-at i; expiry_min = v.expiry_min }
 
 pub returns-in_err-tag : goal.returns-in_err-tag
 returns-in_err-tag c =
@@ -49,4 +41,4 @@ returns c =
     let tag-place : c.in_ok-tag.tag ≡ c.args.at + offset tombstone 0 its = omega (arith, tag.starts) in
     let s-place : c.in_ok-s.s ≡ c.args.at + offset tombstone 1 its = omega (arith, tag.ends, s.starts) in
     rw (reads row by, ← c.in_ok-tag.ensures.0, any-run, ← c.in_ok-s.ensures.0, ← c.in_ok-expiry_min.ensures)
-    (ap (λ (at : TombstoneAt). takes at c.in_ok-expiry_min.at3) (its-places c.args.at its tag-place s-place))
+    (λ i. takes (record { tag = tag-place i; s = s-place i; expiry_min = its.expiry_min }) c.in_ok-expiry_min.at3)
