@@ -19,14 +19,6 @@ use Rattle.contact_parts.proofs.keys_at.Goals as goal
 keys-fields : Fields keys
 keys-fields = (bytes-lawful veiled 32, λ a. (bytes-lawful veiled 32, λ b. (bytes-lawful veiled 32, λ r. (number-lawful 8, λ i. (bytes-lawful veiled 32, λ k. (number-lawful 4, λ s. tt))))))
 
-its-places : (from : ℕ) (v : Keys)
-    → {door-a-to-b-at : ℕ} → door-a-to-b-at ≡ from + offset keys 0 v
-    → {door-b-to-a-at : ℕ} → door-b-to-a-at ≡ from + offset keys 1 v
-    → {route-key-at : ℕ} → route-key-at ≡ from + offset keys 2 v
-    → {chain-key-at : ℕ} → chain-key-at ≡ from + offset keys 4 v
-    → record { resume_index = v.resume_index; door_a_to_b = door-a-to-b-at; door_b_to_a = door-b-to-a-at; route_key = route-key-at; chain_key = chain-key-at; sent_msgno = v.sent_msgno } ≡ keys_at from v
-its-places from v door-a-to-b-at door-b-to-a-at route-key-at chain-key-at = λ i. record { resume_index = v.resume_index; door_a_to_b = door-a-to-b-at i; door_b_to_a = door-b-to-a-at i; route_key = route-key-at i; chain_key = chain-key-at i; sent_msgno = v.sent_msgno }
-
 pub returns-in_err-door_a_to_b : goal.returns-in_err-door_a_to_b
 returns-in_err-door_a_to_b c =
     let told : c.from_residual.result ≡ Err c.in_err-door_a_to_b.field-0.0 = search rules in
@@ -74,9 +66,16 @@ returns c =
       chain_key = take 32 (drop c.in_ok-chain_key.chain_key row);
       sent_msgno = c.in_ok-sent_msgno.sent_msgno;
     } in
+    let door-a-to-b-at : c.in_ok-door_a_to_b.door_a_to_b ≡ c.args.at + offset keys 0 its = omega (arith, door_a_to_b-run.starts) in
+    let door-b-to-a-at : c.in_ok-door_b_to_a.door_b_to_a ≡ c.args.at + offset keys 1 its = omega (arith, door_a_to_b-run.ends, door_b_to_a-run.starts) in
+    let route-key-at : c.in_ok-route_key.route_key ≡ c.args.at + offset keys 2 its = omega (arith, door_a_to_b-run.ends, door_b_to_a-run.ends, route_key-run.starts) in
+    let chain-key-at : c.in_ok-chain_key.chain_key ≡ c.args.at + offset keys 4 its = omega (arith, door_a_to_b-run.ends, door_b_to_a-run.ends, route_key-run.ends, resume-index-next, chain_key-run.starts) in
     stands_here keys keys-fields _ (typed _ c.type_inv.row) _ tt (keys_at _) {v = its} (all (goes (runs veiled 32 (goes (runs veiled 32 (runs veiled 32 (runs veiled 32 (start keys _ _) c.in_ok-door_a_to_b.ensures.0) c.in_ok-door_b_to_a.ensures.0) c.in_ok-route_key.ensures.0) c.in_ok-resume_index.ensures) c.in_ok-chain_key.ensures.0) c.in_ok-sent_msgno.ensures))
-    (its-places c.args.at its
-    (omega (arith, door_a_to_b-run.starts))
-    (omega (arith, door_a_to_b-run.ends, door_b_to_a-run.starts))
-    (omega (arith, door_a_to_b-run.ends, door_b_to_a-run.ends, route_key-run.starts))
-    (omega (arith, door_a_to_b-run.ends, door_b_to_a-run.ends, route_key-run.ends, resume-index-next, chain_key-run.starts)))
+    (λ i. record {
+      resume_index = its.resume_index;
+      door_a_to_b = door-a-to-b-at i;
+      door_b_to_a = door-b-to-a-at i;
+      route_key = route-key-at i;
+      chain_key = chain-key-at i;
+      sent_msgno = its.sent_msgno;
+    })

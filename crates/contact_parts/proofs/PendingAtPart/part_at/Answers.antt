@@ -18,12 +18,6 @@ use Rattle.contact_parts.proofs.PendingAtPart.part_at.Goals as goal
 pending-fields : Fields pending
 pending-fields = (bytes-lawful veiled 32, λ k. (bytes-lawful veiled 32, λ s. tt))
 
-its-places : (from : ℕ) (v : Pending)
-    → {chain-key-at : ℕ} → chain-key-at ≡ from + offset pending 0 v
-    → {msg-seed-at : ℕ} → msg-seed-at ≡ from + offset pending 1 v
-    → record { chain_key = chain-key-at; msg_seed = msg-seed-at } ≡ pending_keys_at from v
-its-places from v chain-key-at msg-seed-at = λ i. record { chain_key = chain-key-at i; msg_seed = msg-seed-at i }
-
 pub returns-in_err-chain_key : goal.returns-in_err-chain_key
 returns-in_err-chain_key c =
     let told : c.from_residual.result ≡ Err c.in_err-chain_key.field-0.0 = search rules in
@@ -41,5 +35,7 @@ returns c =
     let chain_key-run = run-starts row _ 32 by (omega arith) c.in_ok-chain_key.ensures.0 c.in_ok-chain_key.ensures.1 in
     let msg_seed-run = run-starts row _ 32 by (omega arith) c.in_ok-msg_seed.ensures.0 c.in_ok-msg_seed.ensures.1 in
     let its : Pending = record { chain_key = take 32 (drop c.in_ok-chain_key.chain_key row); msg_seed = take 32 (drop c.in_ok-msg_seed.msg_seed row) } in
+    let chain-key-at : c.in_ok-chain_key.chain_key ≡ c.args.at + offset pending 0 its = omega (arith, chain_key-run.starts) in
+    let msg-seed-at : c.in_ok-msg_seed.msg_seed ≡ c.args.at + offset pending 1 its = omega (arith, chain_key-run.ends, msg_seed-run.starts) in
     stands_here pending pending-fields _ (typed _ c.type_inv.row) _ tt (pending_keys_at _) {v = its} (all (runs veiled 32 (runs veiled 32 (start pending _ _) c.in_ok-chain_key.ensures.0) c.in_ok-msg_seed.ensures.0))
-    (its-places c.args.at its (omega (arith, chain_key-run.starts)) (omega (arith, chain_key-run.ends, msg_seed-run.starts)))
+    (λ i. record { chain_key = chain-key-at i; msg_seed = msg-seed-at i })

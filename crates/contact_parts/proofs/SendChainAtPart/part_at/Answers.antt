@@ -21,11 +21,6 @@ use Rattle.contact_parts.proofs.SendChainAtPart.part_at.Goals as goal
 send-fields : Fields send
 send-fields = (number-lawful 1, λ g. (dir-lawful, λ d. (number-lawful 4, λ i. (bytes-lawful veiled 32, λ k. tt))))
 
-its-places : (from : ℕ) (v : Send)
-    → {key-at : ℕ} → key-at ≡ from + offset send 3 v
-    → record { key = key-at; idx = v.idx; gen_ = v.gen; dir = v.dir } ≡ send_chain_at from v
-its-places from v key-at = λ i. record { key = key-at i; idx = v.idx; gen_ = v.gen; dir = v.dir }
-
 pub returns-in_err-gen_ : goal.returns-in_err-gen_
 returns-in_err-gen_ c =
     let told : c.from_residual.result ≡ Err c.in_err-gen_.field-0.0 = search rules in
@@ -55,5 +50,6 @@ returns c =
     let idx-next = field-ends _ _ u32 (number-lawful 4) by refl c.in_ok-idx.ensures in
     let key-run = run-starts row _ 32 by (omega arith) c.in_ok-key.ensures.0 c.in_ok-key.ensures.1 in
     let its : Send = record { gen = c.in_ok-gen_.gen_; dir = c.in_ok-dir.dir; idx = c.in_ok-idx.idx; key = take 32 (drop c.in_ok-key.key row) } in
+    let key-at : c.in_ok-key.key ≡ c.args.at + offset send 3 its = omega (arith, gen-next, dir-next, idx-next, key-run.starts) in
     stands_here send send-fields _ (typed _ c.type_inv.row) _ tt (send_chain_at _) {v = its} (all (runs veiled 32 (goes (goes (goes (start send _ _) c.in_ok-gen_.ensures) c.in_ok-dir.ensures) c.in_ok-idx.ensures) c.in_ok-key.ensures.0))
-    (its-places c.args.at its (omega (arith, gen-next, dir-next, idx-next, key-run.starts)))
+    (λ i. record { key = key-at i; idx = its.idx; gen_ = its.gen; dir = its.dir })
