@@ -37,6 +37,7 @@ fn chain_len(bytes: &[u8], at: usize) -> usize
     }
 }
 
+// Kept: no heap: each list is lent, longer than its count, here and below.
 // The `count` chains of a row from `first` on, in the first places of a lent list; behind a chain that is not superseded its place is 0.
 pub fn fill_chains(row: &[u8], first: usize, count: usize, lent: &mut [u8])
     requires { Stands (group chain) row.now first count × (51 * count ≤ length lent.old) }
