@@ -46,6 +46,7 @@ pub struct Measured {
 
 // ---- entries
 
+// Kept: no heap: the table is lent, longer than its n entries, here and below.
 // How many of the first n entries are of this kind.
 fn how_many(records: &[u64], n: usize, kind: u32) -> u64
     requires { n ≤ 512 }
@@ -90,6 +91,7 @@ fn numbers_in_row(row: &[u8], first: usize, count: usize, lowest: u64) -> u64
         let p = first + 8 * i;
         let a = fields::be32(row, p);
         let b = fields::be32(row, p + 4);
+        // Kept: each is a number of 4 bytes (be32), so a TryFrom would have an error that cannot come.
         sum += statement_line::size_from(a as u32, b as u32, lowest);
     }
     sum

@@ -11,20 +11,27 @@ use Rattle.put.proofs.Put.{put_front}
 use Rattle.numbers.specs.Decimal.{fields_text}
 use Rattle.statement_text.specs.Lines.{TEXT_BYTES}
 use Rattle.statement_text.proofs.write_refused.Goals as goal
+use Rattle.statement_text.proofs.write_refused.Goals.{After-fields_len-len}
+
+module _ (c : After-fields_len-len) where
+  abbrev text : List ℕ
+  text = c.args.letter ∷ fields_text (c.args.number ∷ c.args.place ∷ [])
+
+  long : 1 + c.fields_len-len.result ≡ length text
+  long = omega (arith, c.fields_len-len.ensures.0)
+
+  short : length text ≤ TEXT_BYTES
+  short = omega (arith, long, c.fields_len-len.ensures.1)
 
 pub returns-then-out-len : goal.returns-then-out-len
 returns-then-out-len c =
-    let text : List ℕ = let a = c.args in a.letter ∷ fields_text (a.number ∷ a.place ∷ []) in
-    let long : 1 + c.fields_len-len.result ≡ length text = omega (arith, c.fields_len-len.ensures.0) in
-    let short : length text ≤ TEXT_BYTES = omega (arith, long, c.fields_len-len.ensures.1) in
-    record { out_after = sym (stored_short text c.args.out.now (omega (arith, long))); place_len_bound = short }
+    let t = (goal.at.returns-then-out-len c).After-fields_len-len in
+    record { out_after = sym (stored_short (text t) c.args.out.now (omega (arith, long t))); place_len_bound = short t }
 
 pub returns : goal.returns
 returns c =
-    let text : List ℕ = let a = c.args in a.letter ∷ fields_text (a.number ∷ a.place ∷ []) in
-    let long : 1 + c.fields_len-len.result ≡ length text = omega (arith, c.fields_len-len.ensures.0) in
-    let short : length text ≤ TEXT_BYTES = omega (arith, long, c.fields_len-len.ensures.1) in
+    let t = (goal.at.returns c).After-fields_len-len in
     let out = c.args.out.now in
-    let room : length text ≤ length out = omega (arith, long) in
-    let now-is = c.put_line.ensures.1.now-is ∙ put_front out text room in
-    record { out_after = ap₂ (λ (k : ℕ) (l : List ℕ). record { answer = wrote k; out = l }) long now-is ∙ sym (stored_row text out room); place_len_bound = short }
+    let room : length (text t) ≤ length out = omega (arith, long t) in
+    let now-is = c.put_line.ensures.1.now-is ∙ put_front out (text t) room in
+    record { out_after = ap₂ (λ (k : ℕ) (l : List ℕ). record { answer = wrote k; out = l }) (long t) now-is ∙ sym (stored_row (text t) out room); place_len_bound = short t }
