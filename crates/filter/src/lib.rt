@@ -36,6 +36,7 @@ pub fn add(bits: &mut [u64], h: u64) -> bool
     if n == 0 {
         return true;
     }
+    // Kept: no From goes from u64 to usize; the quotient is below 2^46.
     let at = (h / 262144) as usize & (n - 1);
     let old = bits[at];
     let new = old | mask_of(h);

@@ -133,6 +133,7 @@ pub fn answer_line(
 ) -> Result<usize, Question>
     ensures { leaves result out.new ≡ stored (line_of (answer_text tag a b bytes.now)) out.old }
 {
+    // Kept: no From goes from u64 to usize, and the value of a that is no length is not looked at.
     let n = a as usize;
     match tag {
         YES => text_line(b"yes", out),
@@ -262,6 +263,7 @@ pub fn state_line(
 ) -> Result<usize, Question>
     ensures { leaves result out.new ≡ stored (line_of (state_text id.0 row.now (pairs count above.now))) out.old }
 {
+    // Kept: no heap: the list is lent, longer than its count.
     let (lent, _) = above.as_chunks::<2>();
     let ranges = &lent[..count.min(above.len() / 2)];
     opened_line(id, row, ranges, out)
