@@ -6,10 +6,9 @@ use mathlib.Core.Bool.{Bool, true, false, cond, not, ◌&&◌}
 use mathlib.Core.Path.{◌≡◌, refl, sym, ◌∙◌}
 use native.Mathlib.Omega.{arith}
 use lib.ListN.{get_or, set}
-use lib.Dec.{eqb}
-use borrow.Author.Tests.{le-leb, lt-leb, eq-eqb, ne_eqb}
+use borrow.Author.Tests.{le-leb, lt-leb}
 use Rattle.rows.specs.Values.{Range}
-use Rattle.rows.specs.Checks.{any, count, distinct, rising, canonical, none_above}
+use Rattle.rows.specs.Checks.{count, rising, canonical, none_above}
 use Rattle.contact_checks.specs.Cells.{ascending, one_current}
 use Rattle.contact_checks.proofs.Distinct.{fresh}
 
@@ -56,7 +55,7 @@ module _ {lo hi : ℕ} {r : Range} {rs ss : List Range} {b : Bool} (left : Order
 pub ordered_end : {lo hi : ℕ} {rs : List Range} {b : Bool} → Ordered lo hi rs b → rs ≡ [] → true ≡ b
 ordered_end left none = sym (rw none) ∙ left.so
 
--- ---- 19: rising numbers, a number among others, numbers of which no two are the same
+-- ---- 19: rising numbers
 pub record Ascends (lo : ℕ) (xs : List ℕ) (b : Bool) : Type 0 where
   pub so : ascending lo xs ≡ b
 
@@ -69,32 +68,6 @@ module _ {lo n : ℕ} {xs ys : List ℕ} {b : Bool} (left : Ascends lo xs b) (he
 
 pub ascends-end : {lo : ℕ} {xs : List ℕ} {b : Bool} → Ascends lo xs b → xs ≡ [] → true ≡ b
 ascends-end left none = sym (rw none) ∙ left.so
-
-pub record Among (x : ℕ) (xs : List ℕ) (b : Bool) : Type 0 where
-  pub so : any (eqb x) xs ≡ b
-
-module _ {x n : ℕ} {xs ys : List ℕ} {b : Bool} (left : Among x xs b) (here : xs ≡ n ∷ ys) where
-  pub among-found : x ≡ n → true ≡ b
-  among-found p = sym (rw (here, eq-eqb x n p)) ∙ left.so
-
-  pub among-on : (x ≡ n → ⊥) → Among x ys b
-  among-on p = record { so = sym (rw (here, ne_eqb x n p)) ∙ left.so }
-
-pub among-end : {x : ℕ} {xs : List ℕ} {b : Bool} → Among x xs b → xs ≡ [] → false ≡ b
-among-end left none = sym (rw none) ∙ left.so
-
-pub record Differ (xs : List ℕ) (b : Bool) : Type 0 where
-  pub so : distinct eqb xs ≡ b
-
-module _ {n : ℕ} {xs ys : List ℕ} {b : Bool} (left : Differ xs b) (here : xs ≡ n ∷ ys) {t : Bool} (again : t ≡ any (eqb n) ys) where
-  pub differ-not : t ≡ true → false ≡ b
-  differ-not p = sym (rw (here, ← again, p)) ∙ left.so
-
-  pub differ-on : t ≡ false → Differ ys b
-  differ-on p = record { so = sym (rw (here, ← again, p)) ∙ left.so }
-
-pub differ-end : {xs : List ℕ} {b : Bool} → Differ xs b → xs ≡ [] → true ≡ b
-differ-end left none = sym (rw none) ∙ left.so
 
 -- ---- 17: k is 1 for a chain that is not superseded
 pub record Currents (found : ℕ) (ss : List Bool) (b : Bool) : Type 0 where

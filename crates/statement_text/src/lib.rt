@@ -183,6 +183,7 @@ fn line_at(run: &[u8], records: &[u64], n: usize, i: usize) -> Line
 }
 
 // The lines of all entries.
+// Kept: no plainer: a struct of run, records and n with these bounds would be made in write_granted, for measure and put_lines alone.
 fn measure(run: &[u8], records: &[u64], n: usize) -> Measured
     requires { (length run.now ≤ 61440) × (n ≤ 512) }
     ensures { Measures run.now (entries_from n records.now) result }
