@@ -15,6 +15,7 @@ use Rattle.layout.specs.Write as write
 use Rattle.layout.proofs.Front.{byte-print, length-bytes_of}
 use Rattle.rows.specs.Checks.{courier_allowed}
 use Rattle.rows.specs.Rows.{device}
+use Rattle.put.proofs.Put.{wrote-long}
 use Rattle.rows.proofs.Proved.{proved}
 use Rattle.device_row.specs.Row.{value_of, image, courier_part, DeviceTyped}
 use Rattle.device_row.specs.declared.Device.{Device}
@@ -67,3 +68,6 @@ module _ (d : Device) (ty : DeviceTyped d) where
   pub asked-no : courier_allowed d.courier.copies d.courier.lifetime_min ≡ false → asked (device 3) (image d) ≡ refuses COURIER_CONFIG
   unfolding write.asked
   asked-no h = rw (image-refused h)
+
+-- what shows that there is room for the next part
+pub ruleset room = (length-image, wrote-long)

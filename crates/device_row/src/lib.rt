@@ -42,6 +42,7 @@ impl Device {
     pub const ROW_LEN: usize = 49;
 
     // Asks what reading the row would ask, then for room; a refusal writes nothing.
+    // Kept: SealedRow::row has this outline too; a trait over both is no plainer, since here there is no sealed text to pass on
     pub fn row(self, out: &mut [u8]) -> Result<usize, Question>
         ensures { leaves result out.new ≡ writes (layouts.device 3) (image self) out.old }
     {
@@ -72,12 +73,13 @@ fn device_size(device: Device) -> Result<usize, Question>
 }
 
 // Writes the device's row where there is room; the place behind it.
+#[tactic(auto, using(crate::proofs::Image::room))]
 fn put_device(out: &mut [u8], at: usize, device: Device) -> usize
     requires { at + length (image device) ≤ length out.old }
     ensures { (result ≡ at + length (image device)) × Wrote out.old at (image device) out.new result }
 {
     typed(device);
-    let beacon_key_at = put::put_be(out, at, 4, device.beacon_day as u64);
+    let beacon_key_at = put::put_be(out, at, 4, u64::from(device.beacon_day));
     let beacon_key = device.beacon_key;
     let next_contact_at = put::put_array(out, beacon_key_at, &beacon_key);
     let read_receipts_at = put::put_be(out, next_contact_at, 8, device.next_contact);
@@ -92,5 +94,5 @@ fn put_courier(out: &mut [u8], at: usize, courier: CourierConfig) -> usize
 {
     let copies_at = put::put_byte(out, at, u8::from(courier.enabled));
     let lifetime_min_at = put::put_byte(out, copies_at, courier.copies);
-    put::put_be(out, lifetime_min_at, 2, courier.lifetime_min as u64)
+    put::put_be(out, lifetime_min_at, 2, u64::from(courier.lifetime_min))
 }

@@ -20,6 +20,7 @@ use Rattle.layout.proofs.Front.{bytes-lawful, number-lawful, length-bytes_of, by
 use Rattle.layout.proofs.Ends.{to_end-lawful}
 use Rattle.layout.proofs.Theorems.{row_laws}
 use Rattle.layout.proofs.Along.{Fields}
+use Rattle.put.proofs.Put.{wrote-long}
 use Rattle.envelope.specs.Envelope as spec
 use Rattle.envelope.specs.Envelope.{Body, any_length, body, value_of, image, storable, EnvelopeTyped}
 use Rattle.envelope.specs.declared.Envelope.{Envelope}
@@ -78,3 +79,6 @@ module _ (e : Envelope) (ty : EnvelopeTyped e) (ct : List ℕ) where
 -- ---- what is stored, where the body fits
 pub whole-fits : (e : Envelope) (ct : List ℕ) (room : ℕ) → length (image e ct) ≤ room → storable e ct room ≡ image e ct
 whole-fits e ct room inside = rw (le-leb (length (image e ct)) room inside)
+
+-- what shows that there is room for the next part
+pub ruleset room = (length-image, wrote-long)

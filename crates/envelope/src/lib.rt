@@ -96,6 +96,7 @@ pub fn put_envelope(out: &mut [u8], at: usize, envelope: Envelope, ct: &[u8]) ->
 }
 
 // The body, where there is room.
+#[tactic(auto, using(crate::proofs::Image::room))]
 fn put_body(out: &mut [u8], at: usize, envelope: Envelope, ct: &[u8]) -> usize
     requires { at + length (image envelope ct.now) ≤ length out.old }
     ensures { (result ≡ at + length (image envelope ct.now)) × Wrote out.old at (image envelope ct.now) out.new result }
@@ -105,7 +106,7 @@ fn put_body(out: &mut [u8], at: usize, envelope: Envelope, ct: &[u8]) -> usize
     let c_at = put::put_array(out, at, &tag);
     let c = envelope.c;
     let expiry_at = put::put_array(out, c_at, &c);
-    let copies_at = put::put_be(out, expiry_at, 4, envelope.expiry_min as u64);
+    let copies_at = put::put_be(out, expiry_at, 4, u64::from(envelope.expiry_min));
     let ct_at = put::put_byte(out, copies_at, envelope.copies);
     put::put_run(out, ct_at, ct, 0, ct.len())
 }

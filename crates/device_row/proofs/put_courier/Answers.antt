@@ -7,5 +7,5 @@ use Rattle.device_row.proofs.put_courier.Goals as goal
 pub returns : goal.returns
 unfolding spec.courier_part
 returns c =
-    let w = c.put_byte-copies_at.ensures.1 then (c.put_byte-lifetime_min_at.ensures.1 then c.put_be.ensures.1) in
+    let w = c.put_byte-copies_at.ensures.1 then (c.put_byte-lifetime_min_at.ensures.1 then rw c.from-2.ensures at c.put_be.ensures.1) in
     (search rules, rw c.from.ensures at w)
