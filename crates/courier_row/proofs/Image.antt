@@ -17,6 +17,7 @@ use Rattle.layout.specs.Write as write
 use Rattle.layout.proofs.Front.{length-bytes_of}
 use Rattle.rows.specs.Checks.{sealed_carried, not_zero}
 use Rattle.rows.specs.Rows.{carried, tombstone, courier}
+use Rattle.put.proofs.Put.{wrote-long}
 use Rattle.rows.proofs.Proved.{proved}
 use Rattle.envelope.specs.Envelope as env
 use Rattle.envelope.specs.declared.Envelope.{Envelope}
@@ -130,3 +131,6 @@ module _ (h : Held) (ty : HeldTyped h) (sealed : List ℕ) where
     pub whole-carried : h.kind ≡ Carried → asked (courier 3) (image h sealed) ≡ wrote (length (carried_image h sealed))
     unfolding write.asked
     whole-carried e = rw (image-carried h sealed e, carried-read)
+
+-- what shows that there is room for the next part
+pub ruleset room = (length-tombstone, length-carried, length-in, wrote-long)

@@ -20,8 +20,9 @@ use Rattle.rows.proofs.Proved.{proved}
 use Rattle.rows.proofs.RoundTrip.{Stands, stands, printed-back, three, rewritten, last-at}
 use Rattle.courier.specs.declared.Kind.{Kind}
 use Rattle.courier.specs.declared.Kind.TheVariants.{Carried, Tombstone}
+use Rattle.sealed.proofs.Made.{made-onto}
 use Rattle.courier_row.specs.Row as spec
-use Rattle.courier_row.specs.Row.{held_of, text_of, read_of, value_as, value_of, image, HeldTyped, CourierLaws}
+use Rattle.courier_row.specs.Row.{held_of, text_of, read_of, parts, value_as, value_of, image, HeldTyped, CourierLaws}
 use Rattle.courier_row.specs.declared.Held.{Held}
 use Rattle.courier_row.specs.declared.HeldRead.{HeldRead}
 use Rattle.courier_row.proofs.Image.{carried-fits, tombstone-fits}
@@ -81,6 +82,12 @@ read-write version row by read r out = go (read_row (courier version) row) refl 
         ∙ ap (λ (l : List ℕ). writes (courier 3) (image (held_of v) l) out) text
         ∙ ap (λ (x : value.Courier). writes (courier 3) (print (courier 3) x) out) (value-back v) ∙ rewritten (courier 3) (proved.courier 3).laws row by v known out
     go (refused_by p) e h = absurd (accepted≢ (sym h))
+
+-- the same of the parts that `Held::read` takes
+pub read-write-parts : (version : ℕ) (row : List ℕ) → Bytes row → (read : ℕ × Held) → accepted read ≡ made (parts row) (read_row (courier version) row)
+    → (out : List ℕ) → writes (courier 3) (image read.1 (drop read.0 row)) out ≡ stored row out
+read-write-parts version row by read r out =
+    read-write version row by (record { sealed_at = read.0; held = read.1 }) (sym (made-onto (parts row) (λ (x : ℕ × Held). record { sealed_at = x.0; held = x.1 }) (read_row (courier version) row) r)) out
 
 pub courier-laws : CourierLaws
 courier-laws = record {

@@ -44,6 +44,9 @@ text_of (inr t) = []
 abbrev pub read_of : List ℕ → value.Courier → HeldRead
 read_of row v = record { sealed_at = length row - length (text_of v); held = held_of v }
 
+abbrev pub parts : List ℕ → value.Courier → ℕ × Held
+parts row v = ((read_of row v).sealed_at, (read_of row v).held)
+
 -- ---- writing: the row that would be written is the print of the value that the struct and the sealed text stand for
 abbrev pub carried_of : Held → List ℕ → value.Carried
 carried_of h sealed = record { depositor = h.depositor.0; tag = h.tag; c = h.c; expiry_min = h.expiry_min; copies = h.copies; sealed = sealed }

@@ -4,17 +4,18 @@
 ghost use Rattle.std.proofs.Common.{inl, inr};
 ghost use Rattle.std.specs.Prelude.{◌≡◌, ◌+◌, ◌≤◌, length};
 ghost use Rattle.layout.specs.Layout.{read_row};
-ghost use Rattle.layout.specs.Write.{asked, writes};
 ghost use Rattle.put.specs.Put.{Wrote};
+ghost use Rattle.rows.specs.Values.{Courier};
 ghost use Rattle.rows.specs.Rows.{courier};
-ghost use Rattle.layout.specs.Says.{answers, made, written_says, leaves};
+ghost use Rattle.layout.specs.Says.{answers, made};
 ghost use Rattle.courier.specs.Courier.{carried_from, CarriedOffsets, tombstone_from, TombstoneOffsets, held_from, Offsets};
-ghost use Rattle.courier_row.specs.Row.{held_of, read_of, HeldTyped, image, carried_image, tombstone_image};
+ghost use Rattle.courier_row.specs.Row.{held_of, read_of, parts, HeldTyped, image, carried_image, tombstone_image};
 
 use courier::{CarriedAt, HeldAt, Kind, TombstoneAt};
 use envelope::Envelope;
 use layout::Question;
 use rows::ContactId;
+use sealed::SealedRow;
 
 // A courier row but for its sealed text. Carried: depositor, tag, c, expiry_min, copies. A tombstone: tag, s, expiry_min. 0 stands where the kind leaves a field out.
 #[derive(Clone, Copy)]
@@ -90,20 +91,6 @@ pub fn read_courier(version: u32, row: &[u8]) -> Result<HeldRead, Question>
     })
 }
 
-impl Held {
-    // Writes the row with this sealed text, which a tombstone has no use for. Asks what reading the row would ask, then for room; a refusal writes nothing.
-    pub fn row(self, sealed: &[u8], out: &mut [u8]) -> Result<usize, Question>
-        ensures { leaves result out.new ≡ writes (courier 3) (image self sealed.now) out.old }
-    {
-        let n = courier_size(self, sealed)?;
-        if out.len() < n {
-            return Err(Question::Output);
-        }
-        put_courier(out, 0, self, sealed);
-        Ok(n)
-    }
-}
-
 // What the struct's type says of it, as a fact.
 fn typed(held: Held) -> bool
     ensures { HeldTyped held }
@@ -111,38 +98,48 @@ fn typed(held: Held) -> bool
     true
 }
 
-// The length of the row with this sealed text, or the question that reading it would answer no.
-fn courier_size(held: Held, sealed: &[u8]) -> Result<usize, Question>
-    ensures { written_says result ≡ asked (courier 3) (image held sealed.now) }
-{
-    typed(held);
-    let Kind::Carried = held.kind else {
-        return Ok(37);
-    };
-    if held.expiry_min == 0 {
-        return Err(Question::CarriedExpiry);
+// A tombstone has no use for the sealed text that it is written with.
+impl SealedRow for Held {
+    ghost value = { Courier };
+
+    ghost layout = { courier };
+
+    ghost parts = { parts };
+
+    ghost image = { image };
+
+    fn read(version: u32, row: &[u8]) -> Result<(usize, Self), Question> {
+        let read = read_courier(version, row)?;
+        Ok((read.sealed_at, read.held))
     }
-    if held.copies == 0 {
-        return Err(Question::CarriedCopies);
+
+    fn size(self, sealed: &[u8]) -> Result<usize, Question> {
+        typed(self);
+        let Kind::Carried = self.kind else {
+            return Ok(37);
+        };
+        if self.expiry_min == 0 {
+            return Err(Question::CarriedExpiry);
+        }
+        if self.copies == 0 {
+            return Err(Question::CarriedCopies);
+        }
+        let n = sealed.len();
+        if !sealed::sealed_carried(n) {
+            return Err(Question::SealedLength);
+        }
+        Ok(46 + n)
     }
-    let n = sealed.len();
-    if !sealed::sealed_carried(n) {
-        return Err(Question::SealedLength);
+
+    fn put(self, sealed: &[u8], out: &mut [u8], at: usize) -> usize {
+        match self.kind {
+            Kind::Carried => put_carried(out, at, self, sealed),
+            Kind::Tombstone => put_tombstone(out, at, self),
+        }
     }
-    Ok(46 + n)
 }
 
-// Writes the row, where there is room; the place behind it.
-fn put_courier(out: &mut [u8], at: usize, held: Held, sealed: &[u8]) -> usize
-    requires { at + length (image held sealed.now) ≤ length out.old }
-    ensures { (result ≡ at + length (image held sealed.now)) × Wrote out.old at (image held sealed.now) out.new result }
-{
-    match held.kind {
-        Kind::Carried => put_carried(out, at, held, sealed),
-        Kind::Tombstone => put_tombstone(out, at, held),
-    }
-}
-
+#[tactic(auto, using(crate::proofs::Image::room))]
 fn put_tombstone(out: &mut [u8], at: usize, held: Held) -> usize
     requires { at + length (tombstone_image held) ≤ length out.old }
     ensures { (result ≡ at + length (tombstone_image held)) × Wrote out.old at (tombstone_image held) out.new result }
@@ -153,9 +150,10 @@ fn put_tombstone(out: &mut [u8], at: usize, held: Held) -> usize
     let s_at = put::put_array(out, tag_at, &tag);
     let s = held.s;
     let expiry_at = put::put_array(out, s_at, &s);
-    put::put_be(out, expiry_at, 4, held.expiry_min as u64)
+    put::put_be(out, expiry_at, 4, u64::from(held.expiry_min))
 }
 
+#[tactic(auto, using(crate::proofs::Image::room))]
 fn put_carried(out: &mut [u8], at: usize, held: Held, sealed: &[u8]) -> usize
     requires { at + length (carried_image held sealed.now) ≤ length out.old }
     ensures { (result ≡ at + length (carried_image held sealed.now)) × Wrote out.old at (carried_image held sealed.now) out.new result }

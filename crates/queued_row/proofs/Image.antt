@@ -20,6 +20,7 @@ use Rattle.layout.proofs.Front.{length-bytes_of, byte-print}
 use Rattle.rows.specs.Values as value
 use Rattle.rows.specs.Checks.{sealed_queued}
 use Rattle.rows.specs.Rows.{own_envelope, queued}
+use Rattle.put.proofs.Put.{wrote-long}
 use Rattle.rows.proofs.Proved.{proved}
 use Rattle.queued_row.specs.Row as spec
 use Rattle.queued_row.specs.Row.{envelope_of, value_of, own_image, image, OwnTyped, OutgoingTyped}
@@ -103,3 +104,6 @@ module _ (q : Outgoing) (ty : OutgoingTyped q) (sealed : List ℕ) where
   pub whole : sealed_queued (length sealed) ≡ true → asked (queued 3) (image q sealed) ≡ wrote (length (image q sealed))
   unfolding write.asked
   whole allowed = rw (read-image allowed)
+
+-- what shows that there is room for the next part
+pub ruleset room = (length-image, length-present, wrote-long)

@@ -1,4 +1,4 @@
--- The round trips of a queued row, from the contracts of `Queued::row` and `read_queued` alone.
+-- The round trips of a queued row, from the contracts of `Outgoing::row` and `read_queued` alone.
 -- Assumes nothing.
 use Prim.Native.Nat.{ℕ, ◌-◌}
 use mathlib.Core.List.{List, ◌++◌, append_assoc, append-nil}
@@ -17,8 +17,9 @@ use Rattle.layout.specs.Says.{answers, made, leaves}
 use Rattle.layout.proofs.Theorems.{accepted≢}
 use Rattle.rows.proofs.Proved.{proved}
 use Rattle.rows.proofs.RoundTrip.{Stands, stands, printed-back, three, rewritten, last-at}
+use Rattle.sealed.proofs.Made.{made-onto}
 use Rattle.queued_row.specs.Row as spec
-use Rattle.queued_row.specs.Row.{own_of, tag_of, s_of, queued_of, decoded, envelope_of, value_of, image, OutgoingTyped, QueuedLaws}
+use Rattle.queued_row.specs.Row.{own_of, tag_of, s_of, queued_of, decoded, parts, envelope_of, value_of, image, OutgoingTyped, QueuedLaws}
 use Rattle.queued_row.specs.declared.Outgoing.{Outgoing}
 use Rattle.queued_row.specs.declared.QueuedRead.{QueuedRead}
 use Rattle.queued_row.proofs.Image.{fits}
@@ -79,6 +80,12 @@ read-write version row by read r out = go (read_row (queued version) row) refl r
         ∙ ap (λ (l : List ℕ). writes (queued 3) (image (queued_of v) l) out) text
         ∙ ap (λ (x : value.Queued). writes (queued 3) (print (queued 3) x) out) (value-back v) ∙ rewritten (queued 3) (proved.queued 3).laws row by v known out
     go (refused_by p) e h = absurd (accepted≢ h)
+
+-- the same of the parts that `Outgoing::read` takes
+pub read-write-parts : (version : ℕ) (row : List ℕ) → Bytes row → (read : ℕ × Outgoing) → accepted read ≡ made (parts row) (read_row (queued version) row)
+    → (out : List ℕ) → writes (queued 3) (image read.1 (drop read.0 row)) out ≡ stored row out
+read-write-parts version row by read r out =
+    read-write version row by (record { sealed_at = read.0; queued = read.1 }) (made-onto (parts row) (λ (x : ℕ × Outgoing). record { sealed_at = x.0; queued = x.1 }) (read_row (queued version) row) r) out
 
 pub queued-laws : QueuedLaws
 queued-laws = record {

@@ -41,6 +41,9 @@ queued_of q = record {
 abbrev pub decoded : List ℕ → value.Queued → QueuedRead
 decoded row q = record { sealed_at = length row - length q.sealed; queued = queued_of q }
 
+abbrev pub parts : List ℕ → value.Queued → ℕ × Outgoing
+parts row q = ((decoded row q).sealed_at, (decoded row q).queued)
+
 -- ---- writing: the row that would be written is the print of the value that the struct and the sealed text stand for
 abbrev pub envelope_of : Option OwnEnvelope → List ℕ → List ℕ → math.Option value.OwnEnvelope
 envelope_of None tag s = none

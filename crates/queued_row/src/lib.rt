@@ -4,15 +4,16 @@
 ghost use Rattle.std.specs.Prelude.{◌≡◌, [], ◌∷◌, ◌++◌, ◌+◌, ◌≤◌, length};
 ghost use Rattle.layout.specs.Form.{bytes_of, flag_byte};
 ghost use Rattle.layout.specs.Layout.{read_row};
-ghost use Rattle.layout.specs.Says.{answers, made, written_says, leaves};
-ghost use Rattle.layout.specs.Write.{asked, writes};
+ghost use Rattle.layout.specs.Says.{answers, made};
 ghost use Rattle.put.specs.Put.{Wrote};
+ghost use Rattle.rows.specs.Values.{Queued};
 ghost use Rattle.rows.specs.Rows.{queued};
 ghost use Rattle.queued.specs.Queued.{queued_from, Offsets};
-ghost use Rattle.queued_row.specs.Row.{queued_of, decoded, OwnTyped, OutgoingTyped, own_image, image};
+ghost use Rattle.queued_row.specs.Row.{queued_of, decoded, parts, OwnTyped, OutgoingTyped, own_image, image};
 
 use layout::Question;
 use queued::QueuedAt;
+use sealed::SealedRow;
 
 // The numbers of a sender's own envelope.
 #[derive(Clone, Copy)]
@@ -79,20 +80,6 @@ pub fn read_queued(version: u32, row: &[u8]) -> Result<QueuedRead, Question>
     })
 }
 
-impl Outgoing {
-    // Writes the row with this sealed text. Asks what reading the row would ask, then for room; a refusal writes nothing.
-    pub fn row(self, sealed: &[u8], out: &mut [u8]) -> Result<usize, Question>
-        ensures { leaves result out.new ≡ writes (queued 3) (image self sealed.now) out.old }
-    {
-        let n = queued_size(self, sealed)?;
-        if out.len() < n {
-            return Err(Question::Output);
-        }
-        put_queued(out, 0, self, sealed);
-        Ok(n)
-    }
-}
-
 // What the types say, as facts.
 fn own_typed(own: Option<OwnEnvelope>) -> bool
     ensures { OwnTyped own }
@@ -109,36 +96,46 @@ fn typed(outgoing: Outgoing) -> bool
     own_typed(outgoing.envelope)
 }
 
-// The length of the row with this sealed text, or the question that reading it would answer no.
-fn queued_size(outgoing: Outgoing, sealed: &[u8]) -> Result<usize, Question>
-    ensures { written_says result ≡ asked (queued 3) (image outgoing sealed.now) }
-{
-    typed(outgoing);
-    let n = sealed.len();
-    if !sealed::sealed_queued(n) {
-        return Err(Question::SealedLength);
-    }
-    let own_len = match outgoing.envelope {
-        None => 1,
-        Some(_) => 39,
-    };
-    Ok(9 + own_len + data::leb128_len(outgoing.idx) + n)
-}
+impl SealedRow for Outgoing {
+    ghost value = { Queued };
 
-// Writes the row, where there is room; the place behind it.
-fn put_queued(out: &mut [u8], at: usize, outgoing: Outgoing, sealed: &[u8]) -> usize
-    requires { at + length (image outgoing sealed.now) ≤ length out.old }
-    ensures { (result ≡ at + length (image outgoing sealed.now)) × Wrote out.old at (image outgoing sealed.now) out.new result }
-{
-    typed(outgoing);
-    let envelope_at = put::put_be(out, at, 8, outgoing.created_s);
-    let gen_at = put_own_envelope(out, envelope_at, outgoing);
-    let idx_at = put::put_byte(out, gen_at, outgoing.gen_);
-    let sealed_at = data::put_leb128(outgoing.idx, out, idx_at);
-    put::put_run(out, sealed_at, sealed, 0, sealed.len())
+    ghost layout = { queued };
+
+    ghost parts = { parts };
+
+    ghost image = { image };
+
+    fn read(version: u32, row: &[u8]) -> Result<(usize, Self), Question> {
+        let read = read_queued(version, row)?;
+        Ok((read.sealed_at, read.queued))
+    }
+
+    fn size(self, sealed: &[u8]) -> Result<usize, Question> {
+        typed(self);
+        let n = sealed.len();
+        if !sealed::sealed_queued(n) {
+            return Err(Question::SealedLength);
+        }
+        let own_len = match self.envelope {
+            None => 1,
+            Some(_) => 39,
+        };
+        Ok(9 + own_len + data::leb128_len(self.idx) + n)
+    }
+
+    #[tactic(auto, using(crate::proofs::Image::room))]
+    fn put(self, sealed: &[u8], out: &mut [u8], at: usize) -> usize {
+        typed(self);
+        let envelope_at = put::put_be(out, at, 8, self.created_s);
+        let gen_at = put_own_envelope(out, envelope_at, self);
+        let idx_at = put::put_byte(out, gen_at, self.gen_);
+        let sealed_at = data::put_leb128(self.idx, out, idx_at);
+        put::put_run(out, sealed_at, sealed, 0, sealed.len())
+    }
 }
 
 // The flag, and the envelope if there is one.
+#[tactic(auto, using(crate::proofs::Image::room))]
 fn put_own_envelope(out: &mut [u8], at: usize, outgoing: Outgoing) -> usize
     requires { at + length (own_image outgoing) ≤ length out.old }
     ensures { (result ≡ at + length (own_image outgoing)) × Wrote out.old at (own_image outgoing) out.new result }

@@ -2,13 +2,14 @@
 -- Assumes nothing.
 use Prim.Native.Nat.{ℕ}
 use mathlib.Core.List.{List}
-use mathlib.Core.Path.{◌≡◌, refl, sym, subst}
+use mathlib.Core.Path.{◌≡◌, refl, subst}
 use Rattle.layout.specs.Layout.{Layout, Answer, accepted, refused_by, read_row}
 use Rattle.layout.specs.RowLaws.{Bytes}
 use Rattle.layout.specs.Says.{made}
 use Rattle.layout.specs.Write.{Left, refuses, stored, judged, writes}
 use Rattle.layout.specs.Write as write
 use Rattle.layout.proofs.Theorems.{accepted≢}
+use Rattle.sealed.proofs.Made.{judged-no}
 use Rattle.rows.specs.Values as value
 use Rattle.rows.specs.Rows.{device}
 use Rattle.rows.proofs.Proved.{proved}
@@ -20,11 +21,7 @@ use Rattle.device_row.specs.declared.Device.{Device}
 module _ {A B : Type 0} (f : A → B) (l : Layout A) (row out : List ℕ) where
   pub refused-row : {q : ℕ} → refused_by q ≡ made f (read_row l row) → ◌≡◌ {A = Left} (record { answer = refuses q; out = out }) (writes l row out)
   unfolding write.writes
-  refused-row {q} told = go (read_row l row) told
-    where
-      go : (a : Answer A) → refused_by q ≡ made f a → ◌≡◌ {A = Left} (record { answer = refuses q; out = out }) (judged a row out)
-      go (accepted v) e = absurd (accepted≢ (sym e))
-      go (refused_by p) e = cc
+  refused-row told = judged-no f (read_row l row) told row out
 
   -- what a writer left that stores the row
   pub granted-row : {b : B} → accepted b ≡ made f (read_row l row) → {left : Left} → left ≡ stored row out → left ≡ writes l row out

@@ -1,18 +1,24 @@
 // Rows read, and written again to the front of an output: what reading a row asks, then room for it. A refusal changes nothing.
 #![tactic(auto)]
 
-ghost use Rattle.std.specs.Prelude.{◌≡◌};
-ghost use Rattle.layout.specs.Layout.{read_row};
-ghost use Rattle.layout.specs.Write.{writes};
+ghost use Rattle.std.specs.Prelude.{◌≡◌, ℕ, List, drop};
+ghost use Rattle.layout.specs.Layout.{accepted, read_row};
+ghost use Rattle.layout.specs.RowLaws.{Bytes};
+ghost use Rattle.layout.specs.Write.{stored, writes};
 ghost use Rattle.rows.specs.Rows.{device, queued, courier, contact};
-ghost use Rattle.layout.specs.Says.{written_says, leaves};
+ghost use Rattle.layout.specs.Says.{made, written_says, leaves};
 ghost use Rattle.layout.specs.Questions.{number_of};
+ghost use Rattle.queued_row.proofs.RoundTrip as queued_trip;
+ghost use Rattle.courier_row.proofs.RoundTrip as courier_trip;
 ghost use Rattle.contact.specs.Contact.{read_in, held_in, SameLists};
 ghost use Rattle.rewrite.specs.Rewrite as spec;
 ghost use Rattle.rewrite.specs.Rewrite.{without_room, rewrites};
 
 use contact::{Contact, ListsMut, ListsRef};
+use courier_row::Held;
 use layout::Question;
+use queued_row::Outgoing;
+use sealed::SealedRow;
 
 pub fn rewrite_device(version: u32, row: &[u8], out: &mut [u8]) -> Result<usize, Question>
     ensures { leaves result out.new ≡ writes (device version) row.now out.old }
@@ -20,20 +26,37 @@ pub fn rewrite_device(version: u32, row: &[u8], out: &mut [u8]) -> Result<usize,
     device_row::read_device(version, row)?.row(out)
 }
 
+// A row with a sealed text that has the same bytes once it was read and written again.
+trait ReadBack: SealedRow {
+    ghost read_write: { (version : ℕ) (row : List ℕ) → Bytes row → (read : ℕ × Self) → accepted read ≡ made (Self.parts row) (read_row (Self.layout version) row)
+        → (out : List ℕ) → writes (Self.layout 3) (Self.image read.1 (drop read.0 row)) out ≡ stored row out };
+}
+
+impl ReadBack for Outgoing {
+    ghost read_write = { queued_trip.read-write-parts };
+}
+
+impl ReadBack for Held {
+    ghost read_write = { courier_trip.read-write-parts };
+}
+
+fn rewrite_sealed<R: ReadBack>(version: u32, row: &[u8], out: &mut [u8]) -> Result<usize, Question>
+    ensures { leaves result out.new ≡ writes (R.layout version) row.now out.old }
+{
+    let (sealed_at, read) = R::read(version, row)?;
+    read.row(sealed::sealed_text(row, sealed_at), out)
+}
+
 pub fn rewrite_queued(version: u32, row: &[u8], out: &mut [u8]) -> Result<usize, Question>
     ensures { leaves result out.new ≡ writes (queued version) row.now out.old }
 {
-    let read = queued_row::read_queued(version, row)?;
-    let sealed = sealed::sealed_text(row, read.sealed_at);
-    read.queued.row(sealed, out)
+    rewrite_sealed::<Outgoing>(version, row, out)
 }
 
 pub fn rewrite_courier(version: u32, row: &[u8], out: &mut [u8]) -> Result<usize, Question>
     ensures { leaves result out.new ≡ writes (courier version) row.now out.old }
 {
-    let read = courier_row::read_courier(version, row)?;
-    let sealed = sealed::sealed_text(row, read.sealed_at);
-    read.held.row(sealed, out)
+    rewrite_sealed::<Held>(version, row, out)
 }
 
 // The refusal where the output is too short for the row: what reading it asks, 36, then 40.

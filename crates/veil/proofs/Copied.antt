@@ -16,6 +16,7 @@ use Rattle.layout.proofs.Hide.{length-hide}
 use Rattle.layout.proofs.Theorems.{accepted≢}
 use Rattle.layout.proofs.Write.{stored_short, stored_row}
 use Rattle.rows.specs.Proved.{Row}
+use Rattle.sealed.proofs.Made.{judged-no}
 use Rattle.put.specs.Put.{Wrote}
 use Rattle.put.proofs.Put.{put_front}
 use Rattle.veil.specs.Veil.{veils}
@@ -38,11 +39,7 @@ module _ {A B : Type 0} (f : A → B) (l : Layout A) (row : List ℕ) where
   -- the row's own refusal
   pub not-copied : {q : ℕ} → refused_by q ≡ made f (read_row l row) → (out : List ℕ) → ◌≡◌ {A = Left} (record { answer = refuses q; out = out }) (veils l row out)
   unfolding veils
-  not-copied {q} told out = go (read_row l row) told
-    where
-      go : (a : Answer A) → refused_by q ≡ made f a → ◌≡◌ {A = Left} (record { answer = refuses q; out = out }) (judged a (hidden_row l veil row) out)
-      go (accepted v) e = absurd (accepted≢ (sym e))
-      go (refused_by p) e = let same : q ≡ p = cc in rw same refl
+  not-copied told out = judged-no f (read_row l row) told (hidden_row l veil row) out
 
 -- ---- the copy
 module _ {A : Type 0} (l : Layout A) (row out : List ℕ) where

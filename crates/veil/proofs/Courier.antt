@@ -24,20 +24,15 @@ use Rattle.rows.proofs.Proved.{proved}
 use Rattle.sealed.proofs.Buckets.{carried-few}
 use Rattle.rows.proofs.RoundTrip.{three}
 use Rattle.courier_row.specs.Row as spec
-use Rattle.courier_row.specs.Row.{held_of, text_of, read_of, value_of, image}
+use Rattle.courier_row.specs.Row.{held_of, text_of, parts, value_of, image}
 use Rattle.courier_row.specs.declared.Held.{Held}
-use Rattle.courier_row.specs.declared.HeldRead.{HeldRead}
 use Rattle.courier_row.proofs.RoundTrip.{sealed-last}
-use Rattle.veil.specs.Veil.{veils}
+use Rattle.veil.specs.Veil.{Tail, VeiledText, veils, held_without_s}
 use Rattle.veil.proofs.Copied.{Granted, granted, copied}
-use Rattle.veil.proofs.Text.{Tail, long, tail}
-
--- the struct with 0 for s
-abbrev pub blanked : Held → Held
-blanked h = record { depositor = h.depositor; expiry_min = h.expiry_min; copies = h.copies; kind = h.kind; tag = h.tag; c = h.c; s = zeros 16 }
+use Rattle.veil.proofs.Text.{long, tail}
 
 -- the value that it stands for, with zeros for the sealed text
-value-is : (v : value.Courier) → fits_of (courier 3) v [] → value_of (blanked (held_of v)) (zeros (length (text_of v))) ≡ blank_of (courier 3) veil v
+value-is : (v : value.Courier) → fits_of (courier 3) v [] → value_of (held_without_s (held_of v)) (zeros (length (text_of v))) ≡ blank_of (courier 3) veil v
 unfolding layout.blank_of
 value-is (inl x) h = refl
 value-is (inr t) h = rw h.0.1.0
@@ -55,9 +50,9 @@ sealed-few (inl x) h = carried-few (length x.sealed) (no-refusal (not_zero x.exp
 sealed-few (inr t) h = omega arith
 
 -- ---- what was read
-module _ (version : ℕ) (row : List ℕ) (by : Bytes row) {read : HeldRead} (told : accepted read ≡ made (read_of row) (read_row (courier version) row)) where
-  yes : Granted (read_of row) (read_row (courier version) row) read
-  yes = granted (read_of row) (courier version) row told
+module _ (version : ℕ) (row : List ℕ) (by : Bytes row) (read : ℕ × Held) (told : accepted read ≡ made (parts row) (read_row (courier version) row)) where
+  yes : Granted (parts row) (read_row (courier version) row) read
+  yes = granted (parts row) (courier version) row told
 
   known : read_row (courier 3) row ≡ accepted yes.value
   known = subst (λ (n : ℕ). read_row (courier n) row ≡ accepted yes.value) (three _ version row yes.is) yes.is
@@ -68,14 +63,17 @@ module _ (version : ℕ) (row : List ℕ) (by : Bytes row) {read : HeldRead} (to
   last : drop (length row - length (text_of yes.value)) row ≡ text_of yes.value
   last = sealed-last 3 yes.value row ((proved.courier 3).laws.read-print row by yes.value known)
 
-  pub courier-tail : Tail row read.sealed_at
-  courier-tail = subst (Tail row) (sym (ap (λ (x : HeldRead). x.sealed_at) yes.made-is)) (tail row (text_of yes.value) last (sealed-few yes.value valid.granted))
+  courier-tail : Tail row read.0
+  courier-tail = subst (Tail row) (sym (ap (λ (x : ℕ × Held). x.0) yes.made-is)) (tail row (text_of yes.value) last (sealed-few yes.value valid.granted))
 
-  pub courier-copied : (out : List ℕ) → writes (courier 3) (image (blanked read.held) (zeros (length row - read.sealed_at))) out ≡ veils (courier version) row out
+  courier-copied : (out : List ℕ) → writes (courier 3) (image (held_without_s read.1) (zeros (length row - read.0))) out ≡ veils (courier version) row out
   unfolding spec.image
   courier-copied out =
-      ap (λ (x : HeldRead). writes (courier 3) (image (blanked x.held) (zeros (length row - x.sealed_at))) out) yes.made-is
-      ∙ ap (λ (n : ℕ). writes (courier 3) (image (blanked (held_of yes.value)) (zeros n)) out) (long row (text_of yes.value) last)
+      ap (λ (x : ℕ × Held). writes (courier 3) (image (held_without_s x.1) (zeros (length row - x.0))) out) yes.made-is
+      ∙ ap (λ (n : ℕ). writes (courier 3) (image (held_without_s (held_of yes.value)) (zeros n)) out) (long row (text_of yes.value) last)
       ∙ ap (λ (x : value.Courier). writes (courier 3) (print (courier 3) x) out) (value-is yes.value valid.fits)
       ∙ copied (courier 3) row out (proved.courier 3) by known
       ∙ rw (three _ version row yes.is)
+
+pub courier-text : (version : ℕ) (row : List ℕ) → Bytes row → VeiledText courier parts image held_without_s version row
+courier-text version row by = record { tail = courier-tail version row by; copied = courier-copied version row by }

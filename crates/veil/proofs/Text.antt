@@ -6,11 +6,7 @@ use mathlib.Core.Path.{◌≡◌, refl, sym, ap, ◌∙◌}
 use native.Mathlib.Omega.{arith}
 use lib.ListN.{length, take, drop, length-drop, length-replicate}
 use Rattle.layout.specs.Veil.{zeros}
-
--- a text stands from `at` on that is no longer than a sealed text can be
-pub record Tail (row : List ℕ) (at : ℕ) : Type 0 where
-  pub inside : at ≤ length row
-  pub few : length row - at ≤ 4064
+use Rattle.veil.specs.Veil.{Tail}
 
 module _ (row text : List ℕ) (last : drop (length row - length text) row ≡ text) where
   pub long : length row - (length row - length text) ≡ length text

@@ -5,9 +5,13 @@
 ghost use Rattle.std.specs.Prelude.{◌≡◌};
 ghost use Rattle.rows.specs.Rows as layouts;
 ghost use Rattle.layout.specs.Says.{leaves};
-ghost use Rattle.veil.specs.Veil.{veils, veil_of};
+ghost use Rattle.veil.specs.Veil.{veils, veil_of, VeiledText, queued_without_s, held_without_s};
 
+use courier_row::Held;
 use layout::Question;
+use queued_row::Outgoing;
+use sealed::SealedRow;
+use store::{CONTACT, COURIER, DEVICE, QUEUED};
 
 // The longest sealed text.
 const SEALED_MAX: usize = 4064;
@@ -21,28 +25,46 @@ fn veil_device(version: u32, row: &[u8], out: &mut [u8]) -> Result<usize, Questi
     device.row(out)
 }
 
-// Veiled: s of the own envelope, and the sealed text.
-fn veil_queued(version: u32, row: &[u8], out: &mut [u8]) -> Result<usize, Question>
-    ensures { leaves result out.new ≡ veils (layouts.queued version) row.now out.old }
-{
-    let read = queued_row::read_queued(version, row)?;
-    let mut queued = read.queued;
-    queued.s = [0; 16];
-    let zeros = [0u8; SEALED_MAX];
-    let len = row.len() - read.sealed_at;
-    queued.row(&zeros[..len], out)
+// A row with a sealed text, of whose other fields only s is veiled.
+trait Veiled: SealedRow {
+    ghost blanked: { Self → Self };
+
+    fn without_s(self) -> Self
+        ensures { result ≡ blanked self };
 }
 
-// Veiled: the sealed text of what is carried; s of a tombstone.
-fn veil_courier(version: u32, row: &[u8], out: &mut [u8]) -> Result<usize, Question>
-    ensures { leaves result out.new ≡ veils (layouts.courier version) row.now out.old }
+// Its s is that of the own envelope.
+impl Veiled for Outgoing {
+    ghost blanked = { queued_without_s };
+
+    fn without_s(self) -> Self {
+        let mut queued = self;
+        queued.s = [0; 16];
+        queued
+    }
+}
+
+// Only a tombstone has an s.
+impl Veiled for Held {
+    ghost blanked = { held_without_s };
+
+    fn without_s(self) -> Self {
+        let mut held = self;
+        held.s = [0; 16];
+        held
+    }
+}
+
+// Veiled: s and the sealed text. What is required is proved of each row here, where a law of the trait could not cite it.
+fn veil_sealed<R: Veiled>(version: u32, row: &[u8], out: &mut [u8]) -> Result<usize, Question>
+    requires { VeiledText R.layout R.parts R.image R.blanked version row.now }
+    ensures { leaves result out.new ≡ veils (R.layout version) row.now out.old }
 {
-    let read = courier_row::read_courier(version, row)?;
-    let mut held = read.held;
-    held.s = [0; 16];
+    let (sealed_at, read) = R::read(version, row)?;
+    // Kept: a text's zeros need memory of a fixed size, since there is no heap
     let zeros = [0u8; SEALED_MAX];
-    let len = row.len() - read.sealed_at;
-    held.row(&zeros[..len], out)
+    let len = row.len() - sealed_at;
+    read.without_s().row(&zeros[..len], out)
 }
 
 // Veiled: the card's beacon key, the doors, the route key, and the keys of chains, pending and skipped. The card's 1184-byte key is not.
@@ -66,10 +88,10 @@ pub fn veil(kind: u32, version: u32, row: &[u8], out: &mut [u8]) -> Result<usize
     ensures { leaves result out.new ≡ veil_of kind version row.now out.old }
 {
     match kind {
-        0 => veil_device(version, row, out),
-        1 => veil_contact(version, row, out),
-        2 => veil_queued(version, row, out),
-        3 => veil_courier(version, row, out),
+        DEVICE => veil_device(version, row, out),
+        CONTACT => veil_contact(version, row, out),
+        QUEUED => veil_sealed::<Outgoing>(version, row, out),
+        COURIER => veil_sealed::<Held>(version, row, out),
         _ => Err(Question::Code),
     }
 }

@@ -9,13 +9,6 @@ use Rattle.envelope.proofs.Image.{whole-fits}
 use Rattle.courier_row.proofs.Image.{envelope_in, carried-is, length-carried, length-in}
 use Rattle.courier_row.proofs.put_carried.Goals as goal
 
-pub put_byte-depositor_at-requires : goal.put_byte-depositor_at-requires
-put_byte-depositor_at-requires c = omega (arith, length-carried c.args.held c.typed.ensures c.args.sealed.now)
-
-pub put_be-envelope_at-requires : goal.put_be-envelope_at-requires
-put_be-envelope_at-requires c =
-    omega (arith, length-carried c.args.held c.typed.ensures c.args.sealed.now, wrote-long c.put_byte-depositor_at.ensures.1, c.put_byte-depositor_at.ensures.0, c.requires)
-
 pub returns : goal.returns
 returns c =
     let held = c.args.held in

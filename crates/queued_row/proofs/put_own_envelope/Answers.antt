@@ -2,9 +2,9 @@
 use mathlib.Core.Path.{ap}
 use native.Mathlib.Omega.{arith}
 use lib.ListN.{length}
-use Rattle.put.proofs.Put.{◌then◌, wrote-long}
+use Rattle.put.proofs.Put.{◌then◌}
 use Rattle.sealed.proofs.Text.{wrote_as}
-use Rattle.queued_row.proofs.Image.{own-absent, own-present, length-present}
+use Rattle.queued_row.proofs.Image.{own-absent, own-present}
 use Rattle.queued_row.proofs.put_own_envelope.Goals as goal
 
 pub put_byte-requires : goal.put_byte-requires
@@ -12,19 +12,6 @@ put_byte-requires c = omega (arith, ap length (own-absent c.args.outgoing c.in_d
 
 pub returns-in_default : goal.returns-in_default
 returns-in_default c = wrote_as (own-absent c.args.outgoing c.in_default.is) c.put_byte.ensures.1
-
-pub put_byte-tag_at-requires : goal.put_byte-tag_at-requires
-put_byte-tag_at-requires c = omega (arith, length-present c.args.outgoing c.typed.ensures c.in-Some.is)
-
-pub put_array-s_at-requires : goal.put_array-s_at-requires
-put_array-s_at-requires c = omega (arith, length-present c.args.outgoing c.typed.ensures c.in-Some.is, wrote-long c.put_byte-tag_at.ensures.1)
-
-pub put_array-expiry_at-requires : goal.put_array-expiry_at-requires
-put_array-expiry_at-requires c = omega (arith, length-present c.args.outgoing c.typed.ensures c.in-Some.is, wrote-long c.put_byte-tag_at.ensures.1, wrote-long c.put_array-s_at.ensures.1)
-
-pub put_numbers-requires : goal.put_numbers-requires
-put_numbers-requires c =
-    omega (arith, length-present c.args.outgoing c.typed.ensures c.in-Some.is, wrote-long c.put_byte-tag_at.ensures.1, wrote-long c.put_array-s_at.ensures.1, wrote-long c.put_array-expiry_at.ensures.1)
 
 pub returns : goal.returns
 returns c =

@@ -1,17 +1,10 @@
 -- `queued_row::read_queued` meets its contract: checked, then copied; or refused by the same question.
-use Rattle.std.proofs.Common.{rules, ◌≡◌, ◌-◌, ◌≤◌, ℕ, Err, length, drop, length-drop, arith}
-use mathlib.Core.Path.{refl, sym, ap}
-use Rattle.layout.specs.Layout.{Answer, accepted, refused_by}
-use Rattle.layout.specs.Says.{made}
-use Rattle.layout.proofs.Theorems.{accepted≢}
+use Rattle.std.proofs.Common.{rules, ◌≡◌, ◌-◌, ◌≤◌, Err, length, drop, length-drop, arith}
+use mathlib.Core.Path.{refl}
 use Rattle.layout.proofs.At.{typed}
+use Rattle.sealed.proofs.Made.{made-no}
 use Rattle.queued.proofs.Placed.{placed}
 use Rattle.queued_row.proofs.read_queued.Goals as goal
-
--- what refuses one thing that is made of a row refuses the other
-made-no : {A B C : Type 0} (f : A → B) (g : A → C) (a : Answer A) {q : ℕ} → refused_by q ≡ made f a → refused_by q ≡ made g a
-made-no f g (accepted v) e = absurd (accepted≢ (sym e))
-made-no f g (refused_by p) {q} e = let same : q ≡ p = cc in ap refused_by same
 
 pub returns-in_err-at : goal.returns-in_err-at
 returns-in_err-at c = let no : c.from_residual.result ≡ Err c.in_err-at.field-0.0 = search rules in rw no (made-no _ _ _ c.in_err-at.ensures)
