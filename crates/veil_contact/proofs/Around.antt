@@ -8,17 +8,7 @@ use lib.ListN.{length, take, drop, length-append, length-drop, length-replicate}
 use lib.Seq.{take_at, drop_at, drop-drop}
 use Rattle.layout.specs.Veil.{zeros}
 use Rattle.contact_parts.specs.Offsets.{run}
-use Rattle.veil_contact.specs.Veiled.{around_key}
-
-pub record Around (plain hidden : List ℕ) (head tail : ℕ) : Type 0 where
-  pub front : List ℕ
-  pub key : List ℕ
-  pub back : List ℕ
-  pub shown : plain ≡ front ++ (key ++ back)
-  pub veiled : hidden ≡ front ++ (zeros 32 ++ back)
-  pub head-long : length front ≡ head
-  pub key-long : length key ≡ 32
-  pub tail-long : length back ≡ tail
+use Rattle.veil_contact.specs.Veiled.{around_key, Around}
 
 module _ {plain hidden : List ℕ} {head tail : ℕ} (a : Around plain hidden head tail) where
   pub plain-long : length plain ≡ head + 32 + tail

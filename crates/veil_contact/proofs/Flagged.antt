@@ -44,5 +44,5 @@ module _ {s : code.Option SendChainAt} {its : SendChainAt} (e : s ≡ code.Some 
   unfolding layout.print
   send-some = rw e (simp append-nil)
 
-  pub send-long : length (send_print s) ≡ 39
-  send-long = rw send-some (simp (length-append, length-replicate, length-bytes_of) (omega arith))
+  pub send_long : length (send_print s) ≡ 39
+  send_long = rw send-some (simp (length-append, length-replicate, length-bytes_of) (omega arith))

@@ -16,8 +16,8 @@ use Rattle.contact_lists.specs.Lists.{items, Listed}
 use Rattle.contact_lists.proofs.Ends.{items_at}
 use Rattle.put.specs.Put.{Wrote}
 use Rattle.put.proofs.Put.{Writing, writing_start, writing_step, writing-done}
-use Rattle.veil_contact.specs.Veiled.{around_key, veiled_many}
-use Rattle.veil_contact.proofs.Around.{Around, hidden-long, inside, behind, copied}
+use Rattle.veil_contact.specs.Veiled.{around_key, Around, AroundKeys, veiled_many}
+use Rattle.veil_contact.proofs.Around.{hidden-long, inside, behind, copied}
 
 module _ {B : Type 0} (f : Form B) where
   pub items-long : Lawful f → (row : List ℕ) → Bytes row → {first n next : ℕ} → Listed f row first n next → length (items f n (drop first row)) ≡ n
@@ -56,7 +56,7 @@ module _ {B : Type 0} (f : Form B) where
       go (b ∷ bs) e w = absurd (omega arith)
 
   -- ---- one turn
-  pub record Turn (l : List ℕ) (at : ℕ) (whole row : List ℕ) (n : ℕ) (m : List ℕ) (q p i : ℕ) : Type 0 where
+  record Turn (l : List ℕ) (at : ℕ) (whole row : List ℕ) (n : ℕ) (m : List ℕ) (q p i : ℕ) : Type 0 where
     pub item : B
     pub more : List B
     pub post : List ℕ
@@ -66,7 +66,7 @@ module _ {B : Type 0} (f : Form B) where
     pub stands : f.print item ++ (print_many f more ++ post) ≡ drop p row
     pub writing : Writing l at whole m q (f.print (f.blank veil item) ++ veiled_many f more)
 
-  pub turn : {l whole row m : List ℕ} {at n q p i : ℕ} → Copying l at whole row n m q p i → i < n → Turn l at whole row n m q p i
+  turn : {l whole row m : List ℕ} {at n q p i : ℕ} → Copying l at whole row n m q p i → i < n → Turn l at whole row n m q p i
   unfolding form.print_many
   turn {l} {whole} {row} {m} {at} {n} {q} {p} {i} c h = go c.left c.count c.joins c.fits c.writing
     where
@@ -83,21 +83,30 @@ module _ {B : Type 0} (f : Form B) where
         writing = w;
       }
 
-  module _ {l whole row m : List ℕ} {at n q p i head tail : ℕ} (t : Turn l at whole row n m q p i) (a : Around (f.print t.item) (f.print (f.blank veil t.item)) head tail) where
-    pub turn_inside : p + head + 32 + tail ≤ length row
-    turn_inside = inside a row p _ t.stands
+  module _ {head : ℕ} {tail : List ℕ → ℕ → ℕ} (keys : AroundKeys f head tail) {l whole row m : List ℕ} {at n q p i : ℕ} (c : Copying l at whole row n m q p i) (h : i < n) where
+    this : Turn l at whole row n m q p i
+    this = turn c h
 
-    pub turn-room : at + length whole ≤ length l → q + head + 32 + tail ≤ length m
-    turn-room h = omega (arith, t.writing.room, t.writing.same, length-append (f.print (f.blank veil t.item)) (veiled_many f t.more), hidden-long a)
+    around : Around (f.print this.item) (f.print (f.blank veil this.item)) head (tail row p)
+    around = keys.around this.item row p _ this.fit this.stands
 
-    pub turn_more : {m' : List ℕ} {q' p' : ℕ} → p' ≡ p + (head + 32 + tail) → Wrote m q (around_key row p head tail) m' q' → Copying l at whole row n m' q' p' (i + 1)
-    turn_more {m'} {q'} {p'} e w =
-        let rest = print_many f t.more ++ t.post in
+    pub turn_inside : p + head + 32 + tail row p ≤ length row
+    turn_inside = inside around row p _ this.stands
+
+    pub turn-some : p + head + 32 < length row
+    turn-some = omega (arith, turn_inside, keys.some row p)
+
+    pub turn-room : at + length whole ≤ length l → q + head + 32 + tail row p ≤ length m
+    turn-room h = omega (arith, this.writing.room, this.writing.same, length-append (f.print (f.blank veil this.item)) (veiled_many f this.more), hidden-long around)
+
+    pub turn_more : {m' : List ℕ} {q' : ℕ} → Wrote m q (around_key row p head (tail row p)) m' q' → Copying l at whole row n m' q' (p + (head + 32 + tail row p)) (i + 1)
+    turn_more {m'} {q'} w =
+        let rest = print_many f this.more ++ this.post in
         record {
-          left = t.more;
-          post = t.post;
-          count = t.count;
-          joins = sym (rw e (behind a row p rest t.stands));
-          fits = t.fits;
-          writing = writing_step (f.print (f.blank veil t.item)) t.writing (rw (copied a row p rest t.stands) at w);
+          left = this.more;
+          post = this.post;
+          count = this.count;
+          joins = sym (behind around row p rest this.stands);
+          fits = this.fits;
+          writing = writing_step (f.print (f.blank veil this.item)) this.writing (rw (copied around row p rest this.stands) at w);
         }

@@ -1,6 +1,6 @@
 -- Chains and skipped keys are bytes around a key.
 -- Assumes nothing.
-use Prim.Native.Nat.{ℕ, ◌+◌, ◌≤◌, ◌<◌}
+use Prim.Native.Nat.{ℕ, ◌+◌, ◌≤◌}
 use mathlib.Core.List.{List, [], ◌∷◌, ◌++◌, append_assoc, append-nil}
 use mathlib.Core.Bool.{Bool, true, false, cond}
 use mathlib.Core.Option.{Option, none, some}
@@ -17,9 +17,7 @@ use Rattle.layout.proofs.Front.{length-bytes_of}
 use Rattle.layout.proofs.Derived.{optional-plain}
 use Rattle.rows.specs.Values.{Chain, Skipped}
 use Rattle.rows.specs.Rows.{dir_byte, chain, skipped}
-use Rattle.veil_contact.specs.Veiled.{flag_length}
-use Rattle.veil_contact.proofs.Around.{Around}
-use Rattle.veil_contact.proofs.Items.{Turn, turn_inside}
+use Rattle.veil_contact.specs.Veiled.{Around, AroundKeys, flag_length}
 
 -- ---- chains: the flag of superseded_s stands behind the key
 abbrev chain_tail : Chain → ℕ
@@ -69,13 +67,11 @@ tail-some : (t : Bool) → 1 ≤ cond t 9 1
 tail-some true = omega arith
 tail-some false = omega arith
 
--- the next chain of a loop
-module _ {l whole row m : List ℕ} {at n q p i : ℕ} (t : Turn (group chain) l at whole row n m q p i) where
-  pub chain-flag : p + 42 < length row
-  chain-flag = omega (arith, turn_inside (group chain) t (chain-around t.item t.fit.1.1.1.0), tail-some (present t.item.superseded_s))
-
-  pub chain-found : {tail : ℕ} → tail ≡ flag_length row (p + 42) → Around (print chain t.item) (print chain (blank_of chain veil t.item)) 10 tail
-  chain-found e = rw (e ∙ chain-tail t.item row p _ t.fit.1.1.1.0 t.stands) (chain-around t.item t.fit.1.1.1.0)
+pub chain-keys : AroundKeys (group chain) 10 (λ row at. flag_length row (at + 42))
+chain-keys = record {
+  around = λ c row from post h e. rw (chain-tail c row from post h.1.1.1.0 e) (chain-around c h.1.1.1.0);
+  some = λ row from. tail-some (eqb (get_or row (from + 42) 0) 1);
+}
 
 -- ---- skipped keys
 skipped-around : (k : Skipped) → length k.key ≡ 32 → Around (print skipped k) (print skipped (blank_of skipped veil k)) 6 8
@@ -91,6 +87,5 @@ skipped-around k h = record {
   tail-long = length-bytes_of 8 k.created_s;
 }
 
-pub skipped-found : {l whole row m : List ℕ} {at n q p i : ℕ} (t : Turn (group skipped) l at whole row n m q p i)
-    → Around (print skipped t.item) (print skipped (blank_of skipped veil t.item)) 6 8
-skipped-found t = skipped-around t.item t.fit.1.1.1.0
+pub skipped-keys : AroundKeys (group skipped) 6 (λ row at. 8)
+skipped-keys = record { around = λ k row from post h e. skipped-around k h.1.1.1.0; some = λ row from. omega arith }

@@ -18,5 +18,5 @@ module _ (k : KeysAt) where
   unfolding layout.print
   keys-print = rw append-nil
 
-  pub keys-long : length (print keys (veiled_keys k)) ≡ 140
-  keys-long = rw keys-print (simp (length-append, length-replicate, length-bytes_of) (omega arith))
+  pub keys_long : length (print keys (veiled_keys k)) ≡ 140
+  keys_long = rw keys-print (simp (length-append, length-replicate, length-bytes_of) (omega arith))

@@ -20,8 +20,8 @@ use Rattle.rows.specs.Rows.{card, role_byte, verification_byte}
 use Rattle.contact_parts.specs.Parts.{Paired, paired}
 use Rattle.contact_parts.specs.Offsets.{paired_from, CardOffsets}
 use Rattle.contact_parts.specs.declared.PairedAt.{PairedAt}
-use Rattle.veil_contact.specs.Veiled.{Stands, card_tail}
-use Rattle.veil_contact.proofs.Around.{Around, plain-long, hidden-long}
+use Rattle.veil_contact.specs.Veiled.{Around, Stands, card_tail}
+use Rattle.veil_contact.proofs.Around.{plain-long, hidden-long}
 
 -- ---- a card
 abbrev static : Card → List ℕ

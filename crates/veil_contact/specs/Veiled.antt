@@ -1,6 +1,6 @@
 -- The parts of a contact row with 0 for what is veiled. That these are the parts' blanked values is shown in proofs/Whole.antt.
 -- Assumes nothing.
-use Rattle.std.specs.Prelude.{ℕ, ◌+◌, List, ◌++◌, map, cond, ◌≡◌, get_or, drop, eqb}
+use Rattle.std.specs.Prelude.{ℕ, ◌+◌, ◌≤◌, List, ◌++◌, map, cond, ◌≡◌, length, get_or, drop, eqb}
 use Rattle.std.proofs.Math.Option.{Option, none, some}
 use Rattle.layout.specs.Veil.{veil, zeros}
 use Rattle.layout.specs.Form.{Form, print_many}
@@ -22,6 +22,17 @@ use Rattle.contact_parts.specs.declared.ChainedAt.{ChainedAt}
 abbrev pub around_key : List ℕ → (from head tail : ℕ) → List ℕ
 around_key row from head tail = run head row from ++ (zeros 32 ++ run tail row (from + head + 32))
 
+-- printed bytes around a key, and the same with 0 for the key
+pub record Around (plain hidden : List ℕ) (head tail : ℕ) : Type 0 where
+  pub front : List ℕ
+  pub key : List ℕ
+  pub back : List ℕ
+  pub shown : plain ≡ front ++ (key ++ back)
+  pub veiled : hidden ≡ front ++ (zeros 32 ++ back)
+  pub head-long : length front ≡ head
+  pub key-long : length key ≡ 32
+  pub tail-long : length back ≡ tail
+
 -- v, which the layout can print, stands printed in the row from a place on
 pub record Stands {A : Type 0} (l : Layout A) (row : List ℕ) (from : ℕ) (v : A) : Type 0 where
   pub post : List ℕ
@@ -36,6 +47,12 @@ module _ {B : Type 0} (f : Form B) where
   -- a counted list that stands in the row
   abbrev pub veiled_list : List ℕ → ListAt → List ℕ
   veiled_list row l = print (list_layout f) ((list f).blank veil (list_in f row l))
+
+-- each item is printed around a key: `head` bytes before it, and as many behind it as `tail` tells by the row
+pub record AroundKeys {B : Type 0} (f : Form B) (head : ℕ) (tail : List ℕ → ℕ → ℕ) : Type 0 where
+  pub around : (item : B) (row : List ℕ) (from : ℕ) (post : List ℕ) → f.fits item post → f.print item ++ post ≡ drop from row
+      → Around (f.print item) (f.print (f.blank veil item)) head (tail row from)
+  pub some : (row : List ℕ) (from : ℕ) → 1 ≤ tail row from
 
 -- how many bytes of a card stand behind its beacon_key
 abbrev pub card_tail : CardAt → ℕ

@@ -1,20 +1,29 @@
 // The parts of a contact row, stored with 0 for their veiled bytes. What is not veiled is copied from the row, or stored from the numbers that were read.
 #![tactic(auto)]
 
-ghost use Rattle.std.specs.Prelude.{◌≡◌, ◌+◌, ◌≤◌, ◌<◌, length};
+ghost use Rattle.std.specs.Prelude.{◌≡◌, ℕ, ◌+◌, ◌≤◌, ◌<◌, List, length};
 ghost use Rattle.layout.specs.Veil.{veil};
+ghost use Rattle.layout.specs.Form.{Form};
 ghost use Rattle.layout.specs.Layout.{print, blank_of, group, optional_layout};
+ghost use Rattle.layout.proofs.Lawful.{Lawful};
+ghost use Rattle.rows.specs.Values as values;
 ghost use Rattle.rows.specs.Rows.{pending, send, chain, skipped};
+ghost use Rattle.rows.proofs.Lawful.{chain-lawful, skipped-lawful};
 ghost use Rattle.put.specs.Put.{Wrote};
 ghost use Rattle.contact_parts.specs.Parts.{paired, keys, chained};
 ghost use Rattle.contact_parts.specs.Offsets.{paired_from, CardOffsets, list_in, ListIn, ChainedLists};
-ghost use Rattle.veil_contact.specs.Veiled.{around_key, Stands, card_tail, veiled_keys, veiled_pending, veiled_send, veiled_many, veiled_list, veiled_chained, flag_length};
+ghost use Rattle.veil_contact.specs.Veiled.{around_key, AroundKeys, Stands, card_tail, veiled_keys, veiled_pending, veiled_send, veiled_many, veiled_list, veiled_chained, flag_length};
 
 use card::CardAt;
 use contact_lists::ListAt;
 use contact_parts::{ChainedAt, KeysAt, PairedAt, PendingAt, SendChainAt};
 
 const KEY_LEN: usize = 32;
+
+const FLAG_LEN: usize = 1;
+
+// How many bytes a time in seconds has.
+const SECONDS_LEN: usize = 8;
 
 // Where the card's beacon_key stands in a contact row: behind three codes, pair_id, th, nonce_b, the card's length, its caps and its beacon_day.
 const BEACON_KEY_AT: usize = 90;
@@ -33,7 +42,7 @@ fn veil_key(out: &mut [u8], at: usize, row: &[u8], from: usize, head: usize, tai
 fn card_tail(card: CardAt) -> usize
     ensures { result ≡ card_tail card }
 {
-    let name = 1 + card.name_len as usize;
+    let name = 1 + usize::from(card.name_len);
     if card.caps / 2 % 2 == 1 {
         return name + rows::MLKEM768_ENCAPSULATION_KEY_LEN;
     }
@@ -52,6 +61,7 @@ pub fn veil_paired(out: &mut [u8], at: usize, row: &[u8], p: PairedAt) -> usize
 }
 
 // The keys, all 0, and the numbers between them.
+#[tactic(auto, using(crate::proofs::Keys::keys_long))]
 pub fn veil_keys(out: &mut [u8], at: usize, k: KeysAt) -> usize
     requires { at + length (print keys (veiled_keys k)) ≤ length out.old }
     ensures { (result ≡ at + length (print keys (veiled_keys k))) × Wrote out.old at (print keys (veiled_keys k)) out.new result }
@@ -59,7 +69,7 @@ pub fn veil_keys(out: &mut [u8], at: usize, k: KeysAt) -> usize
     let resume_index_at = put::put_zeros(out, at, 3 * KEY_LEN);
     let chain_key_at = put::put_be(out, resume_index_at, 8, k.resume_index);
     let sent_msgno_at = put::put_zeros(out, chain_key_at, KEY_LEN);
-    put::put_be(out, sent_msgno_at, 4, k.sent_msgno as u64)
+    put::put_be(out, sent_msgno_at, 4, u64::from(k.sent_msgno))
 }
 
 // The flag, and both keys of a Resume that awaits its confirmation, all 0.
@@ -75,6 +85,7 @@ fn veil_pending(out: &mut [u8], at: usize, p: Option<PendingAt>) -> usize
 }
 
 // The flag, and the send chain's numbers before its key, which is 0.
+#[tactic(auto, using(crate::proofs::Flagged::send_long))]
 fn veil_send(out: &mut [u8], at: usize, s: Option<SendChainAt>) -> usize
     requires { at + length (print (optional_layout (group send)) (veiled_send s)) ≤ length out.old }
     ensures { (result ≡ at + length (print (optional_layout (group send)) (veiled_send s))) × Wrote out.old at (print (optional_layout (group send)) (veiled_send s)) out.new result }
@@ -89,62 +100,96 @@ fn veil_send(out: &mut [u8], at: usize, s: Option<SendChainAt>) -> usize
     put::put_zeros(out, key_at, KEY_LEN)
 }
 
-// How many bytes stand from a chain's flag on: the flag, and superseded_s if it is 1.
-fn flag_len(row: &[u8], at: usize) -> usize
-    requires { at < length row.now }
-    ensures { result ≡ flag_length row.now at }
-{
-    if row[at] == 1 {
-        return 9;
-    }
-    1
+// An item of a counted list: bytes before and behind a key.
+trait Item {
+    const HEAD: usize;
+
+    ghost HEAD: { ℕ };
+
+    ghost value: { Type 0 };
+
+    ghost form: { Form value };
+
+    ghost tail_at: { List ℕ → ℕ → ℕ };
+
+    // How many bytes of the item at `at` stand behind its key.
+    fn tail(row: &[u8], at: usize) -> usize
+        requires { at + HEAD + 32 < length row.now }
+        ensures { result ≡ tail_at row.now at };
+
+    ghost lawful: { Lawful form };
 }
 
-// The chains of a list, with 0 for each key: it stands behind gen, dir and next, which are 10 bytes, and before the flag of superseded_s.
-fn veil_each_chain(out: &mut [u8], at: usize, row: &[u8], l: ListAt) -> usize
-    requires { ListIn (group chain) row.now l × (at + length (veiled_many (group chain) (list_in (group chain) row.now l)) ≤ length out.old) }
-    ensures { (result ≡ at + length (veiled_many (group chain) (list_in (group chain) row.now l))) × Wrote out.old at (veiled_many (group chain) (list_in (group chain) row.now l)) out.new result }
+struct Chain;
+
+impl Item for Chain {
+    // gen, dir and next
+    const HEAD: usize = 10;
+
+    ghost HEAD = { 10 };
+
+    ghost value = { values.Chain };
+
+    ghost form = { group chain };
+
+    ghost tail_at = { λ row at. flag_length row (at + 42) };
+
+    // The flag, and superseded_s if it is 1.
+    fn tail(row: &[u8], at: usize) -> usize {
+        if row[at + Self::HEAD + KEY_LEN] == 1 {
+            return FLAG_LEN + SECONDS_LEN;
+        }
+        FLAG_LEN
+    }
+
+    ghost lawful = { chain-lawful };
+}
+
+struct Skipped;
+
+impl Item for Skipped {
+    // gen, dir and idx
+    const HEAD: usize = 6;
+
+    ghost HEAD = { 6 };
+
+    ghost value = { values.Skipped };
+
+    ghost form = { group skipped };
+
+    ghost tail_at = { λ _ _. 8 };
+
+    // created_s.
+    fn tail(_row: &[u8], _at: usize) -> usize {
+        SECONDS_LEN
+    }
+
+    ghost lawful = { skipped-lawful };
+}
+
+// The items of a list, with 0 for each key. That they are bytes around keys is proved here, where a law of the trait could not cite it.
+fn veil_each<I: Item>(out: &mut [u8], at: usize, row: &[u8], l: ListAt) -> usize
+    requires { AroundKeys I.form I.HEAD I.tail_at × ListIn I.form row.now l × (at + length (veiled_many I.form (list_in I.form row.now l)) ≤ length out.old) }
+    ensures { (result ≡ at + length (veiled_many I.form (list_in I.form row.now l))) × Wrote out.old at (veiled_many I.form (list_in I.form row.now l)) out.new result }
 {
-    let mut p = l.first;
-    let mut q = at;
+    let mut from = l.first;
+    let mut to = at;
     for _ in 0..l.count {
-        let tail = flag_len(row, p + 42);
-        q = veil_key(out, q, row, p, 10, tail);
-        p += 42 + tail;
+        let tail = I::tail(row, from);
+        to = veil_key(out, to, row, from, I::HEAD, tail);
+        from += I::HEAD + KEY_LEN + tail;
     }
-    q
+    to
 }
 
-// The skipped keys of a list, with 0 for each key: it stands behind gen, dir and idx, which are 6 bytes, and before the 8 bytes of created_s.
-fn veil_each_skipped(out: &mut [u8], at: usize, row: &[u8], l: ListAt) -> usize
-    requires { ListIn (group skipped) row.now l × (at + length (veiled_many (group skipped) (list_in (group skipped) row.now l)) ≤ length out.old) }
-    ensures { (result ≡ at + length (veiled_many (group skipped) (list_in (group skipped) row.now l))) × Wrote out.old at (veiled_many (group skipped) (list_in (group skipped) row.now l)) out.new result }
+// The count of a list, and its items with 0 for each key.
+fn veil_list<I: Item>(out: &mut [u8], at: usize, row: &[u8], l: ListAt) -> usize
+    requires { AroundKeys I.form I.HEAD I.tail_at × ListIn I.form row.now l × (at + length (veiled_list I.form row.now l) ≤ length out.old) }
+    ensures { (result ≡ at + length (veiled_list I.form row.now l)) × Wrote out.old at (veiled_list I.form row.now l) out.new result }
 {
-    let mut p = l.first;
-    let mut q = at;
-    for _ in 0..l.count {
-        q = veil_key(out, q, row, p, 6, 8);
-        p += 46;
-    }
-    q
-}
-
-// The count of a list of chains, and the chains with 0 for each key.
-fn veil_chains(out: &mut [u8], at: usize, row: &[u8], l: ListAt) -> usize
-    requires { ListIn (group chain) row.now l × (at + length (veiled_list (group chain) row.now l) ≤ length out.old) }
-    ensures { (result ≡ at + length (veiled_list (group chain) row.now l)) × Wrote out.old at (veiled_list (group chain) row.now l) out.new result }
-{
+    // Kept: usize has no From into u64
     let first = put::put_be(out, at, 2, l.count as u64);
-    veil_each_chain(out, first, row, l)
-}
-
-// The count of a list of skipped keys, and they with 0 for each key.
-fn veil_skipped(out: &mut [u8], at: usize, row: &[u8], l: ListAt) -> usize
-    requires { ListIn (group skipped) row.now l × (at + length (veiled_list (group skipped) row.now l) ≤ length out.old) }
-    ensures { (result ≡ at + length (veiled_list (group skipped) row.now l)) × Wrote out.old at (veiled_list (group skipped) row.now l) out.new result }
-{
-    let first = put::put_be(out, at, 2, l.count as u64);
-    veil_each_skipped(out, first, row, l)
+    veil_each::<I>(out, first, row, l)
 }
 
 // What it awaits and sends, and its chains, with 0 for each key.
@@ -154,6 +199,6 @@ pub fn veil_chained(out: &mut [u8], at: usize, row: &[u8], c: ChainedAt) -> usiz
 {
     let send_at = veil_pending(out, at, c.pending);
     let chains_at = veil_send(out, send_at, c.send);
-    let skipped_at = veil_chains(out, chains_at, row, c.chains);
-    veil_skipped(out, skipped_at, row, c.skipped)
+    let skipped_at = veil_list::<Chain>(out, chains_at, row, c.chains);
+    veil_list::<Skipped>(out, skipped_at, row, c.skipped)
 }
