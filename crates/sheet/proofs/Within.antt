@@ -24,8 +24,8 @@ data Within (k : ℕ) : State → Type 0 where
 
 -- ---- one byte
 module _ (k : ℕ) (s : State) (e : s.lines ≡ k) where
-  refuses : Within k (stopped s.lines LINE)
-  refuses = rw e no_line
+  in-line : Within k (stopped s.lines LINE)
+  in-line = rw e no_line
 
   by-comma : Within k (comma_step s)
   unfolding machine.comma_step
@@ -37,7 +37,7 @@ module _ (k : ℕ) (s : State) (e : s.lines ≡ k) where
 
       go : (l z n : Bool) → Within k (cond l (lettered s) (cond z (stopped s.lines LINE) (cond n (taken s) (waiting s.lines (s.left - 1) DECIMAL))))
       go true z n = going refl refl e
-      go false true n = refuses
+      go false true n = in-line
       go false false true = going (phase (eqb s.left 1) START refl refl) (phase (eqb s.left 1) REFUSED refl refl) e
       go false false false = going refl refl e
 
@@ -75,7 +75,7 @@ module _ (k : ℕ) (s : State) (e : s.lines ≡ k) where
         go false = by-digit
 
     by-letter : (o : Option Shape) → Within k (begun_as o s)
-    by-letter none = refuses
+    by-letter none = in-line
     by-letter (some shape) = going refl refl e
 
     by-other : Within k (other_step b s)
@@ -88,7 +88,7 @@ module _ (k : ℕ) (s : State) (e : s.lines ≡ k) where
         go false true l w x = by-digit
         go false false true w x = by-letter (shape_of (b ∷ []))
         go false false false true x = let is : s.phase ≡ WAIT = eqb-true s.phase WAIT x in going {s = s} (rw is) (rw is) e
-        go false false false false x = refuses
+        go false false false false x = in-line
 
     by_byte : (run records : List ℕ) → eqb s.phase REFUSED ≡ false → eqb b LF ≡ false → Within k (state_in (stepped b (held s run records)))
     unfolding machine.stepped

@@ -4,13 +4,13 @@
 
 ghost use Rattle.std.specs.Prelude.{◌≡◌, ◌*◌, ◌<◌, min, length, get_or, drop};
 ghost use Rattle.store.specs.Store.{store_of, restore, no_entry};
-ghost use Rattle.restore.specs.Restored.{answered};
+ghost use Rattle.restore.specs.Restored.{restored_says, answered};
 ghost use Rattle.sheet_entries.specs.Table.{in_field, entry_from, entries_from, overlaid};
 ghost use Rattle.sheet_entries.specs.Table as tables;
 
-use restore::Restored;
+use restore::Granted;
 use sheet::RECORD;
-use store::Entry;
+use store::{Entry, Refusal, StoreRef};
 
 // How many entries a table has.
 pub const ENTRIES: usize = 512;
@@ -28,6 +28,7 @@ pub fn number_at(records: &[u64], i: usize) -> u64
 }
 
 // The i-th number in a field of 32 bits.
+// Kept, here and below: the new form is no plainer: std has no `From` for a narrower type, and `try_from` would refuse what the clauses answer.
 pub fn field_at(records: &[u64], i: usize) -> u32
     ensures { result ≡ in_field (get_or records.now i 0) }
 {
@@ -88,11 +89,14 @@ pub fn fill(records: &[u64], lines: usize, table: &mut [Entry]) -> usize
 // ---- restore
 
 // What restore answers of the entries of so many lines.
-pub fn restore(run: &[u8], records: &[u64], lines: usize) -> Restored
-    ensures { result ≡ answered (restore (store_of run.now (entries_from (min lines tables.ENTRIES) records.now))) }
+pub fn restore(run: &[u8], records: &[u64], lines: usize) -> Result<Granted, Refusal>
+    ensures { restored_says result ≡ answered (restore (store_of run.now (entries_from (min lines tables.ENTRIES) records.now))) }
 {
-    let blank = no_entry();
-    let mut table = [blank; ENTRIES];
+    // Kept: fixed memory, so the entries are a local array
+    let mut table = [no_entry(); ENTRIES];
     let count = fill(records, lines, &mut table[..]);
-    restore::restore(run, &table[..count])
+    restore::restore(StoreRef {
+        run,
+        entries: &table[..count],
+    })
 }

@@ -7,9 +7,8 @@ use native.Mathlib.Nat.{min-eq_left}
 use lib.ListN.{length, take, drop}
 use lib.Seq.{take_at}
 use Rattle.store.specs.declared.Entry.{Entry}
-use Rattle.sheet.specs.declared.Answer.{Answer}
 use Rattle.sheet.specs.Sheet.{SheetSays, read, refused, sheet_in, entries_in, BLOB_BYTES, LINES}
-use Rattle.sheet.specs.Machine.{Held, held, fed, at_line, room_for, bytes_in, lines_in, room_of, state_in, run_in, records_in, answer_of}
+use Rattle.sheet.specs.Machine.{Held, held, fed, at_line, room_for, bytes_in, lines_in, room_of, state_in, run_in, records_in, Answer, answer_of}
 use Rattle.sheet.specs.Proved.{AllFit, Leaves, Kept, in_chunks, whole}
 use Rattle.sheet.proofs.Proved.{said-laws, machine-laws}
 use Rattle.sheet_entries.specs.Table.{entries_from}

@@ -17,6 +17,6 @@ pub returns : goal.returns
 returns c =
     let a = c.args in
     let e = c.report_store.ensures in
-    let t = as-text a.out.now (read-text a.run.now a.records.now a.lines a.used c.min-bytes.ensures c.room_for.ensures.0 c.min-n.ensures c.room_for-2.ensures.0)
+    let t = as-text a.out.now (read-text a.run.now a.records.now a.read c.min-bytes.ensures c.room_for.ensures.0 c.min-n.ensures c.room_for-2.ensures.0)
     (e.out_after, e.records_len_bound) in
     record { out_after = t.0; records_len_bound = t.1 }
