@@ -1,20 +1,20 @@
 -- Pieces read one after the other.
 -- Assumes nothing.
-use Prim.Native.Nat.{ℕ, ◌+◌, ◌-◌, ◌^◌}
+use Prim.Native.Nat.{ℕ, ◌+◌, ◌-◌, ◌^◌, min}
 use mathlib.Core.List.{List, [], ◌∷◌, ◌++◌, map, map-append}
 use mathlib.Core.Bool.{Bool, true, false, ◌&&◌, ◌||◌, and-true, and_assoc, or-false, or_assoc, false≢true}
 use mathlib.Core.Path.{◌≡◌, refl, sym, ap, ◌∙◌}
 use native.Mathlib.Omega.{arith}
 use lib.ListN.{length, length-append}
 use lib.Dec.{ltb}
-use lib.IntN.{ℤ, pos, negsuc}
+use Rattle.std.specs.Prelude.{Option, Some, None, is_none, unwrap_or}
 use Rattle.rows.specs.Checks.{all, any}
 use Rattle.rows.proofs.Tests.{and_both}
 use Rattle.sheet.specs.declared.State.{State}
 use Rattle.sheet.specs.Machine.{Held, held, at_line, fed}
 use Rattle.sheet.specs.Proved.{in_chunks}
 use Rattle.statement.specs.declared.Reading.{Reading}
-use Rattle.statement.specs.Pieces.{Piece, clamp_len, bytes_of, has_bytes, has_failed, below, held_by, ReadOne, fed_by, ReadAll}
+use Rattle.statement.specs.Pieces.{Piece, bytes_of, has_bytes, has_failed, held_by, ReadOne, fed_by, ReadAll}
 
 -- ---- one piece more
 in-chunks-last : (cs : List (List ℕ)) (c : List ℕ) (h : Held) → in_chunks (cs ++ (c ∷ [])) h ≡ fed c (in_chunks cs h)
@@ -34,9 +34,9 @@ module _ (f : Piece → Bool) where
 bytes_read : (p : Piece) → has_bytes p ≡ true → has_failed p ≡ false
 bytes_read p e = go p.got e
   where
-    go : (z : ℤ) → ltb 0 (clamp_len z (length p.buffer)) ≡ true → below z ≡ false
-    go (pos k) e = refl
-    go (negsuc k) e = absurd (false≢true e)
+    go : (o : Option ℕ) → ltb 0 (min (unwrap_or o 0) (length p.buffer)) ≡ true → is_none o ≡ false
+    go (Some k) e = refl
+    go None e = let none : min 0 (length p.buffer) ≡ 0 = omega arith in absurd (false≢true (rw none at e))
 
 none-failed : (ps : List Piece) → all has_bytes ps ≡ true → any has_failed ps ≡ false
 none-failed [] e = refl

@@ -7,7 +7,7 @@ use mathlib.Core.Path.{◌≡◌, sym, ap, ◌∙◌}
 use native.Mathlib.Omega.{arith}
 use lib.ListN.{length}
 use borrow.Author.Tests.{le-leb}
-use Rattle.std.specs.Prelude.{Result, Ok}
+use Rattle.std.specs.Prelude.{Result, Some, None}
 use Rattle.layout.specs.declared.question.Question.{Question}
 use Rattle.layout.specs.Says.{leaves}
 use Rattle.layout.specs.Write.{stored}
@@ -19,7 +19,7 @@ use Rattle.statement.specs.declared.Reading.{Reading}
 use Rattle.statement.specs.Pieces.{bytes_of, ReadAll, Reports}
 
 module _ {run₀ records₀ run records : List ℕ} {r : Reading} (s : ReadAll run₀ records₀ r run records) (text₀ : List ℕ) where
-  pub reports-none : r.failed ≡ true → Reports run₀ records₀ text₀ (record { written = Ok 0; failed = true }) run records text₀
+  pub reports-none : r.failed ≡ true → Reports run₀ records₀ text₀ None run records text₀
   reports-none e = record {
     pieces = s.pieces;
     ended = s.ended;
@@ -30,7 +30,7 @@ module _ {run₀ records₀ run records : List ℕ} {r : Reading} (s : ReadAll r
   }
 
   pub reports-text : {w : Result ℕ Question} {text : List ℕ} → r.failed ≡ false → BLOB_BYTES ≤ length run₀ → 6 * LINES ≤ length records₀
-      → leaves w text ≡ stored (report_of (answer_of r.state) run records) text₀ → Reports run₀ records₀ text₀ (record { written = w; failed = false }) run records text
+      → leaves w text ≡ stored (report_of (answer_of r.state) run records) text₀ → Reports run₀ records₀ text₀ (Some w) run records text
   reports-text {w} {text} e room lines left =
       let reported = ap (λ (h : Held). report_of (answer_of (state_in h)) (run_in h) (records_in h)) s.fed-are ∙ proved.reports (map bytes_of s.pieces) run₀ records₀ room lines in
       record {

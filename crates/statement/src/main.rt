@@ -4,7 +4,7 @@
 
 ghost use Rattle.std.specs.Prelude.{◌≡◌, true, false, ◌*◌, ◌≤◌, length};
 ghost use Rattle.sheet.specs.Machine.{at_line, held};
-ghost use Rattle.statement.specs.Pieces.{Moved, clamp_len, Taken, ReadOne, ReadAll, Reports};
+ghost use Rattle.statement.specs.Pieces.{Moved, Taken, ReadOne, ReadAll, Reports};
 ghost use Rattle.sheet.specs.Sheet as sheets;
 
 use failure::fail;
@@ -21,13 +21,6 @@ const RECORDS: usize = RECORD * LINES;
 struct Reading {
     state: State,
     more: bool,
-    failed: bool,
-}
-
-// What is to be printed, in the text; nothing where a read failed.
-#[derive(Drop)]
-struct Reported {
-    written: Result<usize, Question>,
     failed: bool,
 }
 
@@ -67,34 +60,22 @@ fn text_bytes() -> [u8; TEXT_BYTES]
     [0; TEXT_BYTES]
 }
 
-// One read: how many bytes it put at the start of the buffer, or -1 where it failed, which is said.
-fn read_once<R: Read>(rt: &(impl Eprint + Alloc), input: &mut R, chunk: &mut [u8]) -> isize
+// One read: how many bytes it put at the start of the buffer; none where it failed, which is said.
+fn read_once<R: Read>(rt: &(impl Eprint + Alloc), input: &mut R, chunk: &mut [u8]) -> Option<usize>
     ensures { Moved (length chunk.new) result }
 {
     match input.read(chunk) {
-        Ok(n) => n as isize,
+        Ok(n) => Some(n),
         Err(error) => {
             fail(rt, "standard input", error);
-            -1
+            None
         }
-    }
-}
-
-// How many bytes of the buffer a read that answered so put there.
-fn count(got: isize, chunk: &[u8]) -> usize
-    ensures in_bounds { result ≤ length chunk.now }
-    ensures value { result ≡ clamp_len got (length chunk.now) }
-{
-    if got > 0 {
-        (got as usize).min(chunk.len())
-    } else {
-        0
     }
 }
 
 // One piece more: what a read answered, and the buffer as it left it.
 fn take_piece(
-    got: isize,
+    got: Option<usize>,
     chunk: &[u8],
     state: State,
     run: &mut [u8],
@@ -102,12 +83,12 @@ fn take_piece(
 ) -> Reading
     ensures { Taken (record { got = got; buffer = chunk.now }) (held state run.old records.old) result run.new records.new }
 {
-    let n = count(got, chunk);
+    let n = got.unwrap_or(0).min(chunk.len());
     let next = sheet::read_chunk(state, &chunk[..n], run, records);
     Reading {
         state: next,
         more: 0 < n,
-        failed: got < 0,
+        failed: got.is_none(),
     }
 }
 
@@ -163,7 +144,7 @@ fn print(rt: &(impl Print + Eprint + Alloc), text: &[u8], written: Result<usize,
     }
 }
 
-// Reads the input and writes its text: lists with the full room hold every sheet.
+// Reads the input and writes its text: lists with the full room hold every sheet. Where a read failed there is none.
 fn report_input<R: Read>(
     rt: &(impl Eprint + Alloc),
     input: &mut R,
@@ -171,23 +152,16 @@ fn report_input<R: Read>(
     run: &mut [u8],
     records: &mut [u64],
     text: &mut [u8],
-) -> Reported
+) -> Option<Result<usize, Question>>
     requires { (sheets.BLOB_BYTES ≤ length run.old) × (6 * sheets.LINES ≤ length records.old) }
     ensures { Reports run.old records.old text.old result run.new records.new text.new }
 {
     let reading = read_all(rt, input, chunk, run, records);
     if reading.failed {
-        return Reported {
-            written: Ok(0),
-            failed: true,
-        };
+        return None;
     }
     let state = reading.state;
-    let written = statement_report::report(state, run, records, text);
-    Reported {
-        written,
-        failed: false,
-    }
+    Some(statement_report::report(state, run, records, text))
 }
 
 fn statement<R: Read>(
@@ -200,12 +174,9 @@ fn statement<R: Read>(
 )
     requires { (sheets.BLOB_BYTES ≤ length run.old) × (6 * sheets.LINES ≤ length records.old) }
 {
-    let reported = report_input(rt, input, chunk, run, records, text);
-    if reported.failed {
-        return;
+    if let Some(written) = report_input(rt, input, chunk, run, records, text) {
+        print(rt, text, written);
     }
-    let written = reported.written;
-    print(rt, text, written);
 }
 
 fn main(rt: HostRuntime) {

@@ -5,4 +5,4 @@ pub returns-then-reading : goal.returns-then-reading
 returns-then-reading g c = reports-none c.read_all-reading.ensures c.args.text.now c.if-reading.true
 
 pub returns : goal.returns
-returns g c = reports-text c.read_all-reading.ensures c.args.text.now c.if-reading.false c.requires.0 c.requires.1 c.report-written.ensures.out_after
+returns g c = reports-text c.read_all-reading.ensures c.args.text.now c.if-reading.false c.requires.0 c.requires.1 c.report.ensures.out_after
