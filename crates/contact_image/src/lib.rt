@@ -1,16 +1,14 @@
 // Contact rows, as state.rs has them: the row that a struct and five lent lists stand for is stored part by part.
 #![tactic(auto)]
 
-ghost use Rattle.std.specs.Prelude.{◌≡◌, true, [], ◌∷◌, ◌++◌, ◌+◌, ◌*◌, ◌≤◌, length, take};
+ghost use Rattle.std.specs.Prelude.{◌≡◌, true, [], ◌∷◌, ◌++◌, ◌+◌, ◌*◌, ◌≤◌, length};
 ghost use Rattle.layout.specs.Form.{bytes_of, u32};
 ghost use Rattle.layout.specs.RowLaws.{Bytes};
-ghost use Rattle.layout.specs.Layout.{print, group, optional, list};
+ghost use Rattle.layout.specs.Layout.{print, group, optional};
 ghost use Rattle.put.specs.Put.{Wrote};
-ghost use Rattle.rows.specs.Rows.{role_byte, verification_byte, pending, send, chain, skipped, range};
+ghost use Rattle.rows.specs.Rows.{role_byte, verification_byte, pending, send, skipped};
 ghost use Rattle.card.specs.Card as cards;
 ghost use Rattle.contact_parts.specs.Parts.{paired, keys, numbers};
-ghost use Rattle.received.specs.Lent.{pairs};
-ghost use Rattle.contact_lent.specs.Lent.{Granted, chains_bytes, skipped_bytes};
 ghost use Rattle.contact_image.specs.Row.{SendTyped, ContactTyped, paired_of, keys_of, pending_of, send_of, numbers_of, counters, lists_image, chained_image, image, ListsTyped, Words, ChainsLent, NumbersLent, Writable};
 ghost use Rattle.contact.specs.Contact.{read_in};
 

@@ -10,8 +10,7 @@ use Rattle.rows.specs.Rows as rows
 use Rattle.store.specs.declared.Entry.{Entry}
 use Rattle.store.specs.declared.Refusal.{Refusal}
 use Rattle.store.specs.Omitted.{Omitted}
-use Rattle.store.specs.Rounds.{Asked, ask, first_no}
-use Rattle.store.specs.Rounds as so
+use Rattle.store.specs.Rounds.{ask, first_no}
 use Rattle.store.specs.Kinds.{CONTACT, QUEUED, Kind, device, contact, queued, courier, unknown, kind_of, seen_of}
 use Rattle.store.specs.Store.{entry_at, is_of, part_of, last_slot}
 use Rattle.store.specs.declared.Wanted.{Wanted}
