@@ -139,7 +139,19 @@ fn across_at(
     restore_across::entry_turn(store.run, e, c, i, p, duplicate, owner, w)
 }
 
-// Of all entries, with an index of so many places.
+// Of all entries, with an index of any size: in a loop for each size a turn is called and not inlined, and restore takes half as long again.
+fn across_turns(read: ReadStore<'_>, index: &[u32], duplicate: usize) -> Result<Progress, Refusal>
+    requires { duplicate ≡ first_duplicate read.store.entries.now }
+    ensures { let r = read.entry in At r.store.run.now r.store.entries.now r.omitted (length r.store.entries.now) (across_says result) }
+{
+    let mut w = restore_across::begin();
+    for i in 0..read.store.entries.len() {
+        w = across_at(read, index, duplicate, i, w)?;
+    }
+    Ok(w)
+}
+
+// With an index of so many places.
 fn indexed_turns<const PLACES: usize>(
     read: ReadStore<'_>,
     duplicate: usize,
@@ -150,11 +162,7 @@ fn indexed_turns<const PLACES: usize>(
     // Kept: no heap: `few_turns` and `many_turns` give the index its places, whatever the store holds
     let mut index = [0; PLACES];
     note_all(read.store.entries, &mut index);
-    let mut w = restore_across::begin();
-    for i in 0..read.store.entries.len() {
-        w = across_at(read, &index, duplicate, i, w)?;
-    }
-    Ok(w)
+    across_turns(read, &index, duplicate)
 }
 
 // With a filter and an index of 1 KB,
