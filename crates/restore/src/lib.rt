@@ -118,6 +118,7 @@ fn owner_at(entries: &[Entry], index: &[u32], e: Entry, upto: usize, latest: usi
 }
 
 // ---- 25 to 33; `duplicate` is the first entry that has a duplicate
+// Kept: the new form is no plainer: a struct for `duplicate` would hold this one number, its ghost field and the store again
 
 fn across_at(
     read: ReadStore<'_>,

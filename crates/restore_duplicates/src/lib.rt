@@ -151,6 +151,7 @@ fn duplicates_in(
 }
 
 // A pass with a filter of so many words.
+// Kept: the new form is no plainer: a bound of a const parameter has no type to stand in, so three functions require it
 fn first_in<const WORDS: usize>(entries: &[Entry], last: usize, part: usize, best: usize) -> usize
     requires { WORDS ≤ 8192 }
     ensures { result ≡ first_where (duplicate_in entries.now last part) 0 best }
