@@ -63,6 +63,15 @@ fn put_codes(out: &mut [u8], at: usize, contact: Contact) -> usize
     put::put_byte(out, verification_at, u8::from(contact.verification))
 }
 
+// How many items, or how many bytes, stand behind it.
+// Kept: `as`, the only one here: u64 has no `From<usize>`.
+fn put_count(out: &mut [u8], at: usize, count: usize) -> usize
+    requires { at + 2 ≤ length out.old }
+    ensures { (result ≡ at + 2) × Wrote out.old at (bytes_of 2 count) out.new result }
+{
+    put::put_be(out, at, 2, count as u64)
+}
+
 // Who the contact is: the codes, the pairing's runs, and the card behind its length.
 #[tactic(auto, using(crate::proofs::Lengths::paired_long))]
 fn put_paired(out: &mut [u8], at: usize, contact: Contact) -> usize
@@ -87,7 +96,7 @@ fn put_peer(out: &mut [u8], at: usize, contact: Contact) -> usize
 {
     let peer = contact.peer;
     let n = card::card_len(peer);
-    let card_at = put::put_be(out, at, 2, n as u64);
+    let card_at = put_count(out, at, n);
     card::put_card(out, card_at, peer)
 }
 
@@ -144,14 +153,6 @@ fn put_send(out: &mut [u8], at: usize, contact: Contact) -> usize
     let key_at = put::put_be(out, idx_at, 4, u64::from(send.idx));
     let key = contact.send_key;
     put::put_array(out, key_at, &key)
-}
-
-// How many items a list has; they stand behind it.
-fn put_count(out: &mut [u8], at: usize, count: usize) -> usize
-    requires { at + 2 ≤ length out.old }
-    ensures { (result ≡ at + 2) × Wrote out.old at (bytes_of 2 count) out.new result }
-{
-    put::put_be(out, at, 2, count as u64)
 }
 
 // The numbers that are no lists.
