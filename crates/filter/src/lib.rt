@@ -5,6 +5,7 @@ ghost use Rattle.std.specs.Prelude.{◌≡◌};
 ghost use Rattle.filter.specs.Filter.{mixed, bit_of, mask_of, is_set, added};
 
 // One more than the highest number of 32 bits.
+// Kept: it numbers no kind: 2^32 parts a number into its halves.
 const HALF: u64 = 4294967296;
 
 // A number whose bits hang on all bits of n: numbers that lie close together are apart in a filter.

@@ -23,6 +23,7 @@ pub fn put_be(out: &mut [u8], at: usize, k: usize, v: u64) -> usize
 {
     let mut x = v;
     for i in (0..k).rev() {
+        // Kept: the new form is no plainer: what is left over fits a byte, and u8::try_from would ask for an answer that is never given
         out[at + i] = (x % 256) as u8;
         x /= 256;
     }
@@ -61,6 +62,7 @@ pub fn copy_array<const N: usize>(src: &[u8], from: usize) -> [u8; N]
     requires { from + N ≤ length src.now }
     ensures { result ≡ take N (drop from src.now) }
 {
+    // Kept: no heap: this array is the answer itself
     let mut bytes = [0; N];
     bytes.copy_from_slice(&src[from..from + N]);
     bytes

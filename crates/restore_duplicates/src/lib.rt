@@ -15,6 +15,7 @@ ghost use Rattle.restore_duplicates.specs.Parts.{in_part, reach_of, added_key, t
 use store::{Entry, Wanted};
 
 // One more than the highest number of 32 bits.
+// Kept: it numbers no kind: 2^32 parts a number into its halves.
 const HALF: u64 = 4294967296;
 
 // ---- keys

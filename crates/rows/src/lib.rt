@@ -102,6 +102,7 @@ impl From<Dir> for u8 {
     }
 }
 
+// Kept: the new form is no plainer: these are core.rs's names; a version may be any number of 32 bits, and mode has this one code.
 pub const BLOB_VERSION: u32 = 3;
 
 pub const MODE_TOFU: u8 = 3;

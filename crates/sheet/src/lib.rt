@@ -298,6 +298,7 @@ fn put_six(records: &mut [u64], at: usize, s: State)
     requires { at + 6 ≤ length records.old }
     ensures { records.new ≡ put records.old at (six s) }
 {
+    // Kept: the new form is no plainer: std has no From<usize> for u64
     records[at..at + RECORD].copy_from_slice(&[
         u64::from(s.kind),
         id_in(s),

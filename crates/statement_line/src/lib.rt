@@ -55,6 +55,7 @@ pub fn size_from(from: u32, to: u32, lowest: u64) -> u64
 }
 
 // How many numbers from `lowest` on the first `count` ranges of a lent flat list, from, to, from, to, hold.
+// Kept: no heap: the list is lent, longer than its count.
 pub fn numbers_in(list: &[u32], count: usize, lowest: u64) -> u64
     ensures { (result ≡ min (size_from lowest (pairs count list.now)) (2 ^ 64 - 1)) × (count ≤ 65535 → result ≡ size_from lowest (pairs count list.now)) }
 {

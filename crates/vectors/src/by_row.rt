@@ -27,6 +27,7 @@ fn is_value(text: &[u8], value: u32, taken: usize) -> bool {
 }
 
 // `- NUMBER`.
+// Kept: it names a refusal that is stored, and answers whether ours is that one.
 fn is_refusal(text: &[u8], refusal: Question) -> bool {
     ascii::is_dash(ascii::field(text)) && is_question(ascii::rest(text), refusal)
 }
