@@ -21,6 +21,7 @@ pub extern "C" fn sicklestar_check_contact(version: u32, row: &[u8]) -> u32
 }
 
 // Reads a contact row into the lent lists, and writes it again to the front of the output.
+// Kept: the five lists one by one, as the C interface has them.
 #[unsafe(no_mangle)]
 pub extern "C" fn sicklestar_contact(
     version: u32,
