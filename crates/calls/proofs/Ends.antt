@@ -4,14 +4,16 @@ use Prim.Native.Nat.{ℕ}
 use mathlib.Core.List.{List}
 use mathlib.Core.Bool.{Bool, cond}
 use mathlib.Core.Path.{◌≡◌, refl, sym, ap, ◌∙◌, subst}
+use Rattle.std.specs.Prelude.{Result}
 use Rattle.rows.specs.declared.ContactId.{ContactId}
 use Rattle.contact.specs.declared.Contact.{Contact}
 use Rattle.contact.specs.Contact.{Lists}
 use Rattle.store.specs.declared.Entry.{Entry}
 use Rattle.store.specs.Store.{store_of}
 use Rattle.store.specs.Store as store
-use Rattle.restore.specs.declared.Restored.{Restored}
-use Rattle.restore.specs.Restored.{answered}
+use Rattle.store.specs.declared.Refusal.{Refusal}
+use Rattle.restore.specs.declared.Granted.{Granted}
+use Rattle.restore.specs.Restored.{restored_says, answered}
 use Rattle.store.specs.Line.{queued_of}
 use Rattle.calls_step.specs.declared.Mark.{Mark}
 use Rattle.calls_step.specs.declared.Mark.TheVariants.{Fresh, Restored as Had, Opened}
@@ -27,23 +29,26 @@ use Rattle.calls_dispatch.specs.declared.Call.TheVariants.{Open, Cover, Contains
 use Rattle.calls_dispatch.specs.declared.Facts.{Facts}
 use Rattle.calls_dispatch.specs.Dispatch.{input_of, passed_on, store_passed, passed_for, gate_of, id_in, id_for, counts_queued, OfStore}
 use Rattle.calls.specs.declared.RestoreLeft.{RestoreLeft}
-use Rattle.calls.specs.Calls.{stored_for, opened_for, asking_for, facts_as, restore_left, restored_on, RestoreSteps}
+use Rattle.calls.specs.Calls.{stored_for, opened_for, asking_for, facts_as, mark_after, restore_left, left_by, restored_on, RestoreSteps}
 
 -- ---- restore
 module _ (run : List ℕ) (es : List Entry) where
   abbrev outcome : store.Outcome
   outcome = store.restore (store_of run es)
 
-  by-outcome : (h : Input) (o : store.Outcome) → restored_on (restore_left (answered o) h.mark) run es h ≡ restoring run es h o
+  by-outcome : (h : Input) (o : store.Outcome) → left_by (answered o) (mark_after (answered o) h.mark) run es h ≡ restoring run es h o
   by-outcome h (store.granted f) = refl
   by-outcome h (store.refused q i) = refl
 
-  pub restore-is : (m : Mark) (a : Restored) (r : RestoreLeft) → a ≡ answered outcome → r ≡ restore_left a m
+  pub restore-is : (m : Mark) (a : Result Granted Refusal) (r : RestoreLeft) → restored_says a ≡ answered outcome → r ≡ restore_left a m
       → RestoreSteps m run es r
   unfolding steps.step
   restore-is m a r is-a is-r = record {
-    answer = ap (λ x. x.answer) is-r ∙ is-a;
-    left = λ h same. ap (λ x. restored_on x run es h) (is-r ∙ (λ i. restore_left (is-a i) (sym same i))) ∙ by-outcome h outcome;
+    answer = ap (λ x. restored_says x.answer) is-r ∙ is-a;
+    left = λ h same.
+        ap (λ x. restored_on x run es h) is-r
+        ∙ (λ i. left_by (is-a i) (mark_after (is-a i) (sym same i)) run es h)
+        ∙ by-outcome h outcome;
   }
 
 -- ---- the other calls: what calls_dispatch::step has to know of the store

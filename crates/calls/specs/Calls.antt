@@ -1,13 +1,14 @@
 -- What restore leaves, and what 34 is asked of for the other calls.
 -- Assumes nothing.
-use Rattle.std.specs.Prelude.{ℕ, List, ◌≡◌}
+use Rattle.std.specs.Prelude.{ℕ, List, ◌≡◌, Result}
 use Rattle.rows.specs.declared.ContactId.{ContactId}
 use Rattle.store.specs.declared.Entry.{Entry}
 use Rattle.store.specs.Store as store
 use Rattle.store.specs.Store.{store_of}
-use Rattle.restore.specs.declared.Restored.{Restored}
-use Rattle.restore.specs.declared.Restored.TheVariants as restored
-use Rattle.restore.specs.Restored.{answered}
+use Rattle.store.specs.declared.Refusal.{Refusal}
+use Rattle.restore.specs.declared.Granted.{Granted}
+use Rattle.restore.specs.Restored as restored
+use Rattle.restore.specs.Restored.{Restored, restored_says, answered}
 use Rattle.calls_step.specs.declared.Mark.{Mark}
 use Rattle.calls_step.specs.declared.Mark.TheVariants as mark
 use Rattle.ledger.specs.Call.{restore, granted, refused_at}
@@ -28,8 +29,8 @@ abbrev pub mark_after : Restored → Mark → Mark
 mark_after (restored.Granted next slots) m = mark.Restored
 mark_after (restored.Refused q i) m = m
 
-abbrev pub restore_left : Restored → Mark → RestoreLeft
-restore_left a m = record { answer = a; mark = mark_after a m }
+abbrev pub restore_left : Result Granted Refusal → Mark → RestoreLeft
+restore_left a m = record { answer = a; mark = mark_after (restored_says a) m }
 
 -- what this leaves of all that stood before: a granted restore leaves the store that it was handed, a refused one the store before
 abbrev pub left_by : Restored → Mark → (run : List ℕ) → List Entry → Input → Left
@@ -37,11 +38,11 @@ left_by (restored.Granted next slots) m run es h = leaves granted (input_of m ru
 left_by (restored.Refused q i) m run es h = leaves (refused_at q i) (input_of m h.run h.entries h.contact h.lists h.out)
 
 abbrev pub restored_on : RestoreLeft → (run : List ℕ) → List Entry → Input → Left
-restored_on r run es h = left_by r.answer r.mark run es h
+restored_on r run es h = left_by (restored_says r.answer) r.mark run es h
 
 -- restore answers what its definition does, and leaves the ledger's step of anything that stood before with this mark
 pub record RestoreSteps (m : Mark) (run : List ℕ) (es : List Entry) (r : RestoreLeft) : Type 0 where
-  pub answer : r.answer ≡ answered (store.restore (store_of run es))
+  pub answer : restored_says r.answer ≡ answered (store.restore (store_of run es))
   pub left : (h : Input) → h.mark ≡ m → restored_on r run es h ≡ step HIGHEST (restore run es) h
 
 -- ---- 34

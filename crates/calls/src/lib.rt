@@ -3,7 +3,7 @@
 #![tactic(auto)]
 
 ghost use Rattle.std.specs.Prelude.{◌≡◌, List, ℕ};
-ghost use Rattle.contact.specs.Contact.{lists, lists_before, lists_after};
+ghost use Rattle.contact.specs.Contact.{read_in, held_in, SameLists};
 ghost use Rattle.calls_step.specs.Step.{step};
 ghost use Rattle.calls_step.specs.Proved.{HIGHEST};
 ghost use Rattle.calls_dispatch.specs.Dispatch.{call_of, input_of, left_of, gate_of, id_in, id_for, counts_queued, OfStore};
@@ -13,38 +13,38 @@ use calls_dispatch::{Call, Facts};
 use calls_open::Left;
 use calls_step::Mark;
 use calls_store::{Asking, Passed};
-use contact::Contact;
+use contact::{Contact, ListsMut, ListsRef};
 use layout::Question;
-use restore::Restored;
+use restore::Granted;
 use rows::ContactId;
-use store::Entry;
+use store::{Refusal, StoreRef};
 
 // What restore leaves: its answer, and the mark for the next call.
 #[derive(Clone, Copy)]
 pub struct RestoreLeft {
-    pub answer: Restored,
+    pub answer: Result<Granted, Refusal>,
     pub mark: Mark,
 }
 
 // ---- restore
 
-fn restored(answer: Restored, mark: Mark) -> RestoreLeft
+fn restored(answer: Result<Granted, Refusal>, mark: Mark) -> RestoreLeft
     ensures { result ≡ restore_left answer mark }
 {
     match answer {
-        Restored::Granted(_, _) => RestoreLeft {
+        Ok(_) => RestoreLeft {
             answer,
             mark: Mark::Restored,
         },
-        Restored::Refused(_, _) => RestoreLeft { answer, mark },
+        Err(_) => RestoreLeft { answer, mark },
     }
 }
 
 // It is handed the store alone: whatever stood before, the opened fields, their lists and an output stay.
-pub fn restore(run: &[u8], entries: &[Entry], mark: Mark) -> RestoreLeft
-    ensures { RestoreSteps mark run.now entries.now result }
+pub fn restore(store: StoreRef<'_>, mark: Mark) -> RestoreLeft
+    ensures { RestoreSteps mark store.entry.run.now store.entry.entries.now result }
 {
-    let answer = restore::restore(run, entries);
+    let answer = restore::restore(store);
     restored(answer, mark)
 }
 
@@ -126,50 +126,34 @@ fn facts_as(answer: Passed, queued: u64, id: ContactId) -> Facts
 
 // What a call has to know of the store.
 fn facts_for(
-    run: &[u8],
-    entries: &[Entry],
+    store: StoreRef<'_>,
     call: Call,
     mark: Mark,
     contact: Contact,
-    chains: &[u8],
-    skipped: &[u8],
-    above: &[u32],
-    unacked: &[u32],
-    expired: &[u32],
+    lists: ListsRef<'_>,
 ) -> Facts
-    ensures { (out : List ℕ) → OfStore call (input_of mark run.now entries.now contact (lists chains.now skipped.now above.now unacked.now expired.now) out) result }
+    ensures { (out : List ℕ) → OfStore call (input_of mark store.entry.run.now store.entry.entries.now contact (read_in lists.entry) out) result }
 {
     let id = id_for(call, mark);
     let asking = asking_for(call, mark);
-    let answer = calls_store::passes(
-        run, entries, asking, id, contact, chains, skipped, above, unacked, expired,
-    );
+    let answer = calls_store::passes(store, asking, id, contact, lists);
     let counted = counts_queued(call);
-    let queued = calls_find::queued_of(entries, id, counted);
+    let queued = calls_find::queued_of(store.entries, id, counted);
     facts_as(answer, queued, id)
 }
 
 // Any call but restore.
 pub fn step(
-    run: &[u8],
-    entries: &[Entry],
+    store: StoreRef<'_>,
     call: Call,
     mark: Mark,
     contact: Contact,
-    chains: &mut [u8],
-    skipped: &mut [u8],
-    above: &mut [u32],
-    unacked: &mut [u32],
-    expired: &mut [u32],
+    lists: &mut ListsMut<'_>,
     out: &mut [u8],
 ) -> Left
-    ensures { let h = input_of mark run.now entries.now contact (lists_before chains skipped above unacked expired) out.old in
-        left_of result h (lists_after chains skipped above unacked expired) out.new ≡ step HIGHEST (call_of call) h }
+    ensures { let h = input_of mark store.entry.run.now store.entry.entries.now contact (held_in lists.old) out.old in
+        (left_of result h (held_in lists.new) out.new ≡ step HIGHEST (call_of call) h) × SameLists lists.old lists.new }
 {
-    let facts = facts_for(
-        run, entries, call, mark, contact, chains, skipped, above, unacked, expired,
-    );
-    calls_dispatch::step(
-        run, call, facts, mark, contact, chains, skipped, above, unacked, expired, out,
-    )
+    let facts = facts_for(store, call, mark, contact, lists.read());
+    calls_dispatch::step(store.run, call, facts, mark, contact, lists, out)
 }

@@ -1,6 +1,7 @@
 -- What the declared values of the code say: the numbers of an answer, and a decoded call.
 -- Assumes nothing.
-use Rattle.std.specs.Prelude.{ℕ, List, [], ◌∷◌, get_or}
+use Rattle.std.specs.Prelude.{ℕ, List, [], ◌∷◌, get_or, Some, None}
+use Rattle.std.specs.Prelude as code
 use Rattle.std.proofs.Math.Option.{Option, none, some}
 use Rattle.ledger.specs.Call.{Call, restore}
 use Rattle.calls_dispatch.specs.Dispatch.{call_of}
@@ -19,8 +20,8 @@ numbers_as tag a b = record { tag = tag; a = a; b = b; c = 0; d = 0; e = 0 }
 abbrev pub restore_in : (run records six : List ℕ) → Call
 restore_in run records six = restore (run_at (get_or six 1 0) (get_or six 2 0) run) (entries_at (get_or six 3 0) (get_or six 4 0) records)
 
--- the call that was decoded
-abbrev pub decoded_as : Decoded → (run records six : List ℕ) → Option Call
-decoded_as decoded.Restore run records six = some (restore_in run records six)
-decoded_as (decoded.Made c) run records six = some (call_of c)
-decoded_as decoded.Nothing run records six = none
+-- the call that was decoded, if there is one
+abbrev pub decoded_as : code.Option Decoded → (run records six : List ℕ) → Option Call
+decoded_as None run records six = none
+decoded_as (Some decoded.Restore) run records six = some (restore_in run records six)
+decoded_as (Some (decoded.Made c)) run records six = some (call_of c)

@@ -24,15 +24,15 @@ pub struct Numbers {
     pub e: u64,
 }
 
-// What the numbers of a call say.
+// The call that numbers say: restore, whose store stands in the numbers, or another.
 #[derive(Clone, Copy)]
 pub enum Decoded {
     Restore,
     Made(Call),
-    Nothing,
 }
 
 // ---- codes of calls
+// Kept: these, and the tags below, name numbers that stand in lent lists, which may hold any number; `decode` and `numbers_of` convert them.
 
 pub const RESTORE: u64 = 1;
 
@@ -108,25 +108,26 @@ pub fn numbers_of(answer: Result<Answer, Question>) -> Numbers
 
 // The call that six numbers say.
 #[tactic(auto, unfolding(crate::specs::Encoding::call_as))]
-pub fn decode(six: &[u64]) -> Decoded
+pub fn decode(six: &[u64]) -> Option<Decoded>
     ensures { (run records : List ℕ) → decoded_as result run records six.now ≡ call_in run records six.now }
 {
     let code = sheet_entries::number_at(six, 0);
-    match code {
-        RESTORE => Decoded::Restore,
-        OPEN => Decoded::Made(Call::Open(ContactId(sheet_entries::number_at(six, 1)))),
-        COVER => Decoded::Made(Call::Cover(
+    let call = match code {
+        RESTORE => return Some(Decoded::Restore),
+        OPEN => Call::Open(ContactId(sheet_entries::number_at(six, 1))),
+        COVER => Call::Cover(
             sheet_entries::field_at(six, 1),
             sheet_entries::field_at(six, 2),
-        )),
-        CONTAINS => Decoded::Made(Call::Contains(sheet_entries::field_at(six, 1))),
-        COVERS => Decoded::Made(Call::Covers(
+        ),
+        CONTAINS => Call::Contains(sheet_entries::field_at(six, 1)),
+        COVERS => Call::Covers(
             sheet_entries::field_at(six, 1),
             sheet_entries::field_at(six, 2),
-        )),
-        TAKE => Decoded::Made(Call::Take),
-        STATEMENT => Decoded::Made(Call::Statement),
-        WRITE => Decoded::Made(Call::Write),
-        _ => Decoded::Nothing,
-    }
+        ),
+        TAKE => Call::Take,
+        STATEMENT => Call::Statement,
+        WRITE => Call::Write,
+        _ => return None,
+    };
+    Some(Decoded::Made(call))
 }

@@ -8,6 +8,7 @@ use mathlib.Core.Path.{◌≡◌, refl, sym, ap, ◌∙◌}
 use lib.ListN.{length, drop}
 use lib.Seq.{take-append_seam}
 use lib.Dec.{leb, ltb}
+use Rattle.std.specs.Prelude as code
 use Rattle.std.specs.Prelude.{Result, Ok, Err}
 use Rattle.layout.specs.declared.question.Question.{Question}
 use Rattle.layout.specs.Questions.{number_of, STORE, RANGE, RANGES_FIT, OUTPUT}
@@ -36,7 +37,6 @@ use Rattle.calls_step.specs.Step.{on_store, passes, on_opened, filling, above_as
 use Rattle.calls_step.specs.Step as steps
 use Rattle.calls_step.specs.Proved.{HIGHEST}
 use Rattle.calls_step.proofs.Contracts.{passed-writes}
-use Rattle.calls_find.specs.declared.Sought.{Sought}
 use Rattle.calls_find.specs.Sought.{sought_of}
 use Rattle.calls_dispatch.specs.declared.Call.{Call}
 use Rattle.calls_dispatch.specs.declared.Call.TheVariants.{Open, Cover, Contains, Covers, Take, Statement, Write}
@@ -137,13 +137,13 @@ module _ (m : Mark) (run : List ℕ) (es : List Entry) (c : Contact) (l : Lists)
       go (layout.accepted v) = cond_of (λ (x : contacts.Left). standing (opened_by x.answer k m c) h x.lists out) (contacts.long_enough v l) _ _
       go (layout.refused_by q) = refl
 
-  looked-up : (k : ContactId) (s : Sought) (x : Option Entry) → s ≡ sought_of x → standing (open_leaves s k m c run l) h (open_lists s run l) out ≡ steps.opening k.0 h x
+  looked-up : (k : ContactId) (s : code.Option Entry) (x : Option Entry) → s ≡ sought_of x → standing (open_leaves s k m c run l) h (open_lists s run l) out ≡ steps.opening k.0 h x
   looked-up k s none e = rw e
   looked-up k s (some x) e = rw e (read-row k x.version (part_of run x))
 
   -- ---- by the call
   module _ {call : Call} (facts : Facts) (o : OfStore call h facts) where
-    abbrev s : Sought
+    abbrev s : code.Option Entry
     s = facts.sought
 
     abbrev q : ℕ

@@ -2,16 +2,16 @@
 // the answer, and nothing changes.
 #![tactic(auto)]
 
-ghost use Rattle.contact.specs.Contact.{lists_before, lists_after};
+ghost use Rattle.contact.specs.Contact.{held_in, SameLists};
 ghost use Rattle.calls_open.specs.Calls.{outcome_of};
 ghost use Rattle.calls_dispatch.specs.Dispatch.{done, Stepped};
 
-use calls_find::Sought;
 use calls_open::Left;
 use calls_step::Mark;
-use contact::Contact;
+use contact::{Contact, ListsMut};
 use layout::Question;
 use rows::ContactId;
+use store::Entry;
 
 // A call on a restored store, with its own arguments.
 #[derive(Clone, Copy)]
@@ -29,7 +29,7 @@ pub enum Call {
 // what was asked before the call's own questions: whether it may go on, or the question that was a no.
 #[derive(Clone, Copy)]
 pub struct Facts {
-    pub sought: Sought,
+    pub sought: Option<Entry>,
     pub queued: u64,
     pub id: ContactId,
     pub gate: Result<(), Question>,
@@ -41,51 +41,35 @@ pub fn step(
     facts: Facts,
     mark: Mark,
     contact: Contact,
-    chains: &mut [u8],
-    skipped: &mut [u8],
-    above: &mut [u32],
-    unacked: &mut [u32],
-    expired: &mut [u32],
+    lists: &mut ListsMut<'_>,
     out: &mut [u8],
 ) -> Left
-    ensures { Stepped call facts mark run.now contact (lists_before chains skipped above unacked expired) out.old
-        (done (outcome_of result) (lists_after chains skipped above unacked expired) out.new) }
+    ensures { Stepped call facts mark run.now contact (held_in lists.old) out.old (done (outcome_of result) (held_in lists.new) out.new) × SameLists lists.old lists.new }
 {
     contact_image::typed(contact);
+    contact_image::lists_typed(lists.read());
     if let Err(refusal) = facts.gate {
         return calls_open::answered(contact, mark, Err(refusal));
     }
     let id = facts.id;
     match call {
-        Call::Open(_) => {
-            calls_open::open(
-                run,
-                facts.sought,
+        Call::Open(_) => calls_open::open(run, facts.sought, id, mark, contact, lists),
+        Call::Cover(from, to) => calls_open::cover(contact, mark, lists.above, from, to),
+        Call::Contains(msgno) => calls_open::contains(contact, mark, lists.read().above, msgno),
+        Call::Covers(from, to) => calls_open::covers(contact, mark, lists.read().above, from, to),
+        Call::Take => calls_open::take(contact, mark),
+        Call::Statement => {
+            let lent = lists.read();
+            calls_open::statement(
                 id,
-                mark,
                 contact,
-                chains,
-                skipped,
-                above,
-                unacked,
-                expired,
+                mark,
+                facts.queued,
+                lent.above,
+                lent.expired,
+                out,
             )
         }
-        Call::Cover(from, to) => calls_open::cover(contact, mark, above, from, to),
-        Call::Contains(msgno) => calls_open::contains(contact, mark, above, msgno),
-        Call::Covers(from, to) => calls_open::covers(contact, mark, above, from, to),
-        Call::Take => calls_open::take(contact, mark),
-        Call::Statement => calls_open::statement(
-            id,
-            contact,
-            mark,
-            facts.queued,
-            above,
-            expired,
-            out,
-        ),
-        Call::Write => {
-            calls_open::write(contact, mark, chains, skipped, above, unacked, expired, out)
-        }
+        Call::Write => calls_open::write(contact, mark, lists.read(), out),
     }
 }

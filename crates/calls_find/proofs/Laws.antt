@@ -7,63 +7,38 @@ use mathlib.Core.Bool.{Bool, true, false, cond, ◌&&◌, ◌||◌}
 use mathlib.Core.Option.{some}
 use mathlib.Core.Path.{◌≡◌, refl, ◌∙◌, ap}
 use lib.ListN.{length}
-use lib.Dec.{leb-suc-suc}
-use borrow.Author.Tests.{lt-ltb}
-use Rattle.std.specs.List.{count_by, list_any}
+use Rattle.std.specs.Prelude.{Some, is_some}
+use Rattle.std.specs.List.{find, count_by, list_any}
 use Rattle.std.proofs.lemmas.List.Recursion.{is_count_by}
 use Rattle.rows.specs.Checks.{any}
 use Rattle.rows.proofs.Tests.{or_swap}
 use Rattle.store.specs.declared.Entry.{Entry}
-use Rattle.store.specs.declared.Wanted.{Wanted}
 use Rattle.store.specs.Kinds.{CONTACT, QUEUED}
 use Rattle.store.specs.Store.{entry_at, is_of, any_below, before, contact_in}
-use Rattle.store.specs.Find.{is_wanted, first_of}
 use Rattle.store.specs.Line.{queued_of}
 use Rattle.calls_find.specs.Sought as sought
-use Rattle.calls_find.specs.declared.Sought.{Sought}
-use Rattle.calls_find.specs.Sought.{sought_of, sought_in, contact_wanted, sought_at, queued_among, queued_found}
+use Rattle.calls_find.specs.Sought.{sought_of, sought_in, queued_among, queued_found}
 use Rattle.calls_find.proofs.Halves.{Rises, found-rising}
 
 -- ---- a contact's first entry: what a search for it finds
--- one entry in front moves what is found by one
-one-behind : (x : Entry) (es : List Entry) (w : Wanted) (j n : ℕ) → first_of (x ∷ es) w (suc j) n ≡ suc (first_of es w j n)
-one-behind x es w j zero = refl
-one-behind x es w j (suc n) = go (is_wanted w (entry_at es j)) (one-behind x es w (suc j) n)
-  where
-    go : (b : Bool) → first_of (x ∷ es) w (suc (suc j)) n ≡ suc (first_of es w (suc j) n) → cond b (suc j) (first_of (x ∷ es) w (suc (suc j)) n) ≡ suc (cond b j (first_of es w (suc j) n))
-    go true later = refl
-    go false later = later
-
-abbrev found-if : Entry → Bool → Sought
-found-if e b = record { entry = e; found = b }
-
-abbrev first-at : (contact : ℕ) → List Entry → ℕ
-first-at k es = first_of es (contact_wanted k) 0 (length es)
-
-abbrev there : List Entry → ℕ → Sought
-there es p = sought_at (entry_at es p) p (length es)
-
-pub first_found : (k : ℕ) (es : List Entry) → there es (first-at k es) ≡ sought_in es k
+pub first_found : (k : ℕ) (es : List Entry) → find (is_of CONTACT k) es ≡ sought_in es k
 first_found k [] = refl
 first_found k (e ∷ es) = go (is_of CONTACT k e) (first_found k es)
   where
-    go : (b : Bool) → there es (first-at k es) ≡ sought_in es k
-        → there (e ∷ es) (cond (b && true) 0 (first_of (e ∷ es) (contact_wanted k) 1 (length es))) ≡ sought_of (cond b (some e) (contact_in es k))
-    go true later = ap (found-if e) (lt-ltb 0 (suc (length es)) (omega arith))
-    go false later =
-        let p = first-at k es in
-        ap (there (e ∷ es)) (one-behind e es (contact_wanted k) 0 (length es)) ∙ (ap (found-if (entry_at es p)) (leb-suc-suc (suc p) (length es)) ∙ later)
+    go : (b : Bool) → find (is_of CONTACT k) es ≡ sought_in es k → cond b (Some e) (find (is_of CONTACT k) es) ≡ sought_of (cond b (some e) (contact_in es k))
+    go true later = refl
+    go false later = later
 
--- found is whether an entry of the contact is among them
+-- one is found if an entry of the contact is among them
 any-front : (n : ℕ) (p : ℕ → Bool) → any_below (suc n) p ≡ (p 0 || any_below n (λ j. p (suc j)))
 any-front zero p = refl
 any-front (suc n) p = ap (λ b. p (suc n) || b) (any-front n p) ∙ or_swap (p (suc n)) (p 0) (any_below n (λ j. p (suc j)))
 
-pub found-is : (k : ℕ) (es : List Entry) → (sought_in es k).found ≡ before es (length es) CONTACT k
+pub found-is : (k : ℕ) (es : List Entry) → is_some (sought_in es k) ≡ before es (length es) CONTACT k
 found-is k [] = refl
 found-is k (e ∷ es) = rw (any-front (length es) (λ j. is_of CONTACT k (entry_at (e ∷ es) j))) (go (is_of CONTACT k e) (found-is k es))
   where
-    go : (b : Bool) → (sought_in es k).found ≡ before es (length es) CONTACT k → (sought_of (cond b (some e) (contact_in es k))).found ≡ (b || before es (length es) CONTACT k)
+    go : (b : Bool) → is_some (sought_in es k) ≡ before es (length es) CONTACT k → is_some (sought_of (cond b (some e) (contact_in es k))) ≡ (b || before es (length es) CONTACT k)
     go true later = refl
     go false later = later
 

@@ -1,29 +1,21 @@
 -- What is looked for among entries: a contact's entry, and its queued ones.
 -- Assumes nothing.
-use Rattle.std.specs.Prelude.{ℕ, zero, suc, ◌+◌, ◌-◌, ◌/◌, List, Bool, true, false, cond, ◌&&◌, ◌||◌, length, get_or, eqb, ltb}
+use Rattle.std.specs.Prelude.{ℕ, zero, suc, ◌+◌, ◌-◌, ◌/◌, List, Bool, true, false, cond, ◌&&◌, ◌||◌, length, get_or, eqb, ltb, Some, None}
+use Rattle.std.specs.Prelude as code
 use Rattle.std.proofs.Math.Option.{Option, none, some}
 use Rattle.rows.specs.Checks.{any}
 use Rattle.store.specs.declared.Entry.{Entry}
-use Rattle.store.specs.declared.Wanted.{Wanted}
-use Rattle.store.specs.Kinds.{CONTACT, QUEUED}
-use Rattle.store.specs.Store.{no_entry, is_of, contact_in}
-use Rattle.calls_find.specs.declared.Sought.{Sought}
+use Rattle.store.specs.Kinds.{QUEUED}
+use Rattle.store.specs.Store.{is_of, contact_in}
 
--- an entry, or that there is none
-abbrev pub sought_of : Option Entry → Sought
-sought_of none = record { entry = no_entry; found = false }
-sought_of (some e) = record { entry = e; found = true }
+-- an entry, or that there is none, in code
+abbrev pub sought_of : Option Entry → code.Option Entry
+sought_of none = None
+sought_of (some e) = Some e
 
 -- the contact's first entry
-abbrev pub sought_in : List Entry → (contact : ℕ) → Sought
+abbrev pub sought_in : List Entry → (contact : ℕ) → code.Option Entry
 sought_in es k = sought_of (contact_in es k)
-
--- ... as a search of all n entries finds it at p: at n where there is none
-abbrev pub contact_wanted : (contact : ℕ) → Wanted
-contact_wanted k = record { id = k; msgno = 0; kind = CONTACT }
-
-abbrev pub sought_at : Entry → (p n : ℕ) → Sought
-sought_at e p n = record { entry = e; found = ltb p n }
 
 -- whether a queued entry of this contact has a msgno among these numbers
 abbrev pub is_among : (contact : ℕ) → (numbers : List ℕ) → Entry → Bool

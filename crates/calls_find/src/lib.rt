@@ -3,43 +3,27 @@
 
 ghost use Rattle.std.specs.Prelude.{◌≡◌, cond, take};
 ghost use Rattle.std.specs.List.{list_any};
-ghost use Rattle.store.specs.Kinds.{QUEUED};
+ghost use Rattle.store.specs.Kinds.{CONTACT, QUEUED};
 ghost use Rattle.store.specs.Store.{is_of};
 ghost use Rattle.store.specs.Line.{queued_of};
-ghost use Rattle.calls_find.specs.Sought.{sought_in, contact_wanted, is_found, is_queued_found, queued_found};
+ghost use Rattle.calls_find.specs.Sought.{sought_in, is_found, is_queued_found, queued_found};
 
 use rows::ContactId;
-use store::{Entry, Wanted};
-
-// A contact's entry; all zeros where there is none.
-#[derive(Clone, Copy)]
-pub struct Sought {
-    pub entry: Entry,
-    pub found: bool,
-}
+use store::Entry;
 
 // ---- a contact's first entry
 
-fn contact_wanted(id: ContactId) -> Wanted
-    ensures { result ≡ contact_wanted id.0 }
+fn is_contact(e: Entry, id: ContactId) -> bool
+    ensures { result ≡ is_of CONTACT id.0 e }
 {
-    Wanted {
-        id: id.0,
-        msgno: 0,
-        kind: store::CONTACT,
-    }
+    e.kind == store::CONTACT && e.id == id.0
 }
 
 // The first entry of this contact.
-pub fn contact_in(entries: &[Entry], id: ContactId) -> Sought
+pub fn contact_in(entries: &[Entry], id: ContactId) -> Option<Entry>
     ensures { result ≡ sought_in entries.now id.0 }
 {
-    let n = entries.len();
-    let p = restore_entries::find(entries, contact_wanted(id), 0, n);
-    Sought {
-        entry: restore_entries::entry_at(entries, p),
-        found: p < n,
-    }
+    entries.iter().find(|e| is_contact(**e, id)).copied()
 }
 
 // ---- how many rows of a contact are queued

@@ -2,12 +2,13 @@
 -- Assumes nothing.
 use Prim.Native.Nat.{ℕ, suc, ◌+◌, ◌-◌, ◌*◌, ◌≤◌, ◌<◌}
 use mathlib.Core.List.{List, [], ◌∷◌}
-use mathlib.Core.Bool.{true, false, true≢false}
+use mathlib.Core.Bool.{true≢false, false≢true}
 use mathlib.Core.Option.{Option, none, some}
 use mathlib.Core.Path.{◌≡◌, refl, sym, ap, ap₂, ◌∙◌, subst}
 use native.Mathlib.Omega.{arith}
 use lib.ListN.{length, drop}
 use lib.Seq.{drop-drop}
+use Rattle.std.specs.Prelude.{Some, None, is_some, unwrap_or, option_map}
 use Rattle.layout.specs.RowLaws.{Bytes}
 use Rattle.put.specs.Put as storing
 use Rattle.put.specs.Put.{put}
@@ -20,6 +21,7 @@ use Rattle.calls_step.specs.Replay.{answers, left}
 use Rattle.calls_step.specs.Proved.{HIGHEST}
 use Rattle.calls_step.proofs.Proved.{proved}
 use Rattle.calls_step.proofs.Replay.{last-left}
+use Rattle.calls_code.specs.declared.Numbers.{Numbers}
 use Rattle.calls_code.specs.Coded.{six}
 use Rattle.calls_session.specs.declared.Session.{Session}
 use Rattle.calls_session.specs.declared.CallLeft.{CallLeft}
@@ -38,6 +40,10 @@ six-long (wrote n) = refl
 six-long (said n line) = refl
 six-long (refused q) = refl
 six-long (refused_at q i) = refl
+
+-- the numbers that are there are the answer's
+numbers-said : (r : CallLeft) (a : Answer) {n : Numbers} → r.answer ≡ Some n → option_map six r.answer ≡ Some (six_of a) → six n ≡ six_of a
+numbers-said r a is says = ap (λ o. unwrap_or o []) (sym (ap (option_map six) is) ∙ says)
 
 module _ (run records numbers : List ℕ) (most : ℕ) where
   -- ---- the calls from the i-th on
@@ -95,10 +101,10 @@ module _ (run records numbers : List ℕ) (most : ℕ) where
 
     module _ (i : ℕ) {h after : Input} {now : List ℕ} {r : CallLeft} where
       -- one call of these is made
-      made : (at : List ℕ) (c : Call) (cs : List Call) → LeftAs (step HIGHEST c h) (moved_by c (step HIGHEST c h).answer (drop (6 * i) numbers) at) after r
-          → ToCome (c ∷ cs) i h at now → ToCome cs (i + 1) after (store_at r.session) (put now (6 * i) (six r.answer))
+      made : (at : List ℕ) (c : Call) (cs : List Call) {n : Numbers} → r.answer ≡ Some n → LeftAs (step HIGHEST c h) (moved_by c (step HIGHEST c h).answer (drop (6 * i) numbers) at) after r
+          → ToCome (c ∷ cs) i h at now → ToCome cs (i + 1) after (store_at r.session) (put now (6 * i) (six n))
       unfolding encoding.numbers_of
-      made at c cs l t =
+      made at c cs answer l t =
           let last = last_left h (step HIGHEST c h) in
           let six-numbers = six_of (step HIGHEST c h).answer in
           let same : after ≡ last = l.stands ∙ sym (last-left HIGHEST c h) in
@@ -110,30 +116,31 @@ module _ (run records numbers : List ℕ) (most : ℕ) where
                 ∙ ap (λ (ns : List ℕ). placed_by cs ns last (moved_by c (step HIGHEST c h).answer (drop (6 * i) numbers) at)) (sym (six-behind i))
                 ∙ t.moves;
             says =
-                ap₂ (λ (a : List ℕ) (x : Input). put (put now (6 * i) a) (6 * (i + 1)) (numbers_of (answers HIGHEST cs x))) l.said same
+                ap₂ (λ (a : List ℕ) (x : Input). put (put now (6 * i) a) (6 * (i + 1)) (numbers_of (answers HIGHEST cs x))) (numbers-said r (step HIGHEST c h).answer answer l.said) same
                 ∙ ap (λ (n : ℕ). put (put now (6 * i) six-numbers) n (numbers_of (answers HIGHEST cs last))) behind
                 ∙ sym (put-append now (6 * i) six-numbers (numbers_of (answers HIGHEST cs last)))
                 ∙ t.says;
           }
 
-      ran : (s : Session) (x : Option Call) (cs : List Call) → r.known ≡ true → Ran x (drop (6 * i) numbers) s h after r → ToCome (followed_by x cs) i h (store_at s) now → ToCome cs (i + 1) after (store_at r.session) (put now (6 * i) (six r.answer))
-      ran s none cs known l t = absurd (true≢false (sym known ∙ ap (λ (y : CallLeft). y.known) l.is.0))
-      ran s (some c) cs known l t = made (store_at s) c cs l.is t
+      ran : (s : Session) (x : Option Call) (cs : List Call) {n : Numbers} → r.answer ≡ Some n → Ran x (drop (6 * i) numbers) s h after r → ToCome (followed_by x cs) i h (store_at s) now
+          → ToCome cs (i + 1) after (store_at r.session) (put now (6 * i) (six n))
+      ran s none cs answer l t = absurd (true≢false (ap is_some (sym answer ∙ ap (λ (y : CallLeft). y.answer) l.is.0)))
+      ran s (some c) cs answer l t = made (store_at s) c cs answer l.is t
 
-      stopped : (s : Session) (x : Option Call) (cs : List Call) → r.known ≡ false → Ran x (drop (6 * i) numbers) s h after r → ToCome (followed_by x cs) i h (store_at s) now → Came after (store_at r.session) now
-      stopped s none cs known l t =
+      stopped : (s : Session) (x : Option Call) (cs : List Call) → r.answer ≡ None → Ran x (drop (6 * i) numbers) s h after r → ToCome (followed_by x cs) i h (store_at s) now → Came after (store_at r.session) now
+      stopped s none cs unanswered l t =
           let came = ended i refl t in
           record { leaves = l.is.1 ∙ came.leaves; moves = ap (λ (y : CallLeft). store_at y.session) l.is.0 ∙ came.moves; says = came.says }
-      stopped s (some c) cs known l t = absurd (true≢false (sym l.is.known ∙ known))
+      stopped s (some c) cs unanswered l t = absurd (false≢true (ap is_some (sym (ap (option_map six) unanswered) ∙ l.is.said)))
 
       -- ---- the loop: a turn, a turn whose numbers are no call, and behind the last
-      pub turn : {s : Session} {these now' : List ℕ} → i < most → r.known ≡ true → these ≡ drop (6 * i) numbers → Ran (call_in run records these) these s h after r → now' ≡ put now (6 * i) (six r.answer)
+      pub turn : {s : Session} {these now' : List ℕ} {n : Numbers} → i < most → r.answer ≡ Some n → these ≡ drop (6 * i) numbers → Ran (call_in run records these) these s h after r → now' ≡ put now (6 * i) (six n)
           → ToCome (rest i) i h (store_at s) now → ToCome (rest (i + 1)) (i + 1) after (store_at r.session) now'
-      turn lt known at_here l stored t = rw stored (ran _ (call_at i) (rest (i + 1)) known (rw at_here at l) (rw (next-rest i lt) at t))
+      turn lt answer at_here l stored t = rw stored (ran _ (call_at i) (rest (i + 1)) answer (rw at_here at l) (rw (next-rest i lt) at t))
 
-      pub stop : {s : Session} {these : List ℕ} → i < most → r.known ≡ false → these ≡ drop (6 * i) numbers → Ran (call_in run records these) these s h after r → ToCome (rest i) i h (store_at s) now
+      pub stop : {s : Session} {these : List ℕ} → i < most → r.answer ≡ None → these ≡ drop (6 * i) numbers → Ran (call_in run records these) these s h after r → ToCome (rest i) i h (store_at s) now
           → Came after (store_at r.session) now
-      stop lt known at_here l t = stopped _ (call_at i) (rest (i + 1)) known (rw at_here at l) (rw (next-rest i lt) at t)
+      stop lt unanswered at_here l t = stopped _ (call_at i) (rest (i + 1)) unanswered (rw at_here at l) (rw (next-rest i lt) at t)
 
     pub end : (i : ℕ) {h : Input} {at now : List ℕ} → most ≤ i → ToCome (rest i) i h at now → Came h at now
     end i le t = ended i (no-rest i le) t

@@ -1,6 +1,6 @@
 -- What the part of each call leaves once the questions before it are a yes, in the words of calls_step/specs/Step.antt and in document 01's order.
 -- Assumes nothing.
-use Rattle.std.specs.Prelude.{ℕ, ◌+◌, ◌-◌, ◌^◌, min, List, cond, ◌≡◌, length, ltb}
+use Rattle.std.specs.Prelude.{ℕ, ◌+◌, ◌-◌, ◌^◌, min, List, cond, ◌≡◌, length, ltb, Option, Some, None}
 use Rattle.layout.specs.Questions.{CONTACT_STORED, RANGE, MSGNO_LEFT}
 use Rattle.layout.specs.Write as writer
 use Rattle.rows.specs.declared.ContactId.{ContactId}
@@ -11,9 +11,9 @@ use Rattle.received.specs.Lent.{pairs, received_in, plan_of, list_after}
 use Rattle.contact.specs.Contact as contacts
 use Rattle.contact.specs.Contact.{Lists, reads}
 use Rattle.contact.specs.declared.Contact.{Contact}
+use Rattle.store.specs.declared.Entry.{Entry}
 use Rattle.store.specs.Store.{part_of}
 use Rattle.store.specs.Line.{line_of}
-use Rattle.calls_find.specs.declared.Sought.{Sought}
 use Rattle.calls_step.specs.declared.Mark.{Mark}
 use Rattle.calls_step.specs.declared.Mark.TheVariants.{Opened}
 use Rattle.calls_step.specs.Step.{renumbered}
@@ -97,13 +97,15 @@ abbrev pub opened_by : row.Answer Contact → ContactId → Mark → Contact →
 opened_by (accepted its) id m c = left its (Opened id) (accepted answer.Yes)
 opened_by (refused_by q) id m c = left c m (refused_by q)
 
--- what reading the row of the sought entry leaves
-abbrev pub read_of : Sought → (run : List ℕ) → Lists → contacts.Left
-read_of s run l = reads s.entry.version (part_of run s.entry) l
+-- what reading the row of the contact's entry leaves
+abbrev pub read_of : Entry → (run : List ℕ) → Lists → contacts.Left
+read_of e run l = reads e.version (part_of run e) l
 
--- 35
-abbrev pub open_leaves : Sought → ContactId → Mark → Contact → (run : List ℕ) → Lists → Outcome
-open_leaves s id m c run l = cond s.found (opened_by (read_of s run l).answer id m c) (left c m (refused_by CONTACT_STORED))
+-- 35: the entry that was sought, if there is one
+abbrev pub open_leaves : Option Entry → ContactId → Mark → Contact → (run : List ℕ) → Lists → Outcome
+open_leaves None id m c run l = left c m (refused_by CONTACT_STORED)
+open_leaves (Some e) id m c run l = opened_by (read_of e run l).answer id m c
 
-abbrev pub open_lists : Sought → (run : List ℕ) → Lists → Lists
-open_lists s run l = cond s.found (read_of s run l).lists l
+abbrev pub open_lists : Option Entry → (run : List ℕ) → Lists → Lists
+open_lists None run l = l
+open_lists (Some e) run l = (read_of e run l).lists

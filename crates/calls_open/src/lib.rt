@@ -3,19 +3,19 @@
 #![tactic(auto)]
 
 ghost use Rattle.std.specs.Prelude.{◌≡◌};
-ghost use Rattle.layout.specs.Says.{answers, written_says};
-ghost use Rattle.contact.specs.Contact.{lists, lists_before, lists_after};
+ghost use Rattle.layout.specs.Says.{answers};
+ghost use Rattle.contact.specs.Contact.{read_in, held_in, SameLists};
 ghost use Rattle.contact_image.specs.Row.{writes_contact};
 ghost use Rattle.numbers.specs.Ranges.{is_range};
 ghost use Rattle.calls_step.specs.Step.{renumbered};
 ghost use Rattle.calls_open.specs.Calls.{left, outcome_of, contains_says, covers_says, covered_by, cover_leaves, cover_list, take_leaves, line_says, row_says, WrittenBy, line_left, opened_by, open_leaves, open_lists};
 
-use calls_find::Sought;
 use calls_step::Mark;
 use contact::{Contact, ListsMut, ListsRef};
 use layout::Question;
 use received::{Change, Received, ReceivedMut};
 use rows::ContactId;
+use store::Entry;
 
 // Open answers yes; cover whether contiguous moved, and how many numbers were not covered before; contains and covers a truth; take the
 // number taken; write the length written; statement the length of the line.
@@ -146,18 +146,6 @@ pub fn take(contact: Contact, mark: Mark) -> Left
 
 // ---- statement, write
 
-fn of_line(written: Result<usize, Question>) -> Result<Answer, Question>
-    ensures { answers result ≡ line_says (written_says written) }
-{
-    Ok(Answer::Said(written?))
-}
-
-fn of_row(written: Result<usize, Question>) -> Result<Answer, Question>
-    ensures { answers result ≡ row_says (written_says written) }
-{
-    Ok(Answer::Wrote(written?))
-}
-
 // Writes the open contact's line to the front of the output, if there is room. Its id and how many queued rows it has come from the store.
 pub fn statement(
     id: ContactId,
@@ -171,7 +159,7 @@ pub fn statement(
     ensures { let line = line_left id contact queued above.now expired.now out.old in WrittenBy contact mark line_says line result out.new }
 {
     let beyond = statement_line::numbers_in(above, contact.above, 0);
-    let acked = width::wide(contact.peer_acked);
+    let acked = u64::from(contact.peer_acked);
     let lost = statement_line::numbers_in(expired, contact.expired, acked + 1);
     let written = statement_line::statement_line(
         id,
@@ -183,31 +171,15 @@ pub fn statement(
         lost,
         out,
     );
-    answered(contact, mark, of_line(written))
+    answered(contact, mark, written.map(Answer::Said))
 }
 
 // Writes the row of the opened fields to the front of the output, if there is room.
-pub fn write(
-    contact: Contact,
-    mark: Mark,
-    chains: &[u8],
-    skipped: &[u8],
-    above: &[u32],
-    unacked: &[u32],
-    expired: &[u32],
-    out: &mut [u8],
-) -> Left
-    ensures { let row = writes_contact contact (lists chains.now skipped.now above.now unacked.now expired.now) out.old in WrittenBy contact mark row_says row result out.new }
+pub fn write(contact: Contact, mark: Mark, lists: ListsRef<'_>, out: &mut [u8]) -> Left
+    ensures { let row = writes_contact contact (read_in lists.entry) out.old in WrittenBy contact mark row_says row result out.new }
 {
-    let lists = ListsRef {
-        chains,
-        skipped,
-        above,
-        unacked,
-        expired,
-    };
     let written = contact_row::write_contact(contact, lists, out);
-    answered(contact, mark, of_row(written))
+    answered(contact, mark, written.map(Answer::Wrote))
 }
 
 // ---- open
@@ -229,31 +201,20 @@ fn opened_by(id: ContactId, mark: Mark, contact: Contact, read: Result<Contact, 
 // Opens the contact of this id, whose entry was sought in the store.
 pub fn open(
     run: &[u8],
-    sought: Sought,
+    sought: Option<Entry>,
     id: ContactId,
     mark: Mark,
     contact: Contact,
-    chains: &mut [u8],
-    skipped: &mut [u8],
-    above: &mut [u32],
-    unacked: &mut [u32],
-    expired: &mut [u32],
+    lists: &mut ListsMut<'_>,
 ) -> Left
-    ensures value { outcome_of result ≡ open_leaves sought id mark contact run.now (lists_before chains skipped above unacked expired) }
-    ensures expired_value { lists_after chains skipped above unacked expired ≡ open_lists sought run.now (lists_before chains skipped above unacked expired) }
+    ensures value { outcome_of result ≡ open_leaves sought id mark contact run.now (held_in lists.old) }
+    ensures lists_value { held_in lists.new ≡ open_lists sought run.now (held_in lists.old) }
+    ensures lists_same { SameLists lists.old lists.new }
 {
-    if !sought.found {
+    let Some(e) = sought else {
         return answered(contact, mark, Err(Question::ContactStored));
-    }
-    let e = sought.entry;
-    let row = store::part_of(run, e);
-    let mut lists = ListsMut {
-        chains,
-        skipped,
-        above,
-        unacked,
-        expired,
     };
-    let read = Contact::decode(e.version, row, &mut lists);
+    let row = store::part_of(run, e);
+    let read = Contact::decode(e.version, row, lists);
     opened_by(id, mark, contact, read)
 }

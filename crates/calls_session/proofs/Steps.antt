@@ -6,6 +6,7 @@ use mathlib.Core.Bool.{cond}
 use mathlib.Core.Option.{Option, some}
 use mathlib.Core.Path.{◌≡◌, refl, sym, ap, ap₂, ◌∙◌, subst, subst₂}
 use lib.ListN.{get_or}
+use Rattle.std.specs.Prelude.{Option as Optional, Some}
 use Rattle.contact.specs.declared.Contact.{Contact}
 use Rattle.contact.specs.Contact.{Lists}
 use Rattle.store.specs.declared.Entry.{Entry}
@@ -17,6 +18,7 @@ use Rattle.calls_step.specs.Proved.{HIGHEST}
 use Rattle.calls_dispatch.specs.declared.Call.{Call as Made}
 use Rattle.calls_dispatch.specs.declared.Call.TheVariants as made
 use Rattle.calls_dispatch.specs.Dispatch.{call_of, input_of}
+use Rattle.restore.specs.Restored.{restored_says}
 use Rattle.calls.specs.Calls.{left_by, restored_on}
 use Rattle.calls.specs.declared.RestoreLeft.{RestoreLeft}
 use Rattle.calls_code.specs.declared.Numbers.{Numbers}
@@ -39,7 +41,7 @@ module _ (s : Session) (run records : List ℕ) where
       → leaves answer (input_of m its_run its_entries c l out) ≡ x → six a ≡ six_of answer → r ≡ next_of s m c a → LeftAs x (store_at s) (input_in r.session run records l out) r
   next-left {x} l out is says next =
       subst (λ (r : CallLeft). LeftAs x (store_at s) (input_in r.session run records l out) r) (sym next)
-      (record { known = refl; stands = ap (λ y. y.after) is; said = says ∙ ap (λ y. six_of y.answer) is; placed = refl })
+      (record { stands = ap (λ y. y.after) is; said = ap Some (says ∙ ap (λ y. six_of y.answer) is); placed = refl })
 
   -- ---- a call that was made on the session's store, found in the lent run and records
   module _ {p : List ℕ} {t : List Entry} (in-run : p ≡ its_run) (in-records : t ≡ its_entries) where
@@ -62,7 +64,7 @@ module _ (s : Session) (run records numbers : List ℕ) where
   pub restore-ran : (left : RestoreLeft) {start len first n : ℕ} {p : List ℕ} {t : List Entry} {r : CallLeft} (h after : Input)
       → start ≡ get_or numbers 1 0 → len ≡ get_or numbers 2 0 → first ≡ get_or numbers 3 0 → n ≡ get_or numbers 4 0 → p ≡ run_at start len run → t ≡ entries_at first n records
       → restored_on left p t h ≡ step HIGHEST (restore p t) h
-      → (let x = left_by left.answer left.mark (run_at start len run) (entries_at first n records) h in
+      → (let x = left_by (restored_says left.answer) left.mark (run_at start len run) (entries_at first n records) h in
       LeftAs x (cond (is_granted x.answer) (start ∷ len ∷ first ∷ n ∷ []) (store_at s)) after r)
       → Ran (some (restore_in run records numbers)) numbers s h after r
   restore-ran left {start} {len} {first} {n} {r = r} h after at_a at_b at_c at-d in-run in-records is its = record {
@@ -92,7 +94,7 @@ step-ran c numbers s {h} {after} {r} its = record {
   is = subst (λ (at : List ℕ). LeftAs (step HIGHEST (call_of c) h) at after r) (sym (stays c (step HIGHEST (call_of c) h).answer numbers (store_at s))) its;
 }
 
-pub decoded-ran : (run records numbers : List ℕ) {s : Session} {d k : Decoded} {y : Option Call} {h after : Input} {r : CallLeft} → d ≡ k → decoded_as d run records numbers ≡ y
+pub decoded-ran : (run records numbers : List ℕ) {s : Session} {d k : Optional Decoded} {y : Option Call} {h after : Input} {r : CallLeft} → d ≡ k → decoded_as d run records numbers ≡ y
     → Ran (decoded_as k run records numbers) numbers s h after r → Ran y numbers s h after r
 decoded-ran run records numbers {s = s} {h = h} {after = after} {r = r} is says ran =
-    subst (λ (z : Option Call). Ran z numbers s h after r) (ap (λ (x : Decoded). decoded_as x run records numbers) (sym is) ∙ says) ran
+    subst (λ (z : Option Call). Ran z numbers s h after r) (ap (λ (x : Optional Decoded). decoded_as x run records numbers) (sym is) ∙ says) ran

@@ -1,6 +1,6 @@
 -- What a session and the lent memory hand to a call, and what one encoded call leaves.
 -- Assumes nothing.
-use Rattle.std.specs.Prelude.{ℕ, List, [], ◌∷◌, true, false, cond, ◌≡◌, get_or}
+use Rattle.std.specs.Prelude.{ℕ, List, [], ◌∷◌, cond, ◌≡◌, get_or, Some, None, option_map}
 use Rattle.std.proofs.Math.Option.{Option, none, some}
 use Rattle.contact.specs.declared.Contact.{Contact}
 use Rattle.contact.specs.Contact.{Lists, zero_contact}
@@ -12,8 +12,8 @@ use Rattle.calls_step.specs.Step.{step}
 use Rattle.calls_step.specs.Proved.{HIGHEST}
 use Rattle.calls_dispatch.specs.Dispatch.{input_of}
 use Rattle.calls_code.specs.declared.Numbers.{Numbers}
-use Rattle.calls_code.specs.Encoding.{YES, run_at, entries_at, six_of}
-use Rattle.calls_code.specs.Coded.{six, numbers_as}
+use Rattle.calls_code.specs.Encoding.{run_at, entries_at, six_of}
+use Rattle.calls_code.specs.Coded.{six}
 use Rattle.calls_session.specs.declared.Session.{Session}
 use Rattle.calls_session.specs.declared.CallLeft.{CallLeft}
 
@@ -40,18 +40,17 @@ moved_by statement a numbers at = at
 moved_by write a numbers at = at
 
 -- ---- one call
--- what is left is this: `after` stands where something was handed in, the answer is its numbers, and the store stands there
+-- what is left is this: `after` stands where something was handed in, there is an answer, which is its numbers, and the store stands there
 pub record LeftAs (l : Left) (at : List ℕ) (after : Input) (r : CallLeft) : Type 0 where
-  pub known : r.known ≡ true
   pub stands : after ≡ l.after
-  pub said : six r.answer ≡ six_of l.answer
+  pub said : option_map six r.answer ≡ Some (six_of l.answer)
   pub placed : store_at r.session ≡ at
 
 abbrev pub next_of : Session → Mark → Contact → Numbers → CallLeft
-next_of s m c a = record { session = record { contact = c; mark = m; start = s.start; len = s.len; first = s.first; n = s.n }; known = true; answer = a }
+next_of s m c a = record { session = record { contact = c; mark = m; start = s.start; len = s.len; first = s.first; n = s.n }; answer = Some a }
 
 abbrev pub unknown_of : Session → CallLeft
-unknown_of s = record { session = s; known = false; answer = numbers_as YES 0 0 }
+unknown_of s = record { session = s; answer = None }
 
 -- numbers that are no call change nothing, and have no answer
 abbrev pub LeftBy : Option Call → (numbers : List ℕ) → Session → (h after : Input) → CallLeft → Type 0

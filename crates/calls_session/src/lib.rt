@@ -4,22 +4,22 @@
 
 ghost use Rattle.std.specs.Prelude.{◌≡◌, List, [], ◌∷◌, cond, ℕ, ◌*◌, drop};
 ghost use Rattle.std.proofs.Math.Option.{some};
-ghost use Rattle.contact.specs.Contact.{Lists, lists_before, lists_after};
+ghost use Rattle.contact.specs.Contact.{Lists, held_in, SameLists};
 ghost use Rattle.ledger.specs.Call.{is_granted};
 ghost use Rattle.calls_step.specs.Step.{step};
 ghost use Rattle.calls_step.specs.Proved.{HIGHEST};
 ghost use Rattle.calls_dispatch.specs.Dispatch.{call_of};
+ghost use Rattle.restore.specs.Restored.{restored_says};
 ghost use Rattle.calls.specs.Calls.{left_by};
 ghost use Rattle.calls_code.specs.Encoding.{run_at, entries_at, call_in};
 ghost use Rattle.calls_code.specs.Coded.{restore_in};
-ghost use Rattle.calls_session.specs.Session.{begun, input_in, store_at, next_of, unknown_of, LeftAs, Ran};
+ghost use Rattle.calls_session.specs.Session.{begun, input_in, store_at, next_of, LeftAs, Ran};
 
 use calls::RestoreLeft;
 use calls_code::{Decoded, NO_AT, Numbers, YES};
 use calls_dispatch::Call;
 use calls_step::Mark;
-use contact::Contact;
-use restore::Restored;
+use contact::{Contact, ListsMut};
 use sheet::RECORD;
 
 // Between calls: the mark, the opened fields, and where the store of the last granted restore stands: len bytes of the lent run from start on, and n
@@ -34,12 +34,11 @@ pub struct Session {
     pub n: usize,
 }
 
-// What a call leaves. Where the numbers are no call, it is not known, and has no answer.
+// What a call leaves. Numbers that are no call have no answer, and leave the session as it was.
 #[derive(Clone, Copy)]
 pub struct CallLeft {
     pub session: Session,
-    pub known: bool,
-    pub answer: Numbers,
+    pub answer: Option<Numbers>,
 }
 
 // ---- before the first call
@@ -63,24 +62,15 @@ pub fn begin() -> Session
 fn run_at(run: &[u8], start: usize, len: usize) -> &[u8]
     ensures { result.now ≡ run_at start len run.now }
 {
-    if run.len() <= start {
-        return &run[..0];
-    }
-    if run.len() - start <= len {
-        return &run[start..];
-    }
-    let end = start + len;
-    &run[start..end]
+    let behind = &run[start.min(run.len())..];
+    &behind[..len.min(behind.len())]
 }
 
 fn records_from(records: &[u64], first: usize) -> &[u64]
     ensures { result.now ≡ drop (6 * first) records.now }
 {
-    if records.len() / RECORD < first {
-        return &records[..0];
-    }
-    let at = RECORD * first;
-    &records[at..]
+    let at = first.saturating_mul(RECORD);
+    &records[at.min(records.len())..]
 }
 
 // ---- the calls
@@ -95,8 +85,7 @@ fn next(session: Session, mark: Mark, contact: Contact, answer: Numbers) -> Call
             mark,
             ..session
         },
-        known: true,
-        answer,
+        answer: Some(answer),
     }
 }
 
@@ -109,11 +98,11 @@ fn restored(
     first: usize,
     n: usize,
 ) -> CallLeft
-    ensures { (run records : List ℕ) (l : Lists) (out : List ℕ) → (let x = left_by left.answer left.mark (run_at start len run) (entries_at first n records) (input_in session run records l out) in
+    ensures { (run records : List ℕ) (l : Lists) (out : List ℕ) → (let x = left_by (restored_says left.answer) left.mark (run_at start len run) (entries_at first n records) (input_in session run records l out) in
         LeftAs x (cond (is_granted x.answer) (start ∷ len ∷ first ∷ n ∷ []) (store_at session)) (input_in result.session run records l out) result) }
 {
     match left.answer {
-        Restored::Granted(_, _) => CallLeft {
+        Ok(_) => CallLeft {
             session: Session {
                 contact: session.contact,
                 mark: left.mark,
@@ -122,15 +111,13 @@ fn restored(
                 first,
                 n,
             },
-            known: true,
-            answer: calls_code::tagged(YES, 0, 0),
+            answer: Some(calls_code::tagged(YES, 0, 0)),
         },
-        Restored::Refused(q, i) => next(
-            session,
-            left.mark,
-            session.contact,
-            calls_code::tagged(NO_AT, q as u64, i as u64),
-        ),
+        Err(refusal) => {
+            let number = u64::from(refusal.question.number());
+            let answer = calls_code::tagged(NO_AT, number, refusal.place as u64);
+            next(session, left.mark, session.contact, answer)
+        }
     }
 }
 
@@ -157,15 +144,12 @@ fn step(
     run: &[u8],
     records: &[u64],
     call: Call,
-    chains: &mut [u8],
-    skipped: &mut [u8],
-    above: &mut [u32],
-    unacked: &mut [u32],
-    expired: &mut [u32],
+    lists: &mut ListsMut<'_>,
     out: &mut [u8],
 ) -> CallLeft
-    ensures { LeftAs (step HIGHEST (call_of call) (input_in session run.now records.now (lists_before chains skipped above unacked expired) out.old)) (store_at session)
-        (input_in result.session run.now records.now (lists_after chains skipped above unacked expired) out.new) result }
+    ensures { LeftAs (step HIGHEST (call_of call) (input_in session run.now records.now (held_in lists.old) out.old)) (store_at session)
+        (input_in result.session run.now records.now (held_in lists.new) out.new) result
+        × SameLists lists.old lists.new }
 {
     let left = calls_table::step(
         run_at(run, session.start, session.len),
@@ -174,11 +158,7 @@ fn step(
         call,
         session.mark,
         session.contact,
-        chains,
-        skipped,
-        above,
-        unacked,
-        expired,
+        lists,
         out,
     );
     next(
@@ -189,40 +169,26 @@ fn step(
     )
 }
 
-// The session as it is, where numbers are no call.
-fn unknown(session: Session) -> CallLeft
-    ensures { result ≡ unknown_of session }
-{
-    CallLeft {
-        session,
-        known: false,
-        answer: calls_code::tagged(YES, 0, 0),
-    }
-}
-
 // The call that six numbers say, made.
 pub fn one(
     session: Session,
     run: &[u8],
     records: &[u64],
     six: &[u64],
-    chains: &mut [u8],
-    skipped: &mut [u8],
-    above: &mut [u32],
-    unacked: &mut [u32],
-    expired: &mut [u32],
+    lists: &mut ListsMut<'_>,
     out: &mut [u8],
 ) -> CallLeft
     ensures { Ran (call_in run.now records.now six.now) six.now session
-        (input_in session run.now records.now (lists_before chains skipped above unacked expired) out.old)
-        (input_in result.session run.now records.now (lists_after chains skipped above unacked expired) out.new) result }
+        (input_in session run.now records.now (held_in lists.old) out.old)
+        (input_in result.session run.now records.now (held_in lists.new) out.new) result
+        × SameLists lists.old lists.new }
 {
-    let decoded = calls_code::decode(six);
-    match decoded {
-        Decoded::Restore => restore(session, run, records, six),
-        Decoded::Made(call) => step(
-            session, run, records, call, chains, skipped, above, unacked, expired, out,
-        ),
-        Decoded::Nothing => unknown(session),
+    match calls_code::decode(six) {
+        Some(Decoded::Restore) => restore(session, run, records, six),
+        Some(Decoded::Made(call)) => step(session, run, records, call, lists, out),
+        None => CallLeft {
+            session,
+            answer: None,
+        },
     }
 }

@@ -6,6 +6,7 @@ use mathlib.Core.Bool.{Bool, true, false, cond, ◌&&◌, not, false≢true}
 use mathlib.Core.Option.{none}
 use mathlib.Core.Path.{◌≡◌, refl, sym, ap, ◌∙◌}
 use lib.Dec.{T}
+use Rattle.std.specs.Prelude.{Option as Optional, Some, Result, Ok, Err, is_some, is_ok}
 use lib.ListN.{length, take}
 use Rattle.layout.specs.Questions.{LISTS, PEER_ACKED, UNACKED, ABOVE, EXPIRED}
 use Rattle.layout.specs.Layout.{Answer, accepted, refused_by, read_row}
@@ -25,19 +26,18 @@ use Rattle.contact_image.proofs.Counts.{all-counted}
 use Rattle.contact_laws.proofs.RoundTrip.{image-consistent}
 use Rattle.store.specs.declared.Entry.{Entry}
 use Rattle.store.specs.Omitted.{Omitted, is_omitted, omitted_seen, seen_omitted, asked_omitted}
-use Rattle.store.specs.declared.Omitted.TheVariants as left
+use Rattle.store.specs.declared.Refusal.{Refusal}
 use Rattle.store.specs.Rounds.{Asked, ask}
 use Rattle.store.specs.Rounds as so
 use Rattle.store.specs.Kinds.{CONTACT}
 use Rattle.store.specs.Store.{is_of, before, next_in, slots_below, going, replaced_passes}
 use Rattle.store.proofs.Tests.{all_yes}
-use Rattle.restore.specs.declared.Restored.{Restored}
-use Rattle.restore.specs.Restored.{granting, questioned, is_granted}
+use Rattle.restore.specs.declared.Granted.{Granted}
+use Rattle.restore.specs.Restored.{restored_says, granting, questioned, is_granted}
 use Rattle.calls_step.specs.declared.Mark.TheVariants.{Fresh}
 use Rattle.calls_step.specs.Input.{Input}
 use Rattle.calls_step.specs.Omitted.{sight_of, is_length, passes_in_parts}
 use Rattle.calls_step.proofs.Omitted.{passes-in-parts}
-use Rattle.calls_find.specs.declared.Sought.{Sought}
 use Rattle.calls_find.specs.Sought.{sought_in, queued_among, queued_found}
 use Rattle.calls_find.proofs.Halves.{Rises}
 use Rattle.calls_find.proofs.Laws.{found-is, among-rising}
@@ -69,9 +69,15 @@ module _ (c : Contact) (l : Lists) (ty : ContactTyped c) (lt : ListsTyped l) whe
       go false counts y read p = absurd (false≢true p)
 
 -- ---- a store is granted if every question is a yes
-all-granted : (run : List ℕ) (es : List Entry) (omitted : Omitted) (end : Restored) → end ≡ questioned run es omitted → is_granted end ≡ going (asked_omitted run es (is_omitted omitted) (omitted_seen omitted))
-all-granted run es omitted end is = ap is_granted is ∙ go (asked_omitted run es (is_omitted omitted) (omitted_seen omitted)) (next_in (seen_omitted run es (is_omitted omitted) (omitted_seen omitted)) es) (slots_below es (length es))
+all-granted : (run : List ℕ) (es : List Entry) (omitted : Omitted) (end : Result Granted Refusal) → restored_says end ≡ questioned run es omitted
+    → is_ok end ≡ going (asked_omitted run es (is_omitted omitted) (omitted_seen omitted))
+all-granted run es omitted end is =
+    said end ∙ ap is_granted is ∙ go (asked_omitted run es (is_omitted omitted) (omitted_seen omitted)) (next_in (seen_omitted run es (is_omitted omitted) (omitted_seen omitted)) es) (slots_below es (length es))
   where
+    said : (r : Result Granted Refusal) → is_ok r ≡ is_granted (restored_says r)
+    said (Ok g) = refl
+    said (Err r) = refl
+
     go : (a : Asked) (next slot : ℕ) → is_granted (granting a next slot) ≡ going a
     go so.Going next slot = refl
     go (so.Refused number place) next slot = refl
@@ -84,18 +90,18 @@ module _ (run : List ℕ) (es : List Entry) (id : ContactId) (c : Contact) (l : 
   abbrev input : Input
   input = record { mark = Fresh; run = run; entries = es; contact = c; lists = l; out = [] }
 
-  still-is : (writable : Bool) (sought : Sought) (omitted : Omitted) (end : Restored) (count : ℕ) (among r : Bool)
-      → Writable c l writable → sought ≡ sought_in es k → omitted ≡ left.Contact id c.sent_msgno → end ≡ questioned run es omitted → count ≡ c.unacked
+  still-is : (writable : Bool) (sought : Optional Entry) (omitted : Omitted) (end : Result Granted Refusal) (count : ℕ) (among r : Bool)
+      → Writable c l writable → sought ≡ sought_in es k → omitted ≡ Some (record { contact = id; sent_msgno = c.sent_msgno }) → restored_says end ≡ questioned run es omitted → count ≡ c.unacked
       → among ≡ queued_found k (take count l.unacked) es
-      → r ≡ (writable && (sought.found && (is_granted end && not among)))
+      → r ≡ (writable && (is_some sought && (is_ok end && not among)))
       → r ≡ (counted c l && replaced_passes run es k (image c l))
   still-is writable sought omitted end count among r is-writable is-sought is-omitted is-end is-count is_among is-r =
-      is-r ∙ (λ i. is-writable.asked i && (there i && (is_granted end && not among))) ∙ in_parts ∙ sym (passes-in-parts k input is-writable.contact is-writable.lists)
+      is-r ∙ (λ i. is-writable.asked i && (there i && (is_ok end && not among))) ∙ in_parts ∙ sym (passes-in-parts k input is-writable.contact is-writable.lists)
     where
-      there : sought.found ≡ before es (length es) CONTACT k
-      there = ap (λ (s : Sought). s.found) is-sought ∙ found-is k es
+      there : is_some sought ≡ before es (length es) CONTACT k
+      there = ap is_some is-sought ∙ found-is k es
 
-      going-is : is_granted end ≡ going (asked_omitted run es (is_of CONTACT k) (sight run es k c.sent_msgno []))
+      going-is : is_ok end ≡ going (asked_omitted run es (is_of CONTACT k) (sight run es k c.sent_msgno []))
       going-is = all-granted run es omitted end is-end ∙ ap (λ (a : Omitted). going (asked_omitted run es (is_omitted a) (omitted_seen a))) is-omitted
 
       among-is : is_length (asked_contact c l) ≡ true → among ≡ queued_among k (take c.unacked l.unacked) es
@@ -103,20 +109,20 @@ module _ (run : List ℕ) (es : List Entry) (id : ContactId) (c : Contact) (l : 
           is_among ∙ ap (λ (n : ℕ). queued_found k (take n l.unacked) es) is-count
           ∙ among-rising k (take c.unacked l.unacked) (rises c l is-writable.contact is-writable.lists t) es
 
-      in_parts : is_length (asked_contact c l) && (before es (length es) CONTACT k && (is_granted end && not among)) ≡ passes_in_parts k input
+      in_parts : is_length (asked_contact c l) && (before es (length es) CONTACT k && (is_ok end && not among)) ≡ passes_in_parts k input
       in_parts =
           either (is_length (asked_contact c l))
-          (λ b. (b && (before es (length es) CONTACT k && (is_granted end && not among)))
+          (λ b. (b && (before es (length es) CONTACT k && (is_ok end && not among)))
           ≡ (b && (before es (length es) CONTACT k && going (asked_omitted run es (is_of CONTACT k) (sight_of c l)))))
           (λ t. ap (λ (x : Bool). before es (length es) CONTACT k && x)
           ((λ i. going-is i && not (among-is t i)) ∙ sym (asked-apart run es k c.sent_msgno (take c.unacked l.unacked))))
           (λ f. refl)
 
   -- ---- whatever it is asked of
-  pub passes-is : (asking : Asking) (writable : Bool) (sought : Sought) (omitted : Omitted) (end : Restored) (count : ℕ) (among r : Bool)
-      → WritableFor asking c l writable → omitted ≡ omitted_for asking id c → end ≡ questioned run es omitted → count ≡ count_for asking c
+  pub passes-is : (asking : Asking) (writable : Bool) (sought : Optional Entry) (omitted : Omitted) (end : Result Granted Refusal) (count : ℕ) (among r : Bool)
+      → WritableFor asking c l writable → omitted ≡ omitted_for asking id c → restored_says end ≡ questioned run es omitted → count ≡ count_for asking c
       → among ≡ queued_found k (take count l.unacked) es
-      → r ≡ yes_for asking writable sought.found (is_granted end) among
+      → r ≡ yes_for asking writable (is_some sought) (is_ok end) among
       → sought ≡ sought_in es k → r ≡ passes_for asking run es id c l
   passes-is Nothing writable sought omitted end count among r is-writable is-omitted is-end is-count is_among is-r is-sought = is-r
   passes-is Stored writable sought omitted end count among r is-writable is-omitted is-end is-count is_among is-r is-sought =

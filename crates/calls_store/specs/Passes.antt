@@ -1,16 +1,14 @@
 -- Question 34 of what it is asked of, and the parts of its answer.
 -- Assumes nothing.
-use Rattle.std.specs.Prelude.{ℕ, List, Bool, false, ◌&&◌, not, ◌≡◌}
+use Rattle.std.specs.Prelude.{ℕ, List, Bool, false, ◌&&◌, not, ◌≡◌, Option, Some, None}
 use Rattle.rows.specs.declared.ContactId.{ContactId}
 use Rattle.contact.specs.Contact.{Lists}
 use Rattle.contact.specs.declared.Contact.{Contact}
 use Rattle.contact_image.specs.Row.{counted, image, asked_contact, ContactTyped, ListsTyped}
 use Rattle.store.specs.declared.Entry.{Entry}
 use Rattle.store.specs.Omitted.{Omitted}
-use Rattle.store.specs.declared.Omitted.TheVariants as left
 use Rattle.store.specs.Store.{store_passes, replaced_passes}
 use Rattle.calls_step.specs.Omitted.{is_length}
-use Rattle.calls_find.specs.declared.Sought.{Sought}
 use Rattle.calls_store.specs.declared.Passed.{Passed}
 use Rattle.calls_store.specs.declared.Asking.{Asking}
 use Rattle.calls_store.specs.declared.Asking.TheVariants.{Nothing, Stored, Opened}
@@ -26,7 +24,7 @@ pub record Writable (c : Contact) (l : Lists) (r : Bool) : Type 0 where
   pub contact : ContactTyped c
   pub lists : ListsTyped l
 
-abbrev pub passed_as : Sought → (passed : Bool) → Passed
+abbrev pub passed_as : Option Entry → (passed : Bool) → Passed
 passed_as s passed = record { sought = s; passed = passed }
 
 -- ---- the parts
@@ -36,9 +34,9 @@ WritableFor Stored c l r = r ≡ false
 WritableFor Opened c l r = Writable c l r
 
 abbrev pub omitted_for : Asking → ContactId → Contact → Omitted
-omitted_for Nothing id c = left.Nothing
-omitted_for Stored id c = left.Nothing
-omitted_for Opened id c = left.Contact id c.sent_msgno
+omitted_for Nothing id c = None
+omitted_for Stored id c = None
+omitted_for Opened id c = Some (record { contact = id; sent_msgno = c.sent_msgno })
 
 abbrev pub count_for : Asking → Contact → ℕ
 count_for Nothing c = 0

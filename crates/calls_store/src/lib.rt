@@ -2,26 +2,26 @@
 // asked what a writer asks, the store with the row left out, and the contact's queued rows 29 by the lent numbers.
 #![tactic(auto)]
 
-ghost use Rattle.std.specs.Prelude.{◌≡◌, ◌&&◌, not};
-ghost use Rattle.contact.specs.Contact.{lists};
-ghost use Rattle.restore.specs.Restored.{is_granted};
+ghost use Rattle.std.specs.Prelude.{◌≡◌, is_some, is_ok};
+ghost use Rattle.contact.specs.Contact.{read_in};
 ghost use Rattle.calls_find.specs.Sought.{sought_in};
 ghost use Rattle.calls_store.specs.Passes.{Writable, WritableFor, omitted_for, count_for, yes_for, passed_as, passes_for};
 
-use calls_find::Sought;
 use contact::{Contact, ListsRef};
-use restore::Restored;
+use restore::Granted;
 use rows::ContactId;
-use store::{Entry, Omitted};
+use store::{Entry, OmittedContact, Refusal, StoreRef};
 
 // A contact's entry, and the answer to 34.
+// Kept: `passes` promises the entry also where 34 is a no, so that the answer stands beside it and not around it.
 #[derive(Clone, Copy)]
 pub struct Passed {
-    pub sought: Sought,
+    pub sought: Option<Entry>,
     pub passed: bool,
 }
 
 // What 34 is asked of: of nothing, since nothing is restored or opened; of the store as it stands; or with the opened fields in place of a contact's row.
+// Kept: no plainer as an Option of an enum of two, since each match names the three.
 #[derive(Clone, Copy)]
 pub enum Asking {
     Nothing,
@@ -29,58 +29,34 @@ pub enum Asking {
     Opened,
 }
 
-fn is_granted(end: Restored) -> bool
-    ensures { result ≡ is_granted end }
-{
-    matches!(end, Restored::Granted(..))
-}
-
 // Whether the opened fields could be written.
-fn is_writable(
-    contact: Contact,
-    chains: &[u8],
-    skipped: &[u8],
-    above: &[u32],
-    unacked: &[u32],
-    expired: &[u32],
-) -> bool
-    ensures { Writable contact (lists chains.now skipped.now above.now unacked.now expired.now) result }
+fn is_writable(contact: Contact, lists: ListsRef<'_>) -> bool
+    ensures { Writable contact (read_in lists.entry) result }
 {
     contact_image::typed(contact);
-    let lists = ListsRef {
-        chains,
-        skipped,
-        above,
-        unacked,
-        expired,
-    };
+    contact_image::lists_typed(lists);
     contact_row::contact_size(contact, lists).is_ok()
 }
 
 // 34 asks that of opened fields alone; of anything else the answer is no.
-fn is_writable_for(
-    asking: Asking,
-    contact: Contact,
-    chains: &[u8],
-    skipped: &[u8],
-    above: &[u32],
-    unacked: &[u32],
-    expired: &[u32],
-) -> bool
-    ensures { WritableFor asking contact (lists chains.now skipped.now above.now unacked.now expired.now) result }
+fn is_writable_for(asking: Asking, contact: Contact, lists: ListsRef<'_>) -> bool
+    ensures { WritableFor asking contact (read_in lists.entry) result }
 {
     match asking {
         Asking::Nothing | Asking::Stored => false,
-        Asking::Opened => is_writable(contact, chains, skipped, above, unacked, expired),
+        Asking::Opened => is_writable(contact, lists),
     }
 }
 
-fn omitted_for(asking: Asking, id: ContactId, contact: Contact) -> Omitted
+fn omitted_for(asking: Asking, id: ContactId, contact: Contact) -> Option<OmittedContact>
     ensures { result ≡ omitted_for asking id contact }
 {
     match asking {
-        Asking::Nothing | Asking::Stored => Omitted::Nothing,
-        Asking::Opened => Omitted::Contact(id, contact.sent_msgno),
+        Asking::Nothing | Asking::Stored => None,
+        Asking::Opened => Some(OmittedContact {
+            contact: id,
+            sent_msgno: contact.sent_msgno,
+        }),
     }
 }
 
@@ -93,24 +69,25 @@ fn unacked_count(asking: Asking, contact: Contact) -> usize
     }
 }
 
-// The fields could be written, the contact is in the store, every question is a yes, and no queued row has an unacked number.
-fn all_yes(writable: bool, sought: Sought, end: Restored, among: bool) -> bool
-    ensures { result ≡ (writable && (sought.found && (is_granted end && not among))) }
-{
-    writable && sought.found && is_granted(end) && !among
-}
-
-fn answer(asking: Asking, writable: bool, sought: Sought, end: Restored, among: bool) -> bool
-    ensures { result ≡ yes_for asking writable sought.found (is_granted end) among }
+// Every question of the store is a yes; with opened fields in place of a row the fields could be written too, the contact is in the store, and no queued row has
+// an unacked number.
+fn answer(
+    asking: Asking,
+    writable: bool,
+    sought: Option<Entry>,
+    end: Result<Granted, Refusal>,
+    among: bool,
+) -> bool
+    ensures { result ≡ yes_for asking writable (is_some sought) (is_ok end) among }
 {
     match asking {
         Asking::Nothing => false,
-        Asking::Stored => is_granted(end),
-        Asking::Opened => all_yes(writable, sought, end, among),
+        Asking::Stored => end.is_ok(),
+        Asking::Opened => writable && sought.is_some() && end.is_ok() && !among,
     }
 }
 
-fn passed_as(sought: Sought, passed: bool) -> Passed
+fn passed_as(sought: Option<Entry>, passed: bool) -> Passed
     ensures { result ≡ passed_as sought passed }
 {
     Passed { sought, passed }
@@ -119,26 +96,20 @@ fn passed_as(sought: Sought, passed: bool) -> Passed
 // 34. For open the store passes as it stands; for the other calls no count is above its list's length, and it passes with the opened fields in place of
 // contact id's row. That contact is sought in the store.
 pub fn passes(
-    run: &[u8],
-    entries: &[Entry],
+    store: StoreRef<'_>,
     asking: Asking,
     id: ContactId,
     contact: Contact,
-    chains: &[u8],
-    skipped: &[u8],
-    above: &[u32],
-    unacked: &[u32],
-    expired: &[u32],
+    lists: ListsRef<'_>,
 ) -> Passed
-    ensures { result ≡ passed_as (sought_in entries.now id.0) (passes_for asking run.now entries.now id contact
-        (lists chains.now skipped.now above.now unacked.now expired.now)) }
+    ensures { result ≡ passed_as (sought_in store.entry.entries.now id.0) (passes_for asking store.entry.run.now store.entry.entries.now id contact (read_in lists.entry)) }
 {
-    let sought = calls_find::contact_in(entries, id);
-    let writable = is_writable_for(asking, contact, chains, skipped, above, unacked, expired);
+    let sought = calls_find::contact_in(store.entries, id);
+    let writable = is_writable_for(asking, contact, lists);
     let omitted = omitted_for(asking, id, contact);
-    let end = restore::questions(run, entries, omitted);
+    let end = restore::questions(store, omitted);
     let count = unacked_count(asking, contact);
-    let among = calls_find::queued_among(entries, id, unacked, count);
+    let among = calls_find::queued_among(store.entries, id, lists.unacked, count);
     let passed = answer(asking, writable, sought, end, among);
     passed_as(sought, passed)
 }

@@ -3,7 +3,7 @@
 #![tactic(auto)]
 
 ghost use Rattle.std.specs.Prelude.{◌≡◌, min};
-ghost use Rattle.contact.specs.Contact.{lists_before, lists_after};
+ghost use Rattle.contact.specs.Contact.{held_in, SameLists};
 ghost use Rattle.calls_step.specs.Step.{step};
 ghost use Rattle.calls_step.specs.Proved.{HIGHEST};
 ghost use Rattle.calls_dispatch.specs.Dispatch.{call_of, input_of, left_of};
@@ -15,8 +15,9 @@ use calls::RestoreLeft;
 use calls_dispatch::Call;
 use calls_open::Left;
 use calls_step::Mark;
-use contact::Contact;
+use contact::{Contact, ListsMut};
 use sheet_entries::ENTRIES;
+use store::StoreRef;
 
 pub fn restore(run: &[u8], records: &[u64], n: usize, mark: Mark) -> RestoreLeft
     ensures { RestoreSteps mark run.now (entries_from (min n tables.ENTRIES) records.now) result }
@@ -24,7 +25,11 @@ pub fn restore(run: &[u8], records: &[u64], n: usize, mark: Mark) -> RestoreLeft
     let blank = sheet_entries::no_entry();
     let mut table = [blank; ENTRIES];
     let count = sheet_entries::fill(records, n, &mut table[..]);
-    calls::restore(run, &table[..count], mark)
+    let store = StoreRef {
+        run,
+        entries: &table[..count],
+    };
+    calls::restore(store, mark)
 }
 
 // Any call but restore.
@@ -35,30 +40,18 @@ pub fn step(
     call: Call,
     mark: Mark,
     contact: Contact,
-    chains: &mut [u8],
-    skipped: &mut [u8],
-    above: &mut [u32],
-    unacked: &mut [u32],
-    expired: &mut [u32],
+    lists: &mut ListsMut<'_>,
     out: &mut [u8],
 ) -> Left
-    ensures { let h = input_of mark run.now (entries_from (min n tables.ENTRIES) records.now) contact (lists_before chains skipped above unacked expired) out.old in
-        left_of result h (lists_after chains skipped above unacked expired) out.new ≡ step HIGHEST (call_of call) h }
+    ensures { let h = input_of mark run.now (entries_from (min n tables.ENTRIES) records.now) contact (held_in lists.old) out.old in
+        (left_of result h (held_in lists.new) out.new ≡ step HIGHEST (call_of call) h) × SameLists lists.old lists.new }
 {
     let blank = sheet_entries::no_entry();
     let mut table = [blank; ENTRIES];
     let count = sheet_entries::fill(records, n, &mut table[..]);
-    calls::step(
+    let store = StoreRef {
         run,
-        &table[..count],
-        call,
-        mark,
-        contact,
-        chains,
-        skipped,
-        above,
-        unacked,
-        expired,
-        out,
-    )
+        entries: &table[..count],
+    };
+    calls::step(store, call, mark, contact, lists, out)
 }

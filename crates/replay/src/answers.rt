@@ -3,7 +3,7 @@ use super::{Asked, Script};
 use ascii::first;
 use calls_session::Session;
 use calls_step::Mark;
-use contact::{Contact, ListsRef};
+use contact::{Contact, ListsMut, ListsRef};
 use failure::fail;
 use layout::Question;
 use rows::ContactId;
@@ -38,25 +38,14 @@ fn opened_state(
     id: ContactId,
     contact: Contact,
     written: usize,
-    chains: &[u8],
-    skipped: &[u8],
-    above: &[u32],
-    unacked: &[u32],
-    expired: &[u32],
+    lists: ListsRef<'_>,
     line: &mut [u8],
 ) -> Result<usize, Question> {
     // Kept: fixed memory, so a row is written to a local array
     let mut row = [0u8; 131072];
-    let lists = ListsRef {
-        chains,
-        skipped,
-        above,
-        unacked,
-        expired,
-    };
     let size = contact_row::write_contact(contact, lists, &mut row);
     match size {
-        Ok(n) => replay_answer::state_line(id, first(&row, n), above, written, line),
+        Ok(n) => replay_answer::state_line(id, first(&row, n), lists.above, written, line),
         Err(refusal) => replay_answer::number_line(b"no ", u64::from(refusal.number()), line),
     }
 }
@@ -64,11 +53,7 @@ fn opened_state(
 fn state(
     session: Session,
     written: usize,
-    chains: &[u8],
-    skipped: &[u8],
-    above: &[u32],
-    unacked: &[u32],
-    expired: &[u32],
+    lists: ListsRef<'_>,
     line: &mut [u8],
 ) -> Result<usize, Question> {
     let mark = session.mark;
@@ -76,9 +61,7 @@ fn state(
     let Mark::Opened(id) = mark else {
         return replay_answer::text_line(b"none", line);
     };
-    opened_state(
-        id, contact, written, chains, skipped, above, unacked, expired, line,
-    )
+    opened_state(id, contact, written, lists, line)
 }
 
 // The call that a line is, in the lent parts of the memory.
@@ -88,31 +71,30 @@ fn make_call(
     call: [u64; calls_code::CALL],
     run: &[u8],
     records: &[u64],
-    chains: &mut [u8],
-    skipped: &mut [u8],
-    above: &mut [u32],
-    unacked: &mut [u32],
-    expired: &mut [u32],
+    lists: &mut ListsMut<'_>,
     out: &mut [u8],
     line: &mut [u8],
 ) -> Answered {
     let mut answers = [0u64; calls_code::ANSWER];
-    let c = s.chains.min(chains.len());
-    let k = s.skipped.min(skipped.len());
-    let a = s.above.min(above.len());
-    let u = s.unacked.min(unacked.len());
-    let e = s.expired.min(expired.len());
+    let c = s.chains.min(lists.chains.len());
+    let k = s.skipped.min(lists.skipped.len());
+    let a = s.above.min(lists.above.len());
+    let u = s.unacked.min(lists.unacked.len());
+    let e = s.expired.min(lists.expired.len());
     let o = s.out.min(out.len());
+    let mut lent = ListsMut {
+        chains: &mut lists.chains[..c],
+        skipped: &mut lists.skipped[..k],
+        above: &mut lists.above[..a],
+        unacked: &mut lists.unacked[..u],
+        expired: &mut lists.expired[..e],
+    };
     let after = calls_list::replay(
         session,
         run,
         records,
         &call,
-        &mut chains[0..c],
-        &mut skipped[0..k],
-        &mut above[0..a],
-        &mut unacked[0..u],
-        &mut expired[0..e],
+        &mut lent,
         &mut out[0..o],
         &mut answers,
     );
@@ -129,11 +111,7 @@ pub(super) fn answer(
     s: Script,
     run: &[u8],
     records: &[u64],
-    chains: &mut [u8],
-    skipped: &mut [u8],
-    above: &mut [u32],
-    unacked: &mut [u32],
-    expired: &mut [u32],
+    lists: &mut ListsMut<'_>,
     out: &mut [u8],
     line: &mut [u8],
 ) -> Answered {
@@ -156,13 +134,9 @@ pub(super) fn answer(
         },
         Asked::State => Answered {
             session,
-            said: state(
-                session, s.written, chains, skipped, above, unacked, expired, line,
-            ),
+            said: state(session, s.written, lists.read(), line),
         },
-        Asked::Call(call) => make_call(
-            session, s, call, run, records, chains, skipped, above, unacked, expired, out, line,
-        ),
+        Asked::Call(call) => make_call(session, s, call, run, records, lists, out, line),
     }
 }
 

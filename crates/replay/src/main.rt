@@ -12,6 +12,7 @@ ghost use Rattle.std.specs.Prelude.{◌≡◌, ◌≤◌, length};
 use answers::{answer, pairs_open, print};
 use calls_session::Session;
 use commands::one_line;
+use contact::ListsMut;
 use layout::Question;
 use sheet::State;
 use std::io::Read;
@@ -211,11 +212,7 @@ fn turn(
     text: &[u8],
     run: &mut [u8],
     records: &mut [u64],
-    chains: &mut [u8],
-    skipped: &mut [u8],
-    above: &mut [u32],
-    unacked: &mut [u32],
-    expired: &mut [u32],
+    lists: &mut ListsMut<'_>,
     out: &mut [u8],
     line: &mut [u8],
 ) -> Left {
@@ -227,9 +224,7 @@ fn turn(
         };
     };
     let asked = one_line(s, line_in(text, start, end), run, records, out);
-    let answered = answer(
-        session, asked, run, records, chains, skipped, above, unacked, expired, out, line,
-    );
+    let answered = answer(session, asked, run, records, lists, out, line);
     let said = answered.said;
     let printed = print(rt, said, line);
     let after = answered.session;
@@ -249,11 +244,7 @@ fn replay<R: Read>(
     text: &mut [u8],
     run: &mut [u8],
     records: &mut [u64],
-    chains: &mut [u8],
-    skipped: &mut [u8],
-    above: &mut [u32],
-    unacked: &mut [u32],
-    expired: &mut [u32],
+    lists: &mut ListsMut<'_>,
     out: &mut [u8],
     line: &mut [u8],
 ) {
@@ -266,10 +257,7 @@ fn replay<R: Read>(
             finish(rt, s, w.failed, line);
             return;
         }
-        let t = turn(
-            rt, session, s, w, text, run, records, chains, skipped, above, unacked, expired, out,
-            line,
-        );
+        let t = turn(rt, session, s, w, text, run, records, lists, out, line);
         let after = t.session;
         session = after;
         let next = t.s;
@@ -343,6 +331,13 @@ fn main(rt: HostRuntime) {
     let mut above = numbers();
     let mut unacked = numbers();
     let mut expired = numbers();
+    let mut lists = ListsMut {
+        chains: &mut chains,
+        skipped: &mut skipped,
+        above: &mut above,
+        unacked: &mut unacked,
+        expired: &mut expired,
+    };
     let mut out = out_bytes();
     let mut line = longest_line();
     replay(
@@ -351,11 +346,7 @@ fn main(rt: HostRuntime) {
         &mut text,
         &mut run,
         &mut records,
-        &mut chains,
-        &mut skipped,
-        &mut above,
-        &mut unacked,
-        &mut expired,
+        &mut lists,
         &mut out,
         &mut line,
     );

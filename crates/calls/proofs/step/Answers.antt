@@ -1,10 +1,13 @@
 -- `calls::step` meets its contract: the parts together.
 -- Assumes nothing.
-use Rattle.contact.specs.Contact.{lists}
+use mathlib.Core.Path.{subst}
+use Rattle.contact.specs.Contact.{Lists, held_in}
+use Rattle.calls_dispatch.specs.Dispatch.{input_of, OfStore}
 use Rattle.calls_dispatch.proofs.Steps.{stepped}
 use Rattle.calls.proofs.step.Goals as goal
 
 pub returns : goal.returns
 returns c =
     let a = c.args in
-    stepped a.mark a.run.now a.entries.now a.contact (lists a.chains.now a.skipped.now a.above.now a.unacked.now a.expired.now) a.out.now c.step.ensures (c.facts_for-facts.ensures a.out.now)
+    let facts = subst (λ (l : Lists). OfStore a.call (input_of a.mark a.store.run.now a.store.entries.now a.contact l a.out.now) c.facts_for-facts.result) c.read.ensures (c.facts_for-facts.ensures a.out.now) in
+    (stepped a.mark a.store.run.now a.store.entries.now a.contact (held_in a.lists.now) a.out.now c.step.ensures.0 facts, c.step.ensures.1)

@@ -1,14 +1,15 @@
 -- `calls_find::contact_in` meets its contract: what a search of all entries finds.
 -- Assumes nothing.
-use native.Mathlib.Nat.{sub-zero}
-use Rattle.std.proofs.Common.{◌≡◌, length, ◌∙◌}
-use Rattle.store.specs.Find.{first_of}
-use Rattle.calls_find.specs.Sought.{contact_wanted}
+use Rattle.std.proofs.Common.{rules, tests, ◌∙◌}
+use Rattle.std.proofs.lemmas.Iterator.{YieldsList-from_slice}
+use Rattle.std.proofs.lemmas.Iterator.Search.{find_from_yields_List}
+use Rattle.store.specs.Kinds.{CONTACT}
+use Rattle.store.specs.Store.{is_of}
 use Rattle.calls_find.proofs.Laws.{first_found}
 use Rattle.calls_find.proofs.contact_in.Goals as goal
 
 pub returns : goal.returns
 returns c =
-    let es = c.args.entries.now in
-    let found : c.find-p.result ≡ first_of es (contact_wanted c.args.id.0) 0 (length es) = c.find-p.ensures ∙ (λ i. first_of es (c.contact_wanted.ensures i) 0 (sub-zero (length es) i)) in
-    rw (c.entry_at.ensures, found) (first_found c.args.id.0 es)
+    let a = c.args in
+    let found = find_from_yields_List (is_of CONTACT a.id.0) _ _ c.find.result c.find.ensures.ran (YieldsList-from_slice a.entries.now cc) (λ x b q k. search (rules, tests)) in
+    c.copied.ensures ∙ found ∙ first_found a.id.0 a.entries.now

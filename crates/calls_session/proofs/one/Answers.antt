@@ -1,25 +1,24 @@
 -- `calls_session::one` meets its contract: the call that was decoded.
 -- Assumes nothing.
-use mathlib.Core.Path.{ap}
-use Rattle.contact.specs.Contact.{lists}
-use Rattle.calls_session.specs.declared.CallLeft.{CallLeft}
-use Rattle.calls_session.specs.Session.{input_in}
+use mathlib.Core.Path.{◌≡◌, refl}
+use Rattle.std.proofs.Common.{rules, Some}
+use Rattle.calls_code.specs.declared.Decoded.TheVariants as decoded
 use Rattle.calls_session.proofs.Steps.{step-ran, decoded-ran}
 use Rattle.calls_session.proofs.one.Goals as goal
 
-pub returns-in-Restore : goal.returns-in-Restore
-returns-in-Restore c =
+pub returns-in-Some-Restore : goal.returns-in-Some-Restore
+returns-in-Some-Restore c =
     let a = c.args in
-    decoded-ran a.run.now a.records.now a.six.now c.in-Restore.is (c.decode-decoded.ensures a.run.now a.records.now) (c.restore.ensures _ _)
+    let is : c.decode.result ≡ Some decoded.Restore = search rules in
+    (decoded-ran a.run.now a.records.now a.six.now is (c.decode.ensures a.run.now a.records.now) (c.restore.ensures _ _), (refl, refl, refl, refl, refl))
 
-pub returns-in-Made : goal.returns-in-Made
-returns-in-Made c =
+pub returns-in-Some-Made : goal.returns-in-Some-Made
+returns-in-Some-Made c =
     let a = c.args in
-    decoded-ran a.run.now a.records.now a.six.now c.in-Made.is (c.decode-decoded.ensures a.run.now a.records.now) (step-ran c.in-Made.call a.six.now a.session c.step.ensures)
+    let is : c.decode.result ≡ Some (decoded.Made c.in-Some-Made.call) = search rules in
+    (decoded-ran a.run.now a.records.now a.six.now is (c.decode.ensures a.run.now a.records.now) (step-ran c.in-Some-Made.call a.six.now a.session c.step.ensures.0), c.step.ensures.1)
 
-pub returns-in-Nothing : goal.returns-in-Nothing
-returns-in-Nothing c =
+pub returns-in-None : goal.returns-in-None
+returns-in-None c =
     let a = c.args in
-    let l = (lists a.chains.now a.skipped.now a.above.now a.unacked.now a.expired.now) in
-    decoded-ran a.run.now a.records.now a.six.now c.in-Nothing.is (c.decode-decoded.ensures a.run.now a.records.now)
-    (record { is = (c.unknown.ensures, ap (λ (r : CallLeft). input_in r.session a.run.now a.records.now l a.out.now) c.unknown.ensures) })
+    (decoded-ran a.run.now a.records.now a.six.now c.in-None.is (c.decode.ensures a.run.now a.records.now) (record { is = (refl, refl) }), (refl, refl, refl, refl, refl))
