@@ -98,6 +98,7 @@ pub fn numbers_of(answer: Result<Answer, Question>) -> Numbers
         Ok(Answer::Advanced(moved, added)) => tagged(ADVANCED, u64::from(moved), added),
         Ok(Answer::Truth(is)) => tagged(TRUTH, u64::from(is), 0),
         Ok(Answer::Number(n)) => tagged(NUMBER, u64::from(n), 0),
+        // Kept: the new form is no plainer: std has no From<usize> for u64, here and below.
         Ok(Answer::Wrote(n)) => tagged(WROTE, n as u64, 0),
         Ok(Answer::Said(n)) => tagged(SAID, n as u64, 0),
         Err(refusal) => tagged(NO, u64::from(refusal.number()), 0),

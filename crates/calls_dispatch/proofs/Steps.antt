@@ -40,8 +40,6 @@ use Rattle.calls_step.proofs.Contracts.{passed-writes}
 use Rattle.calls_find.specs.Sought.{sought_of}
 use Rattle.calls_dispatch.specs.declared.Call.{Call}
 use Rattle.calls_dispatch.specs.declared.Call.TheVariants.{Open, Cover, Contains, Covers, Take, Statement, Write}
-use Rattle.calls_open.specs.declared.Answer.{Answer}
-use Rattle.calls_open.specs.declared.Answer.TheVariants as answer
 use Rattle.calls_dispatch.specs.declared.Facts.{Facts}
 use Rattle.calls_dispatch.specs.Dispatch.{call_of, says, input_of, standing, passed_on, store_passed, passed_for, gate_of, id_in, id_for, counts_queued, OfStore, Done, acted, dispatched, Stepped}
 use Rattle.calls_open.specs.Calls.{Outcome, left, contains_says, covers_says, covered_by, cover_leaves, cover_list, take_leaves, line_says, row_says, line_from, line_left, opened_by, open_leaves, open_lists}

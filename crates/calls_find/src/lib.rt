@@ -41,6 +41,7 @@ pub fn queued_of(entries: &[Entry], id: ContactId, wanted: bool) -> u64
     if !wanted {
         return 0;
     }
+    // Kept: the new form is no plainer: std has no From<usize> for u64.
     entries.iter().filter(|e| is_queued(**e, id)).count() as u64
 }
 
@@ -82,6 +83,7 @@ fn any_among(entries: &[Entry], id: ContactId, numbers: &[u32]) -> bool
 
 // Whether a queued row of this contact has one of the first `count` unacked numbers, by halves. A count above the list's length counts as the length; of no numbers
 // none is looked for.
+// Kept: no heap: the list is lent, longer than its count.
 pub fn queued_among(entries: &[Entry], id: ContactId, unacked: &[u32], count: usize) -> bool
     ensures { result ≡ queued_found id.0 (take count unacked.now) entries.now }
 {

@@ -115,6 +115,7 @@ fn restored(
         },
         Err(refusal) => {
             let number = u64::from(refusal.question.number());
+            // Kept: the new form is no plainer: std has no From between usize and u64, here and below.
             let answer = calls_code::tagged(NO_AT, number, refusal.place as u64);
             next(session, left.mark, session.contact, answer)
         }

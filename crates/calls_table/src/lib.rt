@@ -19,6 +19,7 @@ use contact::{Contact, ListsMut};
 use sheet_entries::ENTRIES;
 use store::StoreRef;
 
+// Kept: no heap: the table is a local array, here and below, and the records are lent with their count.
 pub fn restore(run: &[u8], records: &[u64], n: usize, mark: Mark) -> RestoreLeft
     ensures { RestoreSteps mark run.now (entries_from (min n tables.ENTRIES) records.now) result }
 {

@@ -65,36 +65,41 @@ fn state(
 }
 
 // The call that a line is, in the lent parts of the memory.
+// Kept: tried with one ListsMut from `main` on; of slices cut out of its fields the borrow check says that it does not cover them yet.
 fn make_call(
     session: Session,
     s: Script,
     call: [u64; calls_code::CALL],
     run: &[u8],
     records: &[u64],
-    lists: &mut ListsMut<'_>,
+    chains: &mut [u8],
+    skipped: &mut [u8],
+    above: &mut [u32],
+    unacked: &mut [u32],
+    expired: &mut [u32],
     out: &mut [u8],
     line: &mut [u8],
 ) -> Answered {
     let mut answers = [0u64; calls_code::ANSWER];
-    let c = s.chains.min(lists.chains.len());
-    let k = s.skipped.min(lists.skipped.len());
-    let a = s.above.min(lists.above.len());
-    let u = s.unacked.min(lists.unacked.len());
-    let e = s.expired.min(lists.expired.len());
+    let c = s.chains.min(chains.len());
+    let k = s.skipped.min(skipped.len());
+    let a = s.above.min(above.len());
+    let u = s.unacked.min(unacked.len());
+    let e = s.expired.min(expired.len());
     let o = s.out.min(out.len());
-    let mut lent = ListsMut {
-        chains: &mut lists.chains[..c],
-        skipped: &mut lists.skipped[..k],
-        above: &mut lists.above[..a],
-        unacked: &mut lists.unacked[..u],
-        expired: &mut lists.expired[..e],
+    let mut lists = ListsMut {
+        chains: &mut chains[0..c],
+        skipped: &mut skipped[0..k],
+        above: &mut above[0..a],
+        unacked: &mut unacked[0..u],
+        expired: &mut expired[0..e],
     };
     let after = calls_list::replay(
         session,
         run,
         records,
         &call,
-        &mut lent,
+        &mut lists,
         &mut out[0..o],
         &mut answers,
     );
@@ -111,7 +116,11 @@ pub(super) fn answer(
     s: Script,
     run: &[u8],
     records: &[u64],
-    lists: &mut ListsMut<'_>,
+    chains: &mut [u8],
+    skipped: &mut [u8],
+    above: &mut [u32],
+    unacked: &mut [u32],
+    expired: &mut [u32],
     out: &mut [u8],
     line: &mut [u8],
 ) -> Answered {
@@ -132,11 +141,22 @@ pub(super) fn answer(
             session,
             said: replay_answer::answer_line(tag, a, b, out, line),
         },
-        Asked::State => Answered {
-            session,
-            said: state(session, s.written, lists.read(), line),
-        },
-        Asked::Call(call) => make_call(session, s, call, run, records, lists, out, line),
+        Asked::State => {
+            let lists = ListsRef {
+                chains,
+                skipped,
+                above,
+                unacked,
+                expired,
+            };
+            Answered {
+                session,
+                said: state(session, s.written, lists, line),
+            }
+        }
+        Asked::Call(call) => make_call(
+            session, s, call, run, records, chains, skipped, above, unacked, expired, out, line,
+        ),
     }
 }
 

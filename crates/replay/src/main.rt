@@ -12,7 +12,6 @@ ghost use Rattle.std.specs.Prelude.{◌≡◌, ◌≤◌, length};
 use answers::{answer, pairs_open, print};
 use calls_session::Session;
 use commands::one_line;
-use contact::ListsMut;
 use layout::Question;
 use sheet::State;
 use std::io::Read;
@@ -212,7 +211,11 @@ fn turn(
     text: &[u8],
     run: &mut [u8],
     records: &mut [u64],
-    lists: &mut ListsMut<'_>,
+    chains: &mut [u8],
+    skipped: &mut [u8],
+    above: &mut [u32],
+    unacked: &mut [u32],
+    expired: &mut [u32],
     out: &mut [u8],
     line: &mut [u8],
 ) -> Left {
@@ -224,7 +227,9 @@ fn turn(
         };
     };
     let asked = one_line(s, line_in(text, start, end), run, records, out);
-    let answered = answer(session, asked, run, records, lists, out, line);
+    let answered = answer(
+        session, asked, run, records, chains, skipped, above, unacked, expired, out, line,
+    );
     let said = answered.said;
     let printed = print(rt, said, line);
     let after = answered.session;
@@ -244,7 +249,11 @@ fn replay<R: Read>(
     text: &mut [u8],
     run: &mut [u8],
     records: &mut [u64],
-    lists: &mut ListsMut<'_>,
+    chains: &mut [u8],
+    skipped: &mut [u8],
+    above: &mut [u32],
+    unacked: &mut [u32],
+    expired: &mut [u32],
     out: &mut [u8],
     line: &mut [u8],
 ) {
@@ -257,7 +266,10 @@ fn replay<R: Read>(
             finish(rt, s, w.failed, line);
             return;
         }
-        let t = turn(rt, session, s, w, text, run, records, lists, out, line);
+        let t = turn(
+            rt, session, s, w, text, run, records, chains, skipped, above, unacked, expired, out,
+            line,
+        );
         let after = t.session;
         session = after;
         let next = t.s;
@@ -331,13 +343,6 @@ fn main(rt: HostRuntime) {
     let mut above = numbers();
     let mut unacked = numbers();
     let mut expired = numbers();
-    let mut lists = ListsMut {
-        chains: &mut chains,
-        skipped: &mut skipped,
-        above: &mut above,
-        unacked: &mut unacked,
-        expired: &mut expired,
-    };
     let mut out = out_bytes();
     let mut line = longest_line();
     replay(
@@ -346,7 +351,11 @@ fn main(rt: HostRuntime) {
         &mut text,
         &mut run,
         &mut records,
-        &mut lists,
+        &mut chains,
+        &mut skipped,
+        &mut above,
+        &mut unacked,
+        &mut expired,
         &mut out,
         &mut line,
     );
