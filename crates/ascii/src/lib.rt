@@ -125,6 +125,7 @@ fn digits(rest: &[u8], first: u64, highest: u64) -> Option<u64>
 }
 
 // The number that a text says, if it is a decimal and at most `highest`.
+// Kept: the new form is no plainer: std's parse takes a first 0 and a sign, and prints to a String: no heap, and the clause says each byte.
 pub fn decimal(text: &[u8], highest: u64) -> Option<u64>
     ensures { decimal_says result ≡ decimal_in highest text.now }
 {
@@ -254,7 +255,7 @@ pub fn hex(bytes: &[u8], out: &mut [u8]) -> Result<usize, Question>
 pub fn decimal_len(n: u64) -> usize
     ensures { (result ≡ length (decimal n)) × (result ≤ 20) }
 {
-    // Kept: the new form is no plainer: std has no From<u32> for usize
+    // Kept: the new form is no plainer: std has no From<u32> for usize, and try_from has an error that never comes
     n.max(1).ilog10() as usize + 1
 }
 
@@ -283,6 +284,7 @@ fn put_field(out: &mut [u8], at: usize, n: u64) -> usize
 }
 
 // The length of the first `count` numbers, a comma before each, and LF.
+// Kept: what may not change: the clause promises at most 148 bytes, since there are seven numbers at most, which the array says.
 pub fn fields_len(fields: [u64; 7], count: usize) -> usize
     requires { count ≤ 7 }
     ensures { (result ≡ length (fields_text (take count fields))) × (result ≤ 148) }

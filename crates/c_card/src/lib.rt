@@ -51,7 +51,7 @@ pub fn sicklestar_read_leb128(input: &[u8], answer: &mut [u64]) -> u32
                 return u32::from(Question::Output.number());
             }
             answer[0] = u64::from(value);
-            // Kept: the new form is no plainer: std has no From<usize> for u64
+            // Kept: the new form is no plainer: std has no From<usize> for u64, and try_from has an error that never comes
             answer[1] = taken as u64;
             0
         }
@@ -70,6 +70,7 @@ pub fn sicklestar_leb128(value: u32, out: &mut [u8]) -> WriteAnswer
 pub fn sicklestar_utf8(name: &[u8]) -> u32
     ensures { result ≡ is_utf8 name.now }
 {
+    // Kept: the C interface answers 1 or 0 where Rust has a bool.
     if utf8::is_utf8(name) { 1 } else { 0 }
 }
 

@@ -10,6 +10,7 @@ ghost use Rattle.c_contact.specs.Faces.{check_number, leaves, shown};
 use contact::ListsMut;
 
 // Whether a contact row is accepted; nothing is copied.
+// Kept: the C interface: a number, which is 0 where the row is accepted.
 #[unsafe(no_mangle)]
 pub extern "C" fn sicklestar_check_contact(version: u32, row: &[u8]) -> u32
     ensures { result ≡ check_number version row.now }
@@ -21,7 +22,7 @@ pub extern "C" fn sicklestar_check_contact(version: u32, row: &[u8]) -> u32
 }
 
 // Reads a contact row into the lent lists, and writes it again to the front of the output.
-// Kept: the five lists one by one, as the C interface has them.
+// Kept: the C interface: it has the five lists one by one.
 #[unsafe(no_mangle)]
 pub extern "C" fn sicklestar_contact(
     version: u32,

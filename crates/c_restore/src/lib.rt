@@ -11,6 +11,7 @@ use restore::Granted;
 use store::{Entry, Refusal, StoreRef};
 
 // Granted: number is 0, and next_contact and next_slot are the store's. Refused: number is the question's, and index the entry's. What is not said is 0.
+// Kept: the C interface: a number, which is 0 where the store is granted.
 #[repr(C)]
 #[derive(Clone, Copy)]
 pub struct RestoreAnswer {

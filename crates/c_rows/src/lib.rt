@@ -87,7 +87,7 @@ fn put_change(answer: &mut [u64], change: Change)
     ensures { record { answer = wrote 4; out = answer.exit.now } ≡ answered (accepted change) answer.entry.now }
 {
     answer[0] = u64::from(change.contiguous);
-    // Kept: the new form is no plainer: std has no From<usize> for u64
+    // Kept: the new form is no plainer: std has no From<usize> for u64, and try_from has an error that never comes
     answer[1] = change.count as u64;
     answer[2] = u64::from(change.moved);
     answer[3] = change.added;

@@ -25,6 +25,7 @@ pub struct Numbers {
 }
 
 // The call that numbers say: restore, whose store stands in the numbers, or another.
+// Kept: the new form is no plainer: Restore is a call too; None beside it says that the numbers are no call.
 #[derive(Clone, Copy)]
 pub enum Decoded {
     Restore,
@@ -98,7 +99,7 @@ pub fn numbers_of(answer: Result<Answer, Question>) -> Numbers
         Ok(Answer::Advanced(moved, added)) => tagged(ADVANCED, u64::from(moved), added),
         Ok(Answer::Truth(is)) => tagged(TRUTH, u64::from(is), 0),
         Ok(Answer::Number(n)) => tagged(NUMBER, u64::from(n), 0),
-        // Kept: the new form is no plainer: std has no From<usize> for u64, here and below.
+        // Kept: the new form is no plainer: std has no From<usize> for u64, and try_from has an error that never comes, here and below.
         Ok(Answer::Wrote(n)) => tagged(WROTE, n as u64, 0),
         Ok(Answer::Said(n)) => tagged(SAID, n as u64, 0),
         Err(refusal) => tagged(NO, u64::from(refusal.number()), 0),

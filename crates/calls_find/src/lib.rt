@@ -13,6 +13,7 @@ use store::Entry;
 
 // ---- a contact's first entry
 
+// Kept: the new form is no plainer: a body of one line, which its name says; is_queued has the other kind.
 fn is_contact(e: Entry, id: ContactId) -> bool
     ensures { result ≡ is_of CONTACT id.0 e }
 {
@@ -41,7 +42,7 @@ pub fn queued_of(entries: &[Entry], id: ContactId, wanted: bool) -> u64
     if !wanted {
         return 0;
     }
-    // Kept: the new form is no plainer: std has no From<usize> for u64.
+    // Kept: the new form is no plainer: std has no From<usize> for u64, and try_from has an error that never comes.
     entries.iter().filter(|e| is_queued(**e, id)).count() as u64
 }
 

@@ -38,6 +38,7 @@ pub struct Left {
 }
 
 // Fields and mark as they were handed in, and an answer.
+// Kept: the new form is no plainer: contact and mark come as a call's two values, and Left has both; lists and output are lent to calls that use them only.
 pub fn answered(contact: Contact, mark: Mark, answer: Result<Answer, Question>) -> Left
     ensures { outcome_of result ≡ left contact mark (answers answer) }
 {

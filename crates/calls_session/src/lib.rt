@@ -28,6 +28,7 @@ use sheet::RECORD;
 pub struct Session {
     pub contact: Contact,
     pub mark: Mark,
+    // Kept: the new form is no plainer: a call has the place of its store as four of its six numbers, and store_at names these four.
     pub start: usize,
     pub len: usize,
     pub first: usize,
@@ -115,7 +116,7 @@ fn restored(
         },
         Err(refusal) => {
             let number = u64::from(refusal.question.number());
-            // Kept: the new form is no plainer: std has no From between usize and u64, here and below.
+            // Kept: the new form is no plainer: std has no From between usize and u64, and try_from has an error that never comes, here and below.
             let answer = calls_code::tagged(NO_AT, number, refusal.place as u64);
             next(session, left.mark, session.contact, answer)
         }

@@ -24,6 +24,7 @@ pub fn restore(run: &[u8], records: &[u64], n: usize, mark: Mark) -> RestoreLeft
     ensures { RestoreSteps mark run.now (entries_from (min n tables.ENTRIES) records.now) result }
 {
     let blank = sheet_entries::no_entry();
+    // Kept: the new form is no plainer: step fills its table so too: it is local, so that only a closure could share it.
     let mut table = [blank; ENTRIES];
     let count = sheet_entries::fill(records, n, &mut table[..]);
     let store = StoreRef {

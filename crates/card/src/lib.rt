@@ -20,6 +20,7 @@ use layout::Question;
 #[derive(Clone, Copy)]
 pub struct Card {
     pub beacon_day: u32,
+    // Kept: what may not change: card_size and put_card speak of every Card, also of one whose caps say no key before a static_ek that is not 0.
     pub caps: u8,
     pub name_len: u8,
     pub beacon_key: [u8; 32],
@@ -161,6 +162,7 @@ impl Card {
     }
 
     // Asks what reading the row would ask, then for room; a refusal writes nothing.
+    // Kept: the new form is no plainer: SealedRow::row has this outline too, but here there is no sealed text to pass on.
     pub fn encode(self, out: &mut [u8]) -> Result<usize, Question>
         ensures { leaves result out.new ≡ writes card_row (image self) out.old }
     {

@@ -43,6 +43,7 @@ pub struct Contact {
     pub read_marked: u32,
     pub contiguous: u32,
     // none until the first Resume
+    // Kept: what may not change: write_contact and contact_size speak of every Contact, also of one without a send chain whose send_key is not 0.
     pub send: Option<SendChain>,
     pub role: PairingRole,
     pub verification: Verification,

@@ -16,6 +16,7 @@ ghost use Rattle.contact_checks.specs.Cells.{chain_width, superseded_at, gens, s
 const FEW: usize = 256;
 
 // What is asked of the chains: 17 and 18.
+// Kept: what may not change: chains_in_row and chains_lent promise both answers (chains_asked), 18's also where 17 is a no.
 #[derive(Clone, Copy)]
 pub struct ChainsAsked {
     pub one_current: bool,
@@ -41,6 +42,7 @@ fn current_at(bytes: &[u8], at: usize) -> usize
     requires { at + 43 ≤ length bytes.now }
     ensures { (result ≡ cond (superseded_at (drop at bytes.now)) 0 1) × (result ≤ 1) }
 {
+    // Kept: the new form is no plainer: it counts one chain or none, as the definition says it.
     if bytes[at + 42] == 1 { 0 } else { 1 }
 }
 
@@ -189,6 +191,7 @@ pub fn skipped_distinct(bytes: &[u8], first: usize, count: usize) -> bool
 }
 
 // 22, of numbers of a row.
+// Kept: the new form is no plainer: this and rising_lent, canonical_in_row and canonical_lent share their questions only; one loop over a closure would say in a contract what each item is, as be32 and the slice say here.
 pub fn rising_in_row(row: &[u8], first: usize, count: usize, sent: u32) -> bool
     requires { Stands u32 row.now first count }
     ensures { result ≡ rising 1 sent (items u32 count (drop first row.now)) }

@@ -64,7 +64,7 @@ fn put_codes(out: &mut [u8], at: usize, contact: Contact) -> usize
 }
 
 // How many items, or how many bytes, stand behind it.
-// Kept: `as`, the only one here: u64 has no `From<usize>`.
+// Kept: `as`, the only one here: u64 has no `From<usize>`, and try_from has an error that never comes.
 fn put_count(out: &mut [u8], at: usize, count: usize) -> usize
     requires { at + 2 ≤ length out.old }
     ensures { (result ≡ at + 2) × Wrote out.old at (bytes_of 2 count) out.new result }

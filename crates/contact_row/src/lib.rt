@@ -40,6 +40,7 @@ fn counts_fit(contact: Contact, lists: ListsRef<'_>) -> bool
 }
 
 // Questions 54 and 17 to 20, of lent chains and skipped keys that no question refused.
+// Kept: the new form is no plainer: contact asks this, and numbers_consistent, of the places of a row, and here they are asked of lent lists; a trait over both would have a method for each question and hold nothing else.
 fn chains_consistent(contact: Contact, chains: &[u8], skipped: &[u8]) -> Result<(), Question>
     requires { ChainsLent contact (lists chains.now skipped.now [] [] []) }
     ensures { refusal_in result ≡ chains_refusal (chains_of contact.chains chains.now) (skipped_of contact.skipped skipped.now) }

@@ -18,6 +18,7 @@ use rows::ContactId;
 use sealed::SealedRow;
 
 // A courier row but for its sealed text. Carried: depositor, tag, c, expiry_min, copies. A tombstone: tag, s, expiry_min. 0 stands where the kind leaves a field out.
+// Kept: what may not change: size and put speak of every Held, also of one with fields that its kind leaves out and that are not 0; an enum has none such.
 #[derive(Clone, Copy)]
 pub struct Held {
     pub depositor: ContactId,

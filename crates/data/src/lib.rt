@@ -45,7 +45,7 @@ pub fn leb128_len(value: u32) -> usize
 {
     let mut rest = value;
     let mut n: usize = 1;
-    // Kept: the new form is no plainer: a turn goes by what is left of the number, as in the Rust; nothing counts the turns.
+    // Kept: the new form is no plainer: these are put_leb128's turns below, counted, as in the Rust; ilog2 / 7 + 1 would hide that.
     while rest >= 0x80 {
         rest /= 128;
         n += 1;
@@ -69,6 +69,7 @@ pub fn put_leb128(value: u32, out: &mut [u8], at: usize) -> usize
 }
 
 // Writes a number to the front of the output, if there is room.
+// Kept: the new form is no plainer: the outline of a row's writer, of a number that is no row.
 pub fn leb128(value: u32, out: &mut [u8]) -> Result<usize, Question>
     ensures { leaves result out.new ≡ stored (leb_print 4 value) out.old }
 {

@@ -42,7 +42,7 @@ impl Device {
     pub const ROW_LEN: usize = 49;
 
     // Asks what reading the row would ask, then for room; a refusal writes nothing.
-    // Kept: SealedRow::row has this outline too; a trait over both is no plainer, since here there is no sealed text to pass on
+    // Kept: the new form is no plainer: SealedRow::row has this outline too; a trait over both is no plainer, since here there is no sealed text to pass on
     pub fn row(self, out: &mut [u8]) -> Result<usize, Question>
         ensures { leaves result out.new ≡ writes (layouts.device 3) (image self) out.old }
     {

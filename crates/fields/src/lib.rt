@@ -17,6 +17,7 @@ use layout::Question;
 use rows::{Dir, PairingRole, Verification};
 
 // Where the n bytes at a position start, and where they end: the next position. Past the row's end there is nothing, which is enough for no bytes.
+// Kept: what may not change: the public clauses speak of a row and a place in it (read_at); reader has both in a struct.
 pub fn run_at(row: &[u8], at: usize, n: usize) -> Result<(usize, usize), Question>
     ensures { (run_says n row.now result ≡ read_at (bytes plain n) row.now at) × Ends n result }
 {
@@ -28,6 +29,7 @@ pub fn run_at(row: &[u8], at: usize, n: usize) -> Result<(usize, usize), Questio
 }
 
 // The number in bytes, the most significant first.
+// Kept: the new form is no plainer: from_be_bytes wants an array, and here the width is a parameter; be32 would copy four bytes into one first.
 fn big_endian(bytes: &[u8]) -> u64
     requires { length bytes.now ≤ 8 }
     ensures { result ≡ big_endian (length bytes.now) bytes.now }

@@ -5,7 +5,7 @@ ghost use Rattle.std.specs.Prelude.{◌≡◌};
 ghost use Rattle.filter.specs.Filter.{mixed, bit_of, mask_of, is_set, added};
 
 // One more than the highest number of 32 bits.
-// Kept: it numbers no kind: 2^32 parts a number into its halves.
+// Kept: no place of point 1: 2^32 parts a number into its halves, and numbers no kind.
 const HALF: u64 = 4294967296;
 
 // A number whose bits hang on all bits of n: numbers that lie close together are apart in a filter.
@@ -37,7 +37,7 @@ pub fn add(bits: &mut [u64], h: u64) -> bool
     if n == 0 {
         return true;
     }
-    // Kept: no From goes from u64 to usize; the quotient is below 2^46.
+    // Kept: the new form is no plainer: std has no From from u64 to usize, and try_from has an error that never comes: the quotient is below 2^46.
     let at = (h / 262144) as usize & (n - 1);
     let old = bits[at];
     let new = old | mask_of(h);

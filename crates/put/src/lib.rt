@@ -8,6 +8,7 @@ ghost use Rattle.layout.specs.Veil.{zeros};
 ghost use Rattle.put.specs.Put.{Wrote};
 
 // One byte.
+// Kept: the new form is no plainer: out and at go through every writer; a struct of both would say in each method's clause from where to where it wrote, as at and the result say.
 pub fn put_byte(out: &mut [u8], at: usize, b: u8) -> usize
     requires { at < length out.old }
     ensures { (result ≡ at + 1) × Wrote out.old at (b ∷ []) out.new result }
@@ -21,6 +22,7 @@ pub fn put_be(out: &mut [u8], at: usize, k: usize, v: u64) -> usize
     requires { at + k ≤ length out.old }
     ensures { (result ≡ at + k) × Wrote out.old at (bytes_of k v) out.new result }
 {
+    // Kept: the new form is no plainer: to_be_bytes gives eight bytes, and here the width is a parameter.
     let mut x = v;
     for i in (0..k).rev() {
         // Kept: the new form is no plainer: what is left over fits a byte, and u8::try_from would ask for an answer that is never given

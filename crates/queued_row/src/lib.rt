@@ -24,6 +24,7 @@ pub struct OwnEnvelope {
 }
 
 // A queued row but for its sealed text. tag and s are the envelope's: 0 where there is none.
+// Kept: what may not change: size and put speak of every Outgoing, also of one without an envelope whose tag and s are not 0; an Option of both has none such.
 #[derive(Clone, Copy)]
 pub struct Outgoing {
     pub created_s: u64,

@@ -65,7 +65,7 @@ fn state(
 }
 
 // The call that a line is, in the lent parts of the memory.
-// Kept: tried with one ListsMut from `main` on; of slices cut out of its fields the borrow check says that it does not cover them yet.
+// Kept: tried, and the proof did not close: with one ListsMut from `main` on, of slices cut out of its fields the borrow check says that it does not cover them yet.
 fn make_call(
     session: Session,
     s: Script,

@@ -87,6 +87,7 @@ fn restore_line(s: Script, line: &[u8], run: &mut [u8], records: &mut [u64]) -> 
 // ---- commands
 
 fn restore_of(s: Script, count: u64) -> Script {
+    // Kept: the new form is no plainer: std has no From<usize> for u64, and try_from has an error that never comes.
     if (sheet::LINES as u64) < count {
         return s.unknown();
     }
@@ -196,6 +197,7 @@ fn read_row(
     row: &[u8],
     out: &mut [u8],
 ) -> Result<usize, Question> {
+    // Kept: a kind is a number of a script.
     if kind == u64::from(store::DEVICE) {
         return rewrite::rewrite_device(version, row, out);
     }

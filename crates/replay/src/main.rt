@@ -62,6 +62,7 @@ struct Script {
     start: usize,
     first: usize,
     sheet: State,
+    // Kept: the new form is no plainer: an enum of the two restores would be taken apart and made again for each line.
     raw: bool,
     // the lent lengths, in bytes and numbers
     chains: usize,
@@ -75,7 +76,7 @@ struct Script {
 }
 
 // So many, or all that there are.
-// Kept: the new form is no plainer: std has no `From` between `usize` and `u64`, here and below.
+// Kept: the new form is no plainer: std has no `From` between `usize` and `u64`, and try_from has an error that never comes, here and below.
 fn at_most(count: u64, has: usize) -> usize
     ensures { result ≤ has }
 {

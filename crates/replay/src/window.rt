@@ -5,6 +5,7 @@ use failure::fail;
 use std::io::Read;
 
 // Where the next line stands, unless it is not there yet, or none comes any more.
+// Kept: the new form is no plainer: not yet, a line and the end are three, which an Option of an Option would nest.
 #[derive(Clone, Copy, PartialEq, Eq)]
 pub enum Found {
     NotYet,
@@ -21,6 +22,7 @@ pub struct Window {
     // the input has no more
     over: bool,
     // a read failed, so that the input has no end: what is held is no line
+    // Kept: the new form is no plainer: `look` goes on by `found` alone, and a failed read is told once, at the end.
     pub failed: bool,
     // the rest of a line that was too long comes first
     passing: bool,

@@ -133,8 +133,9 @@ pub fn answer_line(
 ) -> Result<usize, Question>
     ensures { leaves result out.new ≡ stored (line_of (answer_text tag a b bytes.now)) out.old }
 {
-    // Kept: no From goes from u64 to usize, and the value of a that is no length is not looked at.
+    // Kept: the new form is no plainer: std has no From from u64 to usize, which has 64 bits too; a value of a that is no length is not looked at.
     let n = a as usize;
+    // Kept: a tag is a number of a lent list, and each number has an answer (answer_text).
     match tag {
         YES => text_line(b"yes", out),
         ADVANCED => added_line(a, b, out),

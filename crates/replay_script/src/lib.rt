@@ -88,6 +88,7 @@ fn are_decimals(line: &[u8], narrow: usize, count: usize) -> bool
 
 impl Command {
     // The command that a line is.
+    // Kept: the new form is no plainer: TryFrom would name an error where None says all.
     pub fn from_line(line: &[u8]) -> Option<Command>
         ensures { command_says result ≡ command_of line.now }
     {

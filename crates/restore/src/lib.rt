@@ -66,7 +66,7 @@ fn place_of(index: &[u32], e: Entry) -> usize
     requires { 0 < length index.now }
     ensures { result ≡ place_in index.now e }
 {
-    // Kept: the new form is no plainer: std has no From from u64 to usize
+    // Kept: the new form is no plainer: std has no From from u64 to usize, and try_from has an error that never comes
     e.id as usize & (index.len() - 1)
 }
 
@@ -96,7 +96,7 @@ fn hint_of(index: &[u32], e: Entry, upto: usize) -> usize
     if upto == 0 || index.is_empty() {
         return 0;
     }
-    // Kept: the new form is no plainer: std has no From from u32 to usize
+    // Kept: the new form is no plainer: std has no From from u32 to usize, and try_from has an error that never comes
     index[place_of(index, e)] as usize
 }
 

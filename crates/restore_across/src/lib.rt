@@ -34,6 +34,7 @@ pub struct Progress {
 }
 
 // Where no contact was found.
+// Kept: what may not change: owner_of answers zeros where no contact was found, and tried and chosen answer upto where nothing stands.
 fn no_owner() -> Owner
     ensures { result ≡ no_owner }
 {
@@ -263,6 +264,7 @@ fn contact_turn(e: Entry, i: usize, first: usize, w: Progress) -> Result<Progres
     Ok(w)
 }
 
+// Kept: the new form is no plainer: a struct of entry, contact, places and owner would be made for one call, in restore, and taken apart in turns that each need other parts.
 fn queued_turn(
     run: &[u8],
     e: Entry,

@@ -15,7 +15,7 @@ ghost use Rattle.restore_duplicates.specs.Parts.{in_part, reach_of, added_key, t
 use store::{Entry, Wanted};
 
 // One more than the highest number of 32 bits.
-// Kept: it numbers no kind: 2^32 parts a number into its halves.
+// Kept: no place of point 1: 2^32 parts a number into its halves, and numbers no kind.
 const HALF: u64 = 4294967296;
 
 // ---- keys
@@ -94,7 +94,7 @@ fn rising(entries: &[Entry]) -> usize
 fn in_part(h: u64, last: usize, part: usize) -> bool
     ensures { result ≡ in_part last part h }
 {
-    // Kept: the new form is no plainer: std has no From from u64 to usize
+    // Kept: the new form is no plainer: std has no From from u64 to usize, and try_from has an error that never comes
     (h / 274877906944) as usize & last == part
 }
 
@@ -206,6 +206,7 @@ fn first_of<const WORDS: usize>(entries: &[Entry], parts: usize) -> usize
 }
 
 // The first entry that has a duplicate before it; the number of entries where none has. With a filter of 1 KB, enough for a thousand entries,
+// Kept: what may not change: the clause answers how many entries there are where none has a duplicate (first_duplicate).
 pub fn first_of_few(entries: &[Entry]) -> usize
     ensures { result ≡ first_duplicate entries.now }
 {

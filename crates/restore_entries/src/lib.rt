@@ -9,6 +9,7 @@ ghost use Rattle.restore_entries.specs.Next.{next_in};
 use store::{Entry, Wanted};
 
 // The entry at an index; past the end all zeros.
+// Kept: what may not change: the clauses of entry_at and find answer for every index, also past the end.
 pub fn entry_at(entries: &[Entry], i: usize) -> Entry
     ensures { result ≡ entry_at entries.now i }
 {
@@ -59,6 +60,7 @@ fn is_wanted_at(entries: &[Entry], wanted: Wanted, i: usize) -> bool
 
 // The first of the entries from `from` on, below `upto`, that is wanted; `upto` where none is, and `from` where there are none to look at. Those past the end are
 // all zeros.
+// Kept: what may not change: the clause answers upto, or from, where there is none; and the loop goes by index, since it looks past the end too.
 pub fn find(entries: &[Entry], wanted: Wanted, from: usize, upto: usize) -> usize
     ensures { result ≡ first_of entries.now wanted from (upto - from) }
 {

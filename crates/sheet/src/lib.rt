@@ -298,7 +298,7 @@ fn put_six(records: &mut [u64], at: usize, s: State)
     requires { at + 6 ≤ length records.old }
     ensures { records.new ≡ put records.old at (six s) }
 {
-    // Kept: the new form is no plainer: std has no From<usize> for u64
+    // Kept: the new form is no plainer: std has no From<usize> for u64, and try_from has an error that never comes
     records[at..at + RECORD].copy_from_slice(&[
         u64::from(s.kind),
         id_in(s),

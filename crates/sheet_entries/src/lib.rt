@@ -28,7 +28,7 @@ pub fn number_at(records: &[u64], i: usize) -> u64
 }
 
 // The i-th number in a field of 32 bits.
-// Kept: here and below, the new form is no plainer: std has no `From` for a narrower type, and `try_from` would refuse what the clauses answer.
+// Kept: here and below, the new form is no plainer: std has no `From` for a narrower type, nor between u64 and usize, and `try_from` would refuse what the clauses answer.
 pub fn field_at(records: &[u64], i: usize) -> u32
     ensures { result ≡ in_field (get_or records.now i 0) }
 {

@@ -20,7 +20,7 @@ const LETTER_R: u8 = 0x52;
 const LETTER_X: u8 = 0x58;
 
 // The text of a store of n entries.
-// Kept: here and below, the new form is no plainer: std has no `From` from `usize` to `u64`.
+// Kept: here and below, the new form is no plainer: std has no `From` from `usize` to `u64`, and try_from has an error that never comes.
 fn report_store(run: &[u8], records: &[u64], n: usize, out: &mut [u8]) -> Result<usize, Question>
     requires { (length run.now ≤ 61440) × (n ≤ 512) }
     ensures out_after { leaves result out.new ≡ stored (text_of run.now (entries_from n records.now)) out.old }

@@ -48,6 +48,7 @@ pub struct Measured {
 
 // Kept: no heap: the table is lent, longer than its n entries, here and below.
 // How many of the first n entries are of this kind.
+// Kept: the new form is no plainer: queued_in asks another question of each entry; a closure for it would need the contract that is_queued has. The loop goes by index, since an entry is made of six numbers.
 fn how_many(records: &[u64], n: usize, kind: u32) -> u64
     requires { n ≤ 512 }
     ensures { result ≡ how_many kind (entries_from n records.now) }
@@ -183,7 +184,7 @@ fn line_at(run: &[u8], records: &[u64], n: usize, i: usize) -> Line
 }
 
 // The lines of all entries.
-// Kept: no plainer: a struct of run, records and n with these bounds would be made in write_granted, for measure and put_lines alone.
+// Kept: no plainer: a struct of run, records and n with these bounds would be made in write_granted and handed to functions that need records and n alone.
 fn measure(run: &[u8], records: &[u64], n: usize) -> Measured
     requires { (length run.now ≤ 61440) × (n ≤ 512) }
     ensures { Measures run.now (entries_from n records.now) result }

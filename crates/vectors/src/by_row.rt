@@ -21,13 +21,13 @@ fn narrow(n: u64) -> u32 {
 }
 
 // `VALUE TAKEN`.
-// Kept: the new form is no plainer: std has no `From` from `usize` to `u64`.
+// Kept: the new form is no plainer: std has no `From` from `usize` to `u64`, and try_from has an error that never comes.
 fn is_value(text: &[u8], value: u32, taken: usize) -> bool {
     is_number(ascii::field(text), u64::from(value)) && is_number(ascii::rest(text), taken as u64)
 }
 
 // `- NUMBER`.
-// Kept: it names a refusal that is stored, and answers whether ours is that one.
+// Kept: no place of point 1: it compares a stored refusal with ours, and answers none.
 fn is_refusal(text: &[u8], refusal: Question) -> bool {
     ascii::is_dash(ascii::field(text)) && is_question(ascii::rest(text), refusal)
 }

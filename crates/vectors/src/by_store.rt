@@ -18,6 +18,7 @@ const ENTRY: usize = 36;
 const RECORDS: usize = 3072;
 
 // A big-endian number of four bytes; 0 where they are not all there.
+// Kept: the new form is no plainer: these two differ in the type, as fields::u32_at and u64_at do.
 fn number_32(bytes: &[u8], at: usize) -> u32 {
     match fields::u32_at(bytes, at) {
         Ok((number, _)) => number,
@@ -70,7 +71,7 @@ fn is_pair(text: &[u8], one: u64, other: u64) -> bool {
 }
 
 // `0 NEXT`, next_contact and next_slot; or `NUMBER INDEX`.
-// Kept: the new form is no plainer: std has no `From` from `usize` to `u64`.
+// Kept: the new form is no plainer: std has no `From` from `usize` to `u64`, and try_from has an error that never comes.
 fn is_restored(text: &[u8], answer: Result<Granted, Refusal>) -> bool {
     match answer {
         Ok(granted) => {
@@ -111,7 +112,7 @@ pub(super) fn store(case: &[u8], bytes: &mut [u8], again: &mut [u8]) -> bool {
 
 // ---- sheets
 
-// Zeros for the blob bytes of a sheet. Kept, also below: fixed memory, so what a sheet leaves stands in local arrays.
+// Zeros for the blob bytes of a sheet. Kept: also below, fixed memory, so what a sheet leaves stands in local arrays.
 fn run_bytes() -> [u8; 61440]
     ensures { 61440 ≡ length result }
 {

@@ -17,6 +17,7 @@ pub enum Kind {
 
 impl Kind {
     // The kind with this letter.
+    // Kept: the new form is no plainer: TryFrom would name an error where None says all.
     pub(super) fn from_letter(letter: &[u8]) -> Option<Kind> {
         match letter {
             b"L" => Some(Kind::Leb128Read),
@@ -42,6 +43,7 @@ struct Tally {
 }
 
 // One for each kind.
+// Kept: the new form is no plainer: an array of them would be indexed by a number for each kind.
 #[derive(Clone, Copy)]
 pub struct Tallies {
     read: Tally,

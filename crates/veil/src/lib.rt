@@ -87,6 +87,7 @@ fn veil_contact(version: u32, row: &[u8], out: &mut [u8]) -> Result<usize, Quest
 pub fn veil(kind: u32, version: u32, row: &[u8], out: &mut [u8]) -> Result<usize, Question>
     ensures { leaves result out.new ≡ veil_of kind version row.now out.old }
 {
+    // Kept: a kind is a number that C gives, and each number has an answer; version, row and out go one by one through C and the checks.
     match kind {
         DEVICE => veil_device(version, row, out),
         CONTACT => veil_contact(version, row, out),

@@ -187,7 +187,7 @@ fn veil_list<I: Item>(out: &mut [u8], at: usize, row: &[u8], l: ListAt) -> usize
     requires { AroundKeys I.form I.HEAD I.tail_at × ListIn I.form row.now l × (at + length (veiled_list I.form row.now l) ≤ length out.old) }
     ensures { (result ≡ at + length (veiled_list I.form row.now l)) × Wrote out.old at (veiled_list I.form row.now l) out.new result }
 {
-    // Kept: usize has no From into u64
+    // Kept: usize has no From into u64, and try_from has an error that never comes
     let first = put::put_be(out, at, 2, l.count as u64);
     veil_each::<I>(out, first, row, l)
 }
