@@ -58,13 +58,9 @@ fn count(
 fn lines(rt: &impl Print, text: &[u8], bytes: &mut [u8], again: &mut [u8]) -> Tallies {
     let mut tallies = Tallies::new();
     let mut number: u64 = 0;
-    let mut rest = text;
-    // Kept: the new form is no plainer: std has no `split` for slices, and an iterator of our own would be longer than this loop
-    while !rest.is_empty() {
-        let n = ascii::until(rest, b'\n');
-        number += 1;
-        tallies = count(rt, tallies, number, &rest[..n], bytes, again);
-        rest = &rest[(n + 1).min(rest.len())..];
+    for line in text.split(|b| *b == b'\n') {
+        number = number.saturating_add(1);
+        tallies = count(rt, tallies, number, line, bytes, again);
     }
     tallies
 }
