@@ -1,8 +1,8 @@
 -- The questions at the end of a contact row's layout are those of `inconsistency`; and what the code's answers to them say of it.
 -- Assumes nothing.
-use Prim.Native.Nat.{ℕ, ◌≤◌, ◌<◌}
+use Prim.Native.Nat.{ℕ, ◌+◌, ◌≤◌, ◌<◌}
 use mathlib.Core.List.{List}
-use mathlib.Core.Bool.{Bool, true, false, not}
+use mathlib.Core.Bool.{Bool, true, false, not, ◌&&◌}
 use mathlib.Core.Option.{Option, none, some}
 use mathlib.Core.Path.{◌≡◌, refl, sym, ap, ◌∙◌}
 use lib.ListN.{length, drop}
@@ -13,12 +13,12 @@ use Rattle.layout.specs.Layout.{Layout, done, ask, parse}
 use Rattle.layout.specs.Layout as layout
 use Rattle.layout.proofs.Steps.{Came, end-yes}
 use Rattle.rows.specs.Values.{Chain, Skipped, Contact}
-use Rattle.rows.specs.Checks.{few_chains, one_chain_at_most, gens_distinct, keys_distinct}
+use Rattle.rows.specs.Checks.{few_chains, one_chain_at_most, gens_distinct, keys_distinct, rising, canonical, none_above}
 use Rattle.contact_checks.specs.Asked.{chains_asked}
 use Rattle.contact_checks.specs.declared.ChainsAsked.{ChainsAsked}
 use Rattle.contact_parts.specs.Parts.{Paired, Keys, Chained, Numbers, joined}
 use Rattle.contact_parts.proofs.Parts.{consistent}
-use Rattle.contact.specs.Consistent.{asks, chains_refusal, inconsistency}
+use Rattle.contact.specs.Consistent.{asks, chains_refusal, numbers_refusal, inconsistency}
 
 -- nine questions, one after the other
 nine : (a b c d e f g h i : Bool) (v : Contact) (row : List ℕ)
@@ -83,3 +83,19 @@ module _ {chains : List Chain} {skipped : List Skipped} {n k : ℕ} (has : Listi
 
           pub all-yes : k ≤ 500 → none ≡ chains_refusal chains skipped
           all-yes h = rw (few-chains, current (not-false _ one), distinct (not-false _ apart), ← keys, yes, has.skips-many, le-leb k 500 h)
+
+-- ---- 21 to 24, as they are asked of numbers in a row or in lent places: what each no from 22 on and the last yes answers
+module _ {sent : ℕ} (n : Numbers) (reached : n.peer_acked ≤ sent) {rises : Bool} (up : rises ≡ rising 1 sent n.unacked) where
+  pub unacked-falls : rises ≡ false → some UNACKED ≡ numbers_refusal sent n.peer_acked n.contiguous n.above n.unacked n.expired
+  unacked-falls h = rw (le-leb n.peer_acked sent reached, ← up, h)
+
+  module _ (rise : rises ≡ true) {apart : Bool} (gaps : canonical (n.contiguous + 2) n.above ≡ apart) where
+    pub above-touch : apart ≡ false → some ABOVE ≡ numbers_refusal sent n.peer_acked n.contiguous n.above n.unacked n.expired
+    above-touch h = rw (le-leb n.peer_acked sent reached, ← up, rise, gaps, h)
+
+    module _ (yes : apart ≡ true) {past : Bool} (old : past ≡ canonical 1 n.expired && none_above sent n.expired) where
+      pub expired-wrong : past ≡ false → some EXPIRED ≡ numbers_refusal sent n.peer_acked n.contiguous n.above n.unacked n.expired
+      expired-wrong h = rw (le-leb n.peer_acked sent reached, ← up, rise, gaps, yes, ← old, h)
+
+      pub all-lawful : past ≡ true → none ≡ numbers_refusal sent n.peer_acked n.contiguous n.above n.unacked n.expired
+      all-lawful h = rw (le-leb n.peer_acked sent reached, ← up, rise, gaps, yes, ← old, h)

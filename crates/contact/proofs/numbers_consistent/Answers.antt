@@ -4,13 +4,14 @@ use mathlib.Core.List.{List}
 use mathlib.Core.Bool.{Bool, ◌&&◌}
 use mathlib.Core.Path.{◌≡◌, sym, ap, ◌∙◌}
 use native.Mathlib.Omega.{arith}
-use borrow.Author.Tests.{le-leb, lt-leb}
+use borrow.Author.Tests.{lt-leb}
 use Rattle.layout.specs.RowLaws.{Bytes}
 use Rattle.layout.proofs.At.{typed}
 use Rattle.rows.specs.Checks.{canonical, none_above}
 use Rattle.contact_checks.proofs.Callers.{canonical-in-row}
 use Rattle.contact_parts.specs.Offsets.{numbers_from, NumbersLists}
 use Rattle.contact_parts.specs.declared.NumbersAt.{NumbersAt}
+use Rattle.contact.proofs.Consistent.{unacked-falls, above-touch, expired-wrong, all-lawful}
 use Rattle.contact.proofs.numbers_consistent.Goals as goal
 
 -- 23: the row is asked for no number above 2^32 - 1, and has none
@@ -27,44 +28,28 @@ pub rising_in_row-requires : goal.rising_in_row-requires
 rising_in_row-requires c = record { next = _; so = c.requires.unacked }
 
 pub returns-then-not-rising_in_row : goal.returns-then-not-rising_in_row
-returns-then-not-rising_in_row c = rw (le-leb _ _ c.if-sent-at.false, ← c.rising_in_row.ensures, c.if-not-rising_in_row.true)
+returns-then-not-rising_in_row c = unacked-falls (numbers_from c.args.row.now c.args.at) c.if-sent-at.false c.rising_in_row.ensures c.if-not-rising_in_row.true
 
 pub canonical_in_row-requires : goal.canonical_in_row-requires
 canonical_in_row-requires c = (record { next = _; so = c.requires.above }, omega arith)
 
 pub returns-then-not-canonical_in_row : goal.returns-then-not-canonical_in_row
 returns-then-not-canonical_in_row c =
-    rw (
-      le-leb _ _ c.if-sent-at.false,
-      ← c.rising_in_row.ensures,
-      c.if-not-rising_in_row.false,
-      above_asked c.args.row.now c.args.at (typed _ c.type_inv.row) c.requires c.from-from.ensures c.canonical_in_row.ensures,
-      c.if-not-canonical_in_row.true,
-    )
+    above-touch (numbers_from c.args.row.now c.args.at) c.if-sent-at.false c.rising_in_row.ensures c.if-not-rising_in_row.false
+    (above_asked c.args.row.now c.args.at (typed _ c.type_inv.row) c.requires c.from-from.ensures c.canonical_in_row.ensures)
+    c.if-not-canonical_in_row.true
 
 pub canonical_in_row-requires-2 : goal.canonical_in_row-requires-2
 canonical_in_row-requires-2 c = (record { next = _; so = c.requires.expired }, omega arith)
 
 pub returns-then-not-canonical_in_row-2 : goal.returns-then-not-canonical_in_row-2
 returns-then-not-canonical_in_row-2 c =
-    rw (
-      le-leb _ _ c.if-sent-at.false,
-      ← c.rising_in_row.ensures,
-      c.if-not-rising_in_row.false,
-      above_asked c.args.row.now c.args.at (typed _ c.type_inv.row) c.requires c.from-from.ensures c.canonical_in_row.ensures,
-      c.if-not-canonical_in_row.false,
-      ← c.canonical_in_row-2.ensures,
-      c.if-not-canonical_in_row-2.true,
-    )
+    expired-wrong (numbers_from c.args.row.now c.args.at) c.if-sent-at.false c.rising_in_row.ensures c.if-not-rising_in_row.false
+    (above_asked c.args.row.now c.args.at (typed _ c.type_inv.row) c.requires c.from-from.ensures c.canonical_in_row.ensures)
+    c.if-not-canonical_in_row.false c.canonical_in_row-2.ensures c.if-not-canonical_in_row-2.true
 
 pub returns : goal.returns
 returns c =
-    rw (
-      le-leb _ _ c.if-sent-at.false,
-      ← c.rising_in_row.ensures,
-      c.if-not-rising_in_row.false,
-      above_asked c.args.row.now c.args.at (typed _ c.type_inv.row) c.requires c.from-from.ensures c.canonical_in_row.ensures,
-      c.if-not-canonical_in_row.false,
-      ← c.canonical_in_row-2.ensures,
-      c.if-not-canonical_in_row-2.false,
-    )
+    all-lawful (numbers_from c.args.row.now c.args.at) c.if-sent-at.false c.rising_in_row.ensures c.if-not-rising_in_row.false
+    (above_asked c.args.row.now c.args.at (typed _ c.type_inv.row) c.requires c.from-from.ensures c.canonical_in_row.ensures)
+    c.if-not-canonical_in_row.false c.canonical_in_row-2.ensures c.if-not-canonical_in_row-2.false
