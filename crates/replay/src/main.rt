@@ -195,15 +195,13 @@ fn finish(rt: &(impl Print + Eprint + Alloc), s: Script, failed: bool, line: &mu
 struct Left {
     session: Session,
     s: Script,
-    // behind a line that is none, or that could not be printed
-    over: bool,
 }
 
 fn ends(asked: Asked, printed: bool) -> bool {
     !printed || matches!(asked, Asked::Unknown)
 }
 
-// What a line asks for, where there is one.
+// What a line asks for, where there is one. None behind a line that is none, or that could not be printed: the script is over.
 fn turn(
     rt: &(impl Print + Eprint + Alloc),
     session: Session,
@@ -219,13 +217,9 @@ fn turn(
     expired: &mut [u32],
     out: &mut [u8],
     line: &mut [u8],
-) -> Left {
+) -> Option<Left> {
     let Found::Line { start, end } = w.found else {
-        return Left {
-            session,
-            s,
-            over: false,
-        };
+        return Some(Left { session, s });
     };
     let asked = one_line(s, line_in(text, start, end), run, records, out);
     let answered = answer(
@@ -236,11 +230,13 @@ fn turn(
     let after = answered.session;
     let mark = after.mark;
     let next = asked.after(after.first, pairs_open(mark, after.contact.above));
-    Left {
+    if ends(next.asked, printed) {
+        return None;
+    }
+    Some(Left {
         session: after,
         s: next,
-        over: ends(next.asked, printed),
-    }
+    })
 }
 
 // A proved loop has to end, and nothing says that the input does: the turns have a number that no run uses up.
@@ -267,17 +263,14 @@ fn replay<R: Read>(
             finish(rt, s, w.failed, line);
             return;
         }
-        let t = turn(
+        let Some(left) = turn(
             rt, session, s, w, text, run, records, chains, skipped, above, unacked, expired, out,
             line,
-        );
-        let after = t.session;
-        session = after;
-        let next = t.s;
-        s = next;
-        if t.over {
+        ) else {
             return;
-        }
+        };
+        session = left.session;
+        s = left.s;
     }
 }
 
