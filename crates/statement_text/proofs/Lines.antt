@@ -9,6 +9,7 @@ use mir.Val.{bool_byte}
 use lib.ListN.{length, drop, length-append}
 use lib.Seq.{drop-drop}
 use lib.Dec.{eqb}
+use Rattle.std.specs.Prelude.{Option, Some, None}
 use Rattle.put.specs.Put.{Wrote}
 use Rattle.put.proofs.Put.{Writing, writing_step, writing-done}
 use Rattle.store.specs.declared.Entry.{Entry}
@@ -20,7 +21,7 @@ use Rattle.sheet_entries.specs.Table.{entry_from, entries_from}
 use Rattle.statement_text.specs.Text as text
 use Rattle.statement_text.specs.Text.{how_many}
 use Rattle.statement_text.specs.Lines as lines
-use Rattle.statement_text.specs.Lines.{entry_text, entry_count, lines_from, count_from}
+use Rattle.statement_text.specs.Lines.{entry_text, entry_count, lines_from, count_from, Lined}
 
 module _ (records : List ℕ) (n i : ℕ) where
   pub entries-turn : i < n → entries_from (n - i) (drop (6 * i) records) ≡ entry_from (drop (6 * i) records) ∷ entries_from (n - (i + 1)) (drop (6 * (i + 1)) records)
@@ -75,6 +76,11 @@ counts run = record { none = refl; more = λ e es. refl }
 pub lengths : (run : List ℕ) (all : List Entry) → Sum (λ e. length (entry_text run (queued_of e.id all) e)) (λ es. length (lines_from run all es))
 unfolding lines.lines_from
 lengths run all = record { none = refl; more = λ e es. length-append (entry_text run (queued_of e.id all) e) (lines_from run all es) }
+
+-- ---- an entry without numbers has no line
+pub lineless : {text : List ℕ} {count : ℕ} (l : Option (List ℕ)) → Lined text count l → ((fields : List ℕ) → l ≡ Some fields → ⊥) → Lined text count None
+lineless None w other = w
+lineless (Some fields) w other = absurd (other fields refl)
 
 -- ---- the lines from the i-th entry on
 module _ (run : List ℕ) (all : List Entry) (records : List ℕ) (n i : ℕ) where

@@ -1,7 +1,7 @@
 -- The lines of a granted store as they are written: entry by entry. That they make up the text is proved
 -- (proofs/Lines.antt), so this need not be believed.
 -- Assumes nothing.
-use Rattle.std.specs.Prelude.{ℕ, ◌+◌, ◌≤◌, List, [], ◌∷◌, ◌++◌, cond, ◌≡◌, length, take, eqb}
+use Rattle.std.specs.Prelude.{ℕ, ◌+◌, ◌≤◌, List, [], ◌∷◌, ◌++◌, cond, ◌≡◌, length, take, eqb, Option, Some, None}
 use Rattle.layout.specs.Layout.{Answer, accepted, refused_by, read_row}
 use Rattle.rows.specs.Values.{Contact}
 use Rattle.rows.specs.Rows as rows
@@ -11,7 +11,6 @@ use Rattle.store.specs.Kinds.{CONTACT}
 use Rattle.store.specs.Store.{part_of}
 use Rattle.numbers.specs.Decimal.{fields_text}
 use Rattle.store.specs.Line.{line_of, queued_of, LETTER_S}
-use Rattle.statement_text.specs.declared.Line.{Line}
 use Rattle.statement_text.specs.declared.Measured.{Measured}
 
 -- ---- the line of an entry, or nothing
@@ -51,14 +50,17 @@ TEXT_BYTES = 76949
 abbrev pub fields_of : (fields : List ℕ) → (count : ℕ) → List ℕ
 fields_of fields count = fields_text (take count fields)
 
-abbrev pub text_in : Line → List ℕ
-text_in l = cond l.held (LETTER_S ∷ fields_of l.fields 7) []
+-- of a line's numbers, or of none
+abbrev pub text_in : Option (List ℕ) → List ℕ
+text_in None = []
+text_in (Some fields) = LETTER_S ∷ fields_of fields 7
 
-abbrev pub count_in : Line → ℕ
-count_in l = cond l.held 1 0
+abbrev pub count_in : Option (List ℕ) → ℕ
+count_in None = 0
+count_in (Some fields) = 1
 
 -- what a row's line, or none, is
-pub record Lined (text : List ℕ) (count : ℕ) (l : Line) : Type 0 where
+pub record Lined (text : List ℕ) (count : ℕ) (l : Option (List ℕ)) : Type 0 where
   pub text-is : text_in l ≡ text
   pub count-is : count_in l ≡ count
 

@@ -15,7 +15,7 @@ ghost use Rattle.store.specs.Kinds.{QUEUED};
 ghost use Rattle.store.specs.Line.{queued_of};
 ghost use Rattle.sheet_entries.specs.Table.{entry_from, entries_from};
 ghost use Rattle.statement_text.specs.Text.{how_many, last_line};
-ghost use Rattle.statement_text.specs.Lines.{row_text, row_count, entry_text, entry_count, lines_from, count_from, fields_of, text_in, Lined, Measures};
+ghost use Rattle.statement_text.specs.Lines.{row_text, row_count, entry_text, entry_count, lines_from, count_from, fields_of, Lined, Measures};
 ghost use Rattle.statement_text.specs.Lines as texts;
 
 use layout::Question;
@@ -29,13 +29,6 @@ pub const TEXT_BYTES: usize = 76949;
 
 // The numbers of a T line.
 const LAST_FIELDS: usize = 4;
-
-// The numbers of an entry's line, if it has one.
-#[derive(Clone, Copy)]
-pub struct Line {
-    pub fields: [u64; 7],
-    pub held: bool,
-}
 
 // The length of the lines of all contacts, and how many these are.
 #[derive(Clone, Copy)]
@@ -98,22 +91,13 @@ fn numbers_in_row(row: &[u8], first: usize, count: usize, lowest: u64) -> u64
     sum
 }
 
-fn no_line() -> Line
-    ensures { Lined [] 0 result }
-{
-    Line {
-        fields: [0; 7],
-        held: false,
-    }
-}
-
-// The line of a contact's row.
-fn row_line(row: &[u8], version: u32, id: ContactId, queued: u64) -> Line
+// The numbers of a contact's line; none where its row is refused.
+fn row_line(row: &[u8], version: u32, id: ContactId, queued: u64) -> Option<[u64; 7]>
     requires { length row.now ≤ 61440 }
     ensures { Lined (row_text id.0 queued (read_row (layouts.contact version) row.now)) (row_count (read_row (layouts.contact version) row.now)) result }
 {
     let Ok(at) = contact::check_contact(version, row) else {
-        return no_line();
+        return None;
     };
     let sent = u64::from(at.keys.sent_msgno);
     let numbers = at.numbers;
@@ -123,12 +107,11 @@ fn row_line(row: &[u8], version: u32, id: ContactId, queued: u64) -> Line
     let beyond = numbers_in_row(row, above.first, above.count, 0);
     let gone = numbers.expired;
     let expired = numbers_in_row(row, gone.first, gone.count, acked + 1);
-    let fields = [id.0, sent, acked, contiguous, beyond, queued, expired];
-    Line { fields, held: true }
+    Some([id.0, sent, acked, contiguous, beyond, queued, expired])
 }
 
-// The line of an entry.
-fn entry_line(run: &[u8], e: Entry, queued: u64) -> Line
+// The numbers of an entry's line, if it has one.
+fn entry_line(run: &[u8], e: Entry, queued: u64) -> Option<[u64; 7]>
     requires { length run.now ≤ 61440 }
     ensures { Lined (entry_text run.now queued e) (entry_count run.now e) result }
 {
@@ -136,41 +119,13 @@ fn entry_line(run: &[u8], e: Entry, queued: u64) -> Line
         let row = store::part_of(run, e);
         return row_line(row, e.version, ContactId(e.id), queued);
     }
-    no_line()
+    None
 }
 
 // ---- lines measured and written
 
-fn line_len(line: Line) -> usize
-    ensures { (result ≡ length (text_in line)) × (result ≤ 149) }
-{
-    if line.held {
-        let fields = line.fields;
-        1 + ascii::fields_len(fields, statement_line::FIELDS)
-    } else {
-        0
-    }
-}
-
-fn put_entry(out: &mut [u8], at: usize, line: Line) -> usize
-    requires { at + length (text_in line) ≤ length out.old }
-    ensures { (result ≡ at + length (text_in line)) × Wrote out.old at (text_in line) out.new result }
-{
-    if line.held {
-        let fields = line.fields;
-        return ascii::put_line(
-            out,
-            at,
-            statement_line::LETTER_S,
-            fields,
-            statement_line::FIELDS,
-        );
-    }
-    at
-}
-
-// The line of the i-th entry, of n.
-fn line_at(run: &[u8], records: &[u64], n: usize, i: usize) -> Line
+// The numbers of the line of the i-th entry, of n, if it has one.
+fn line_at(run: &[u8], records: &[u64], n: usize, i: usize) -> Option<[u64; 7]>
     requires { (length run.now ≤ 61440) × (i < n) × (n ≤ 512) }
     ensures { Lined (entry_text run.now (queued_of (entry_from (drop (6 * i) records.now)).id (entries_from n records.now)) (entry_from (drop (6 * i) records.now)))
         (entry_count run.now (entry_from (drop (6 * i) records.now))) result }
@@ -180,7 +135,7 @@ fn line_at(run: &[u8], records: &[u64], n: usize, i: usize) -> Line
         let queued = queued_in(records, n, ContactId(e.id));
         return entry_line(run, e, queued);
     }
-    no_line()
+    None
 }
 
 // The lines of all entries.
@@ -192,9 +147,10 @@ fn measure(run: &[u8], records: &[u64], n: usize) -> Measured
     let mut len: usize = 0;
     let mut contacts: u64 = 0;
     for i in 0..n {
-        let line = line_at(run, records, n, i);
-        len += line_len(line);
-        contacts += u64::from(line.held);
+        if let Some(fields) = line_at(run, records, n, i) {
+            len += 1 + ascii::fields_len(fields, statement_line::FIELDS);
+            contacts += 1;
+        }
     }
     Measured { len, contacts }
 }
@@ -206,8 +162,15 @@ fn put_lines(run: &[u8], records: &[u64], n: usize, out: &mut [u8]) -> usize
 {
     let mut here = 0;
     for i in 0..n {
-        let line = line_at(run, records, n, i);
-        here = put_entry(out, here, line);
+        if let Some(fields) = line_at(run, records, n, i) {
+            here = ascii::put_line(
+                out,
+                here,
+                statement_line::LETTER_S,
+                fields,
+                statement_line::FIELDS,
+            );
+        }
     }
     here
 }

@@ -19,4 +19,4 @@ returns-then-e-eq-CONTACT c =
 pub returns : goal.returns
 returns c =
     let a = c.args in
-    other-entry a.run.now a.e a.queued c.if-e-eq-CONTACT.false c.no_line.ensures
+    other-entry a.run.now a.e a.queued c.if-e-eq-CONTACT.false

@@ -16,4 +16,4 @@ returns c =
     let a = c.args in
     let es = entries_from a.n a.records.now in
     entry-is a.run.now es c.entry_from-e.ensures refl
-    (other-entry a.run.now c.entry_from-e.result (queued_of c.entry_from-e.result.id es) c.if-e-eq-CONTACT.false c.no_line.ensures)
+    (other-entry a.run.now c.entry_from-e.result (queued_of c.entry_from-e.result.id es) c.if-e-eq-CONTACT.false)

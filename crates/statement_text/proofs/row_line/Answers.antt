@@ -18,7 +18,7 @@ lists c = (placed c.args.row.now (typed c.args.row.now c.type_inv.row) c.args.ve
 
 pub returns-in_default : goal.returns-in_default
 returns-in_default c =
-    refused-line c.args.row.now (typed c.args.row.now c.type_inv.row) c.args.version c.args.id.0 c.args.queued _ c.check_contact.ensures c.in_default.not-Ok c.no_line.ensures
+    refused-line c.args.row.now (typed c.args.row.now c.type_inv.row) c.args.version c.args.id.0 c.args.queued _ c.check_contact.ensures c.in_default.not-Ok
 
 pub numbers_in_row-beyond-requires : goal.numbers_in_row-beyond-requires
 numbers_in_row-beyond-requires c = (record { next = _; so = (lists (goal.at.numbers_in_row-beyond-requires c).In-Ok).numbers.above }, c.requires)
