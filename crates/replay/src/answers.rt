@@ -80,6 +80,7 @@ fn make_call(
     out: &mut [u8],
     line: &mut [u8],
 ) -> Answered {
+    // Kept: fixed memory: calls_list::replay fills a lent list.
     let mut answers = [0u64; calls_code::ANSWER];
     let c = s.chains.min(chains.len());
     let k = s.skipped.min(skipped.len());

@@ -40,6 +40,7 @@ enum Asked {
     // that the state is printed
     State,
     // that an answer is printed which is known: its tag and two numbers
+    // Kept: what may not change: calls_list takes calls, and leaves answers, as numbers (calls_code), here and in Call.
     Show(u64, u64, u64),
     // that the program ends, since the line is none
     Unknown,

@@ -22,7 +22,7 @@ pub struct Window {
     // the input has no more
     over: bool,
     // a read failed, so that the input has no end: what is held is no line
-    // Kept: the new form is no plainer: `look` goes on by `found` alone, and a failed read is told once, at the end.
+    // Kept: the new form is no plainer: `replay` ends by `found` alone, and `finish` asks at the end whether a read failed.
     pub failed: bool,
     // the rest of a line that was too long comes first
     passing: bool,

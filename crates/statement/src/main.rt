@@ -17,7 +17,7 @@ use std::io::Read;
 const RECORDS: usize = RECORD * LINES;
 
 // What was read so far. After the last piece, or after a read that failed, there is no more.
-// Kept: what may not change: Taken, ReadOne and ReadAll (specs/Pieces) say state, more and failed of each reading, also of a failed one.
+// Kept: what may not change: Taken and ReadOne (specs/Pieces) say state, more and failed of each reading, ReadAll state and failed, also of a failed one.
 #[derive(Drop)]
 struct Reading {
     state: State,
@@ -40,7 +40,7 @@ fn begin() -> Reading
 fn chunk_bytes() -> [u8; 65536]
     ensures { 65536 ≡ length result }
 {
-    // Kept: fixed memory and no heap, here and below; what main lends goes through one chain of calls.
+    // Kept: fixed memory and no heap, here and below.
     [0; 65536]
 }
 

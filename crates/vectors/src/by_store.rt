@@ -63,6 +63,7 @@ fn records_of(bytes: &[u8], count: usize) -> [u64; RECORDS]
 
 // Whether the text is these two numbers, of eight bytes each.
 fn is_pair(text: &[u8], one: u64, other: u64) -> bool {
+    // Kept: fixed memory: sixteen bytes, so a local array.
     let mut pair = [0u8; 16];
     let Ok(n) = ascii::bytes(text, &mut pair) else {
         return false;
