@@ -7,6 +7,19 @@ use Rattle.layout.specs.Field.{Field, takes, refuses}
 use Rattle.layout.specs.Layout.{Answer, accepted, refused_by}
 use Rattle.layout.specs.Write as write
 
+-- by what numbers an error
+module _ {R : Type 0} (number : R → ℕ) where
+  abbrev pub answer_by : {A B : Type 0} → (A → B) → Result A R → Answer B
+  answer_by f (Ok a) = accepted (f a)
+  answer_by f (Err r) = refused_by (number r)
+
+  abbrev pub answers_by : {A : Type 0} → Result A R → Answer A
+  answers_by = answer_by (λ a. a)
+
+  abbrev pub written_by : Result ℕ R → write.Written
+  written_by (Ok n) = write.wrote n
+  written_by (Err r) = write.refuses (number r)
+
 module _ {A B : Type 0} (f : A → B) where
   -- a reader of a field: what is taken stands for `f` of it, and the next position is beside it
   abbrev pub field_says : Result (A × ℕ) Question → Field B
@@ -15,8 +28,7 @@ module _ {A B : Type 0} (f : A → B) where
 
   -- a reader of a row, or a check of one
   abbrev pub answer_says : Result A Question → Answer B
-  answer_says (Ok a) = accepted (f a)
-  answer_says (Err q) = refused_by (number_of q)
+  answer_says = answer_by number_of f
 
   -- what is made of an accepted value
   abbrev pub made : Answer A → Answer B
@@ -38,8 +50,7 @@ end_says (Err q) = refuses (number_of q)
 
 -- a writer: the length written; and the output as it leaves it
 abbrev pub written_says : Result ℕ Question → write.Written
-written_says (Ok n) = write.wrote n
-written_says (Err q) = write.refuses (number_of q)
+written_says = written_by number_of
 
 abbrev pub leaves : Result ℕ Question → List ℕ → write.Left
 leaves r out = record { answer = written_says r; out = out }

@@ -54,7 +54,7 @@ fn turns(store: StoreRef<'_>, omitted: Option<OmittedContact>, round: Round) -> 
 {
     for (i, e) in store.entries.iter().enumerate() {
         let before = store.entries[i.saturating_sub(1)];
-        restore_rounds::turn(store.run, omitted, before, *e, round, i)?;
+        restore_rounds::going_turn(store.run, omitted, before, *e, round, i)?;
     }
     Ok(())
 }
@@ -136,8 +136,8 @@ fn across_at(
     let limit = restore_across::owner_limit(e, i);
     let p = owner_at(store.entries, index, e, limit, w.latest);
     let c = restore_entries::entry_at(store.entries, p);
-    let owner = restore_across::owner_of(store.run, omitted, c, p, limit, w);
-    restore_across::entry_turn(store.run, e, c, i, p, duplicate, owner, w)
+    let owner = restore_across::going_owner(store.run, omitted, c, p, limit, w);
+    restore_across::going_turn(store.run, e, c, i, p, duplicate, owner, w)
 }
 
 // Of all entries, with an index of any size: in a loop for each size a turn is called and not inlined, and restore takes half as long again.

@@ -200,7 +200,7 @@ module _ (run : List ℕ) (es : List Entry) (omitted : Omitted) (i : ℕ) (w : P
     turn-as unknown q o stands = unknown-turn q
 
     -- what is kept of a contact is so where that contact is found again
-    pub owner-again : Reusable run omitted (entry_at es p) p (owner_limit e i) w
+    pub owner-again : Reusable run omitted (entry_at es p) p (owner_limit e i) (Going w)
     owner-again l x =
         let is = (is-of CONTACT e.id (entry_at es p) (found.hit l)).0 in
         subst (λ (n : ℕ). OwnerStands (owner_seen run omitted (entry_at es n)) (part_of run (entry_at es n)) w.owner) (sym x) (kept.owner (subst (λ (n : ℕ). (entry_at es n).kind ≡ CONTACT) x is))

@@ -34,7 +34,7 @@ module _ (run : List ℕ) (es : List Entry) (omitted : Omitted) (i : ℕ) (w : P
   abbrev limit : ℕ
   limit = owner_limit e i
 
-  pub reusable : Reusable run omitted c p limit w
+  pub reusable : Reusable run omitted c p limit (Going w)
   reusable = owner-again run es omitted i w b at.asked at.so-kept p found
 
   pub known : p < limit → Known run omitted c

@@ -1,12 +1,13 @@
 -- What is read in rows.
 -- Assumes nothing.
-use Prim.Native.Nat.{ℕ}
+use Prim.Native.Nat.{ℕ, ◌≤◌}
 use mathlib.Core.List.{List, []}
 use mathlib.Core.Bool.{Bool, true, false, cond}
 use mathlib.Core.Option.{Option, none, some}
 use mathlib.Core.Path.{◌≡◌, refl, sym, ap, ◌∙◌, subst}
 use native.Mathlib.Omega.{arith}
 use lib.Dec.{T, eqb}
+use borrow.Author.Tests.{le-ltb}
 use Rattle.layout.specs.Questions.{UNACKED}
 use Rattle.layout.specs.Read.{first}
 use Rattle.layout.specs.Form.{u32}
@@ -29,7 +30,10 @@ use Rattle.contact_known.specs.Known.{Sent}
 use Rattle.contact_known.specs.declared.SentAt.{SentAt}
 use Rattle.std.specs.Prelude.{None, Some}
 use Rattle.store.specs.Omitted.{Omitted, omitted_seen}
-use Rattle.restore_across.specs.Owner.{contact_seen, owner_at, owner_read, owner_in, owner_omitted, OwnerStands, OwnerIn}
+use Rattle.store.specs.Store.{part_of}
+use Rattle.store.specs.declared.Entry.{Entry}
+use Rattle.restore_across.specs.Across.{Across, OwnerFor}
+use Rattle.restore_across.specs.Owner.{contact_seen, owner_at, owner_read, owner_in, owner_omitted, no_owner, OwnerStands, OwnerIn}
 use Rattle.restore_across.specs.declared.Owner.{Owner}
 
 -- ---- question q of a layout is a yes for a value that no question refuses
@@ -97,3 +101,7 @@ owner-read row by {r} sent version known = go (read_row (rows.contact version) r
 pub omitted-for : (omitted : Omitted) (row : List ℕ) → OwnerStands (omitted_seen omitted) row (owner_omitted omitted)
 omitted-for None row = bare row 0
 omitted-for (Some o) row = bare row o.sent_msgno
+
+-- no contact was found
+pub none-found : (run : List ℕ) (omitted : Omitted) (c : Entry) (p upto : ℕ) (s : Across) → upto ≤ p → OwnerFor run omitted c p upto s no_owner
+none-found run omitted c p upto s past = rw (le-ltb p upto past) (λ known. (refl, λ kept. bare (part_of run c) 0))

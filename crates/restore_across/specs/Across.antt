@@ -24,9 +24,12 @@ pub data Across : Type 0 where
   Refused : ℕ → ℕ → Across
 
 -- what code answers of one entry or more
-abbrev pub across_says : Result Progress Refusal → Across
-across_says (Ok w) = Going w
-across_says (Err r) = Refused (number_of r.question) r.place
+abbrev pub across_by : {R : Type 0} → (number : R → ℕ) → Result Progress (Refusal R) → Across
+across_by number (Ok w) = Going w
+across_by number (Err r) = Refused (number r.question) r.place
+
+abbrev pub across_says : Result Progress (Refusal Question) → Across
+across_says = across_by number_of
 
 -- ... and of the i-th
 abbrev pub turn_says : (i : ℕ) → Result Progress Question → Across
@@ -72,21 +75,23 @@ abbrev pub owner_limit : Entry → (i : ℕ) → ℕ
 owner_limit e i = cond (eqb e.kind QUEUED) i 0
 
 -- what is asked of the contact found at p: what is kept, where the last queued row's contact stands there; nothing where none was found below upto
-abbrev pub kept_or : Progress → (p : ℕ) → Owner → Owner
-kept_or w p o = cond (eqb p w.latest) w.owner o
+abbrev pub kept_or : Across → (p : ℕ) → Owner → Owner
+kept_or (Going w) p o = cond (eqb p w.latest) w.owner o
+kept_or (Refused n j) p o = o
 
-abbrev pub owner_for : (run : List ℕ) → Omitted → (c : Entry) → (p upto : ℕ) → Progress → Owner
-owner_for run omitted c p upto w = cond (ltb p upto) (kept_or w p (owner_from run omitted c)) no_owner
+abbrev pub owner_for : (run : List ℕ) → Omitted → (c : Entry) → (p upto : ℕ) → Across → Owner
+owner_for run omitted c p upto s = cond (ltb p upto) (kept_or s p (owner_from run omitted c)) no_owner
 
 -- where that contact is the one kept, what is kept of it is what is seen of it
-abbrev pub Reusable : (run : List ℕ) → Omitted → (c : Entry) → (p upto : ℕ) → Progress → Type 0
-Reusable run omitted c p upto w = p < upto → p ≡ w.latest → OwnerStands (owner_seen run omitted c) (part_of run c) w.owner
+abbrev pub Reusable : (run : List ℕ) → Omitted → (c : Entry) → (p upto : ℕ) → Across → Type 0
+Reusable run omitted c p upto (Going w) = p < upto → p ≡ w.latest → OwnerStands (owner_seen run omitted c) (part_of run c) w.owner
+Reusable run omitted c p upto (Refused n j) = Unit {0}
 
 -- what is answered is what is asked of that contact, if its row is known to be accepted; and what is seen of it, if what is kept is
-abbrev pub OwnerFor : (run : List ℕ) → Omitted → (c : Entry) → (p upto : ℕ) → Progress → Owner → Type 0
-OwnerFor run omitted c p upto w o =
+abbrev pub OwnerFor : (run : List ℕ) → Omitted → (c : Entry) → (p upto : ℕ) → Across → Owner → Type 0
+OwnerFor run omitted c p upto s o =
     (p < upto → Known run omitted c)
-    → (o ≡ owner_for run omitted c p upto w) × (Reusable run omitted c p upto w → OwnerStands (owner_found run omitted c p upto) (part_of run c) o)
+    → (o ≡ owner_for run omitted c p upto s) × (Reusable run omitted c p upto s → OwnerStands (owner_found run omitted c p upto) (part_of run c) o)
 
 -- ---- one turn: the i-th entry is e; its contact's entry is c, found at p, and o what is asked of it; f is the first entry that has a duplicate
 abbrev pub after : Option ℕ → (i : ℕ) → Progress → Across

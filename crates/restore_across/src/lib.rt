@@ -7,11 +7,11 @@ ghost use Rattle.rows.specs.Checks.{any};
 ghost use Rattle.store.specs.Kinds.{CONTACT, kind_of};
 ghost use Rattle.store.specs.Store.{is_of, part_of};
 ghost use Rattle.restore_across.specs.Owner.{no_owner, owner_omitted, unacked_at, Searchable, OwnerIn, OwnerFrom};
-ghost use Rattle.restore_across.specs.Across.{Going, across_says, turn_says, fresh, contact_of, place_or, tried, near_limit, far_limit, chosen, owner_limit, OwnerFor};
+ghost use Rattle.restore_across.specs.Across.{Going, across_by, across_says, turn_says, fresh, contact_of, place_or, tried, near_limit, far_limit, chosen, owner_limit, OwnerFor};
 ghost use Rattle.restore_across.specs.Across.{low_in, next_contact_in, depositor_in, SurelyLow, device_turn, contact_turn, queued_turn, courier_turn, entry_turn_as, entry_turn};
 
 use courier::{HeldAt, Kind};
-use layout::Question;
+use layout::{Numbered, Question};
 use store::{Entry, OmittedContact, Refusal, Wanted};
 
 // What is asked of a queued row's contact: sent_msgno, and where in its row the unacked numbers start and how many they are.
@@ -222,7 +222,7 @@ pub fn owner_limit(e: Entry, i: usize) -> usize
 }
 
 // What is asked of the contact c, found at p; nothing where none was found below `upto`. It is what is kept, where the last queued row's contact is the same one.
-pub fn owner_of(
+pub fn going_owner(
     run: &[u8],
     omitted: Option<OmittedContact>,
     c: Entry,
@@ -230,7 +230,7 @@ pub fn owner_of(
     upto: usize,
     w: Progress,
 ) -> Owner
-    ensures { OwnerFor run.now omitted c p upto w result }
+    ensures { OwnerFor run.now omitted c p upto (Going w) result }
 {
     if upto <= p {
         return no_owner();
@@ -239,6 +239,24 @@ pub fn owner_of(
         return w.owner;
     }
     owner_from(run, omitted, c)
+}
+
+// The same, of the answer so far: behind a refusal nothing is kept.
+pub fn owner_of<R: Numbered>(
+    run: &[u8],
+    omitted: Option<OmittedContact>,
+    c: Entry,
+    p: usize,
+    upto: usize,
+    state: Result<Progress, Refusal<R>>,
+) -> Owner
+    ensures { OwnerFor run.now omitted c p upto (across_by R.number state) result }
+{
+    match state {
+        Ok(w) => going_owner(run, omitted, c, p, upto, w),
+        Err(_) if upto <= p => no_owner(),
+        Err(_) => owner_from(run, omitted, c),
+    }
 }
 
 // ---- one turn. The i-th entry is e; its contact's entry is c, found at p, and owner what is asked of it; `first` is the first entry that has a duplicate
@@ -346,7 +364,8 @@ fn kind_turn(
     }
 }
 
-pub fn entry_turn(
+// Where every answer so far was a yes.
+pub fn going_turn(
     run: &[u8],
     e: Entry,
     c: Entry,
@@ -360,4 +379,21 @@ pub fn entry_turn(
     ensures { across_says result ≡ entry_turn run.now e c i p first owner (Going w) }
 {
     kind_turn(run, e, c, i, p, first, owner, w).map_err(|question| Refusal { question, place: i })
+}
+
+// Behind the answer so far: a refusal is handed on as it is, whatever its number.
+pub fn entry_turn<R: Numbered>(
+    run: &[u8],
+    e: Entry,
+    c: Entry,
+    i: usize,
+    p: usize,
+    first: usize,
+    owner: Owner,
+    state: Result<Progress, Refusal<R>>,
+) -> Result<Progress, Refusal<R>>
+    requires { Searchable (part_of run.now c) owner }
+    ensures { across_by R.number result ≡ entry_turn run.now e c i p first owner (across_by R.number state) }
+{
+    going_turn(run, e, c, i, p, first, owner, state?).map_err(|no| no.told_by())
 }

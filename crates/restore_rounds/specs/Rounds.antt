@@ -23,6 +23,10 @@ abbrev pub follows : (i before kind : ℕ) → Bool
 follows zero before kind = eqb kind DEVICE
 follows (suc i) before kind = leb CONTACT kind && leb kind COURIER && leb before kind
 
+-- a round by the number of its first question; any other number is that of the rows
+abbrev pub numbered_round : ℕ → code.Round
+numbered_round number = cond (eqb number ORDER) Order (cond (eqb number BOUNDS) Bounds Rows)
+
 -- which round of the store's it is
 abbrev pub round_of : code.Round → (run : List ℕ) → List Entry → Omitted → Round
 round_of Order run es omitted = order (store_of run es)

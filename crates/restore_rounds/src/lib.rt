@@ -5,11 +5,11 @@ ghost use Rattle.std.specs.Prelude.{◌≡◌, [], ◌∷◌};
 ghost use Rattle.layout.specs.Questions.{number_of};
 ghost use Rattle.layout.specs.Layout.{read_row};
 ghost use Rattle.rows.specs.Rows as layouts;
-ghost use Rattle.store.specs.Rounds.{ask, first_no, Going, turn, asked_says};
+ghost use Rattle.store.specs.Rounds.{ask, first_no, Going, turn, asked_by, asked_says};
 ghost use Rattle.store.specs.Kinds.{kind_of, layout_of, refusal_in};
-ghost use Rattle.restore_rounds.specs.Rounds.{verdict_in, follows, round_asks};
+ghost use Rattle.restore_rounds.specs.Rounds.{verdict_in, follows, round_asks, numbered_round};
 
-use layout::Question;
+use layout::{Numbered, Question};
 use store::{Entry, OmittedContact, Refusal};
 
 // The rounds that ask each entry by itself.
@@ -21,6 +21,19 @@ pub enum Round {
     Bounds,
     // 3 to 24 and 54
     Rows,
+}
+
+// The round that begins with the question of this number. Any other number is that of the rows.
+impl From<u8> for Round {
+    ghost from_gives = { λ number round. round ≡ numbered_round number };
+
+    fn from(number: u8) -> Round {
+        match number {
+            1 => Round::Order,
+            2 => Round::Bounds,
+            _ => Round::Rows,
+        }
+    }
 }
 
 fn device_verdict(version: u32, row: &[u8]) -> Result<(), Question>
@@ -105,8 +118,8 @@ fn verdict(
     }
 }
 
-// One turn.
-pub fn turn(
+// One turn, where every answer so far was a yes.
+pub fn going_turn(
     run: &[u8],
     omitted: Option<OmittedContact>,
     before: Entry,
@@ -117,4 +130,20 @@ pub fn turn(
     ensures { asked_says result ≡ turn (round_asks run.now omitted before e round i) i Going }
 {
     verdict(run, omitted, before, e, round, i).map_err(|question| Refusal { question, place: i })
+}
+
+// One turn, behind the answer so far: a refusal is handed on as it is, whatever its number. A round goes by the number of its first question.
+pub fn turn<R: Numbered>(
+    run: &[u8],
+    omitted: Option<OmittedContact>,
+    before: Entry,
+    e: Entry,
+    round: u8,
+    i: usize,
+    asked: Result<(), Refusal<R>>,
+) -> Result<(), Refusal<R>>
+    ensures { asked_by R.number result ≡ turn (round_asks run.now omitted before e (numbered_round round) i) i (asked_by R.number asked) }
+{
+    asked?;
+    going_turn(run, omitted, before, e, Round::from(round), i).map_err(|no| no.told_by())
 }

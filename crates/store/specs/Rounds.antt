@@ -2,6 +2,7 @@
 -- Assumes nothing.
 use Rattle.std.specs.Prelude.{ℕ, zero, suc, ◌≤◌, ◌<◌, List, [], ◌∷◌, Bool, cond, not, ◌⊎◌, ◌≡◌, T, Result, Ok, Err}
 use Rattle.std.proofs.Math.Option.{Option, none, some}
+use Rattle.layout.specs.declared.question.Question as code
 use Rattle.layout.specs.Questions.{number_of}
 use Rattle.store.specs.declared.Refusal.{Refusal}
 
@@ -44,9 +45,12 @@ rounds [] n a = a
 rounds (r ∷ rs) n a = rounds rs n (turns r 0 n a)
 
 -- what code answers, which hands nothing on: an error is the first no
-abbrev pub asked_says : Result (Unit {0}) Refusal → Asked
-asked_says (Ok u) = Going
-asked_says (Err r) = Refused (number_of r.question) r.place
+abbrev pub asked_by : {R : Type 0} → (number : R → ℕ) → Result (Unit {0}) (Refusal R) → Asked
+asked_by number (Ok u) = Going
+asked_by number (Err r) = Refused (number r.question) r.place
+
+abbrev pub asked_says : Result (Unit {0}) (Refusal code.Question) → Asked
+asked_says = asked_by number_of
 
 -- ---- the first no, as a statement
 -- of one entry: question n is a no, and every one before it a yes

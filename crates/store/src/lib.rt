@@ -2,10 +2,11 @@
 #![tactic(auto)]
 
 ghost use Rattle.std.specs.Prelude.{◌≡◌};
+ghost use Rattle.layout.specs.Questions.{number_of};
 ghost use Rattle.store.specs.Store.{within, part_of};
 ghost use Rattle.store.specs.Omitted.{is_omitted};
 
-use layout::Question;
+use layout::{Numbered, Question};
 use rows::ContactId;
 
 // Where a row stands in the run, and of which kind, contact or slot, message and version it is.
@@ -27,11 +28,23 @@ pub struct StoreRef<'a> {
     pub entries: &'a [Entry],
 }
 
-// The first no: the question, and the place where it is asked, an entry's index.
+// The first no: the question, or what a caller has in its stead, and the place where it is asked, an entry's index.
 #[derive(Clone, Copy, Debug, PartialEq, Eq)]
-pub struct Refusal {
-    pub question: Question,
+pub struct Refusal<R = Question> {
+    pub question: R,
     pub place: usize,
+}
+
+impl Refusal {
+    // The same, where the question is told by something else.
+    pub fn told_by<R: Numbered>(self) -> Refusal<R>
+        ensures { (R.number result.question ≡ number_of self.question) × (result.place ≡ self.place) }
+    {
+        Refusal {
+            question: R::from_question(self.question),
+            place: self.place,
+        }
+    }
 }
 
 // The contact whose row is left out while the questions are asked, and what is seen of it.
