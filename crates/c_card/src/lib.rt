@@ -3,11 +3,11 @@
 #![tactic(auto)]
 
 ghost use Rattle.std.specs.Prelude.{◌≡◌};
-ghost use Rattle.layout.specs.Says.{written_says};
+ghost use Rattle.layout.specs.Says.{written_by, written_says};
 ghost use Rattle.c_card.specs.Faces.{leaves, zero_or, length_or, read_leb128, write_leb128, is_utf8, rewrite_card};
 
 use card::Card;
-use layout::Question;
+use layout::{Numbered, Question};
 
 // Granted: number is 0, and length is how many bytes were written. Refused: number is the question's, and length is 0.
 #[repr(C)]
@@ -32,12 +32,12 @@ fn length_or(written: Result<usize, Question>) -> WriteAnswer
 
 // 0 where the call was granted, the question's number otherwise: what other crates' faces answer too.
 // Kept: the C interface answers a number where Rust has a Result
-pub fn zero_or(written: Result<usize, Question>) -> u32
-    ensures { result ≡ zero_or (written_says written) }
+pub fn zero_or<R: Numbered>(written: Result<usize, R>) -> u32
+    ensures { result ≡ zero_or (written_by R.number written) }
 {
     match written {
         Ok(_) => 0,
-        Err(question) => u32::from(question.number()),
+        Err(refusal) => u32::from(refusal.number()),
     }
 }
 

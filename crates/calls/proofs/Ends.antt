@@ -5,6 +5,7 @@ use mathlib.Core.List.{List}
 use mathlib.Core.Bool.{Bool, cond}
 use mathlib.Core.Path.{◌≡◌, refl, sym, ap, ◌∙◌, subst}
 use Rattle.std.specs.Prelude.{Result}
+use Rattle.layout.specs.declared.question.Question.{Question}
 use Rattle.rows.specs.declared.ContactId.{ContactId}
 use Rattle.contact.specs.declared.Contact.{Contact}
 use Rattle.contact.specs.Contact.{Lists}
@@ -40,7 +41,7 @@ module _ (run : List ℕ) (es : List Entry) where
   by-outcome h (store.granted f) = refl
   by-outcome h (store.refused q i) = refl
 
-  pub restore-is : (m : Mark) (a : Result Granted Refusal) (r : RestoreLeft) → restored_says a ≡ answered outcome → r ≡ restore_left a m
+  pub restore-is : (m : Mark) (a : Result Granted (Refusal Question)) (r : RestoreLeft) → restored_says a ≡ answered outcome → r ≡ restore_left a m
       → RestoreSteps m run es r
   unfolding steps.step
   restore-is m a r is-a is-r = record {
@@ -75,7 +76,7 @@ module _ (call : Call) (m : Mark) (run : List ℕ) (es : List Entry) (c : Contac
   on_call Statement = on-opened m
   on_call Write = on-opened m
 
-  pub of-store : (id : ContactId) (asking : Asking) (answer : Passed) (counted : Bool) (queued : ℕ) (r : Facts) → id ≡ id_for call m → asking ≡ asking_for call m
+  pub of-store : (id : ContactId) (asking : Asking) (answer : Passed) (counted : Bool) (queued : ℕ) (r : Facts Question) → id ≡ id_for call m → asking ≡ asking_for call m
       → answer ≡ passed_as (sought_in es id.0) (passes_for asking run es id c l) → counted ≡ counts_queued call → queued ≡ cond counted (queued_of id.0 es) 0 → r ≡ facts_as answer queued id
       → OfStore call h r
   of-store id asking answer counted queued r is-id is-asking is-answer is-counted is-queued is-r =

@@ -1,6 +1,7 @@
 -- What restore leaves, and what 34 is asked of for the other calls.
 -- Assumes nothing.
 use Rattle.std.specs.Prelude.{ℕ, List, ◌≡◌, Result}
+use Rattle.layout.specs.declared.question.Question.{Question}
 use Rattle.rows.specs.declared.ContactId.{ContactId}
 use Rattle.store.specs.declared.Entry.{Entry}
 use Rattle.store.specs.Store as store
@@ -29,7 +30,7 @@ abbrev pub mark_after : Restored → Mark → Mark
 mark_after (restored.Granted next slots) m = mark.Restored
 mark_after (restored.Refused q i) m = m
 
-abbrev pub restore_left : Result Granted Refusal → Mark → RestoreLeft
+abbrev pub restore_left : Result Granted (Refusal Question) → Mark → RestoreLeft
 restore_left a m = record { answer = a; mark = mark_after (restored_says a) m }
 
 -- what this leaves of all that stood before: a granted restore leaves the store that it was handed, a refused one the store before
@@ -62,5 +63,5 @@ abbrev pub asking_for : Call → Mark → Asking
 asking_for c m = by_open (λ id. stored_for m) (opened_for m) c
 
 -- ---- what is known of the store
-abbrev pub facts_as : Passed → (queued : ℕ) → ContactId → Facts
+abbrev pub facts_as : Passed → (queued : ℕ) → ContactId → Facts Question
 facts_as p queued id = record { sought = p.sought; queued = queued; id = id; gate = gate_of p.passed }

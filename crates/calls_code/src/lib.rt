@@ -3,14 +3,14 @@
 #![tactic(auto)]
 
 ghost use Rattle.std.specs.Prelude.{◌≡◌, List, ℕ};
-ghost use Rattle.layout.specs.Says.{answers};
+ghost use Rattle.layout.specs.Says.{answers_by};
 ghost use Rattle.calls_dispatch.specs.Dispatch.{says};
 ghost use Rattle.calls_code.specs.Encoding.{call_in, six_of};
 ghost use Rattle.calls_code.specs.Coded.{six, numbers_as, decoded_as};
 
 use calls_dispatch::Call;
 use calls_open::Answer;
-use layout::Question;
+use layout::Numbered;
 use rows::ContactId;
 
 // An answer.
@@ -91,8 +91,8 @@ pub fn tagged(tag: u64, a: u64, b: u64) -> Numbers
     }
 }
 
-pub fn numbers_of(answer: Result<Answer, Question>) -> Numbers
-    ensures { (out : List ℕ) → six result ≡ six_of (says (answers answer) out) }
+pub fn numbers_of<R: Numbered>(answer: Result<Answer, R>) -> Numbers
+    ensures { (out : List ℕ) → six result ≡ six_of (says (answers_by R.number answer) out) }
 {
     match answer {
         Ok(Answer::Yes) => tagged(YES, 0, 0),

@@ -140,7 +140,7 @@ module _ (m : Mark) (run : List ℕ) (es : List Entry) (c : Contact) (l : Lists)
   looked-up k s (some x) e = rw e (read-row k x.version (part_of run x))
 
   -- ---- by the call
-  module _ {call : Call} (facts : Facts) (o : OfStore call h facts) where
+  module _ {call : Call} (facts : Facts Question) (o : OfStore call h facts) where
     abbrev s : code.Option Entry
     s = facts.sought
 
@@ -233,7 +233,7 @@ module _ (m : Mark) (run : List ℕ) (es : List Entry) (c : Contact) (l : Lists)
           ∙ store-yes m _ (answered e))
 
   -- ---- so what a step leaves is the ledger's, where the facts are right of the store
-  acted-is : (call : Call) (facts : Facts) → OfStore call h facts → facts.gate ≡ Ok tt → ContactTyped c → ListsTyped l
+  acted-is : (call : Call) (facts : Facts Question) → OfStore call h facts → facts.gate ≡ Ok tt → ContactTyped c → ListsTyped l
       → let d = acted call facts m run c l out in standing d.left h d.lists d.out ≡ step HIGHEST (call_of call) h
   acted-is (Open id) facts o so fields typed = open_is facts o so refl (refl, refl)
   acted-is (Cover f t) facts o so fields typed = cover-is facts o so refl (refl, refl)
@@ -243,9 +243,9 @@ module _ (m : Mark) (run : List ℕ) (es : List Entry) (c : Contact) (l : Lists)
   acted-is Statement facts o so fields typed = statement-is facts o so refl typed (refl, refl)
   acted-is Write facts o so fields typed = write-is facts o so refl typed fields (refl, refl)
 
-  pub stepped : {call : Call} {facts : Facts} {d : Done} → Stepped call facts m run c l out d → OfStore call h facts → standing d.left h d.lists d.out ≡ step HIGHEST (call_of call) h
+  pub stepped : {call : Call} {facts : Facts Question} {d : Done} → Stepped number_of call facts m run c l out d → OfStore call h facts → standing d.left h d.lists d.out ≡ step HIGHEST (call_of call) h
   stepped {call} {facts} s o = ap (λ d. standing d.left h d.lists d.out) s.is ∙ go facts.gate refl
     where
-      go : (g : Gate) → facts.gate ≡ g → let d = dispatched g call facts m run c l out in standing d.left h d.lists d.out ≡ step HIGHEST (call_of call) h
+      go : (g : Gate) → facts.gate ≡ g → let d = dispatched number_of g call facts m run c l out in standing d.left h d.lists d.out ≡ step HIGHEST (call_of call) h
       go (Ok u) e = acted-is call facts o e s.contact s.lists
       go (Err q) e = refused-is facts o e refl

@@ -3,7 +3,6 @@
 use Rattle.std.specs.Prelude.{ℕ, List, Bool, true, false, Result, Ok, Err, cond, ◌≡◌, take}
 use Rattle.layout.specs.declared.question.Question.{Question}
 use Rattle.layout.specs.declared.question.Question.TheVariants as question
-use Rattle.layout.specs.Questions.{number_of}
 use Rattle.layout.specs.Layout as row
 use Rattle.layout.specs.Write as writer
 use Rattle.rows.specs.declared.ContactId.{ContactId}
@@ -56,7 +55,7 @@ input_of m run es c l out = record { mark = m; run = run; entries = es; contact 
 abbrev pub standing : Outcome → Input → Lists → (out : List ℕ) → hands.Left
 standing r h l out = leaves (says r.answer out) (input_of r.mark h.run h.entries r.contact l out)
 
-abbrev pub left_of : Left → Input → Lists → (out : List ℕ) → hands.Left
+abbrev pub left_of : Left Question → Input → Lists → (out : List ℕ) → hands.Left
 left_of r h l out = standing (outcome_of r) h l out
 
 -- ---- what a call has to know of the store
@@ -109,7 +108,7 @@ counts_queued Statement = true
 counts_queued Write = false
 
 -- the facts are right of what is handed in
-pub record OfStore (c : Call) (h : Input) (k : Facts) : Type 0 where
+pub record OfStore (c : Call) (h : Input) (k : Facts Question) : Type 0 where
   pub gate : k.gate ≡ gate_of (passed_for c h.mark h)
   pub which : k.id ≡ id_for c h.mark
   pub row : k.sought ≡ sought_in h.entries k.id.0
@@ -128,7 +127,7 @@ abbrev pub done_by : (writer.Written → row.Answer Answer) → Contact → Mark
 done_by say c m l w = done (left c m (say w.answer)) l w.out
 
 -- the call's part
-abbrev pub acted : Call → Facts → Mark → (run : List ℕ) → Contact → Lists → (out : List ℕ) → Done
+abbrev pub acted : {R : Type 0} → Call → Facts R → Mark → (run : List ℕ) → Contact → Lists → (out : List ℕ) → Done
 acted (Open id) k m run c l out = done (open_leaves k.sought k.id m c run l) (open_lists k.sought run l) out
 acted (Cover f t) k m run c l out = done (cover_leaves c m l.above f t) (above_as (cover_list c l.above f t) l) out
 acted (Contains n) k m run c l out = done (left c m (contains_says c l.above n)) l out
@@ -138,12 +137,12 @@ acted Statement k m run c l out = done_by line_says c m l (line_left k.id c k.qu
 acted Write k m run c l out = done_by row_says c m l (writes_contact c l out)
 
 -- a no before it is the answer, and changes nothing
-abbrev pub dispatched : Result (Unit {0}) Question → Call → Facts → Mark → (run : List ℕ) → Contact → Lists → (out : List ℕ) → Done
-dispatched (Ok u) call k m run c l out = acted call k m run c l out
-dispatched (Err q) call k m run c l out = done (left c m (row.refused_by (number_of q))) l out
+abbrev pub dispatched : {R : Type 0} → (numbered : R → ℕ) → Result (Unit {0}) R → Call → Facts R → Mark → (run : List ℕ) → Contact → Lists → (out : List ℕ) → Done
+dispatched numbered (Ok u) call k m run c l out = acted call k m run c l out
+dispatched numbered (Err r) call k m run c l out = done (left c m (row.refused_by (numbered r))) l out
 
 -- ... and what the types say of the fields and their lists
-pub record Stepped (call : Call) (k : Facts) (m : Mark) (run : List ℕ) (c : Contact) (l : Lists) (out : List ℕ) (d : Done) : Type 0 where
-  pub is : d ≡ dispatched k.gate call k m run c l out
+pub record Stepped {R : Type 0} (numbered : R → ℕ) (call : Call) (k : Facts R) (m : Mark) (run : List ℕ) (c : Contact) (l : Lists) (out : List ℕ) (d : Done) : Type 0 where
+  pub is : d ≡ dispatched numbered k.gate call k m run c l out
   pub contact : ContactTyped c
   pub lists : ListsTyped l

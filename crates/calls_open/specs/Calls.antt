@@ -1,7 +1,8 @@
 -- What the part of each call leaves once the questions before it are a yes, in the words of calls_step/specs/Step.antt and in document 01's order.
 -- Assumes nothing.
 use Rattle.std.specs.Prelude.{ℕ, ◌+◌, ◌-◌, ◌^◌, min, List, cond, ◌≡◌, length, ltb, Option, Some, None}
-use Rattle.layout.specs.Questions.{CONTACT_STORED, RANGE, MSGNO_LEFT}
+use Rattle.layout.specs.declared.question.Question.{Question}
+use Rattle.layout.specs.Questions.{number_of, CONTACT_STORED, RANGE, MSGNO_LEFT}
 use Rattle.layout.specs.Write as writer
 use Rattle.rows.specs.declared.ContactId.{ContactId}
 use Rattle.numbers.specs.Ranges as received
@@ -23,7 +24,7 @@ use Rattle.calls_open.specs.declared.Answer.TheVariants as answer
 use Rattle.calls_open.specs.declared.Left.{Left}
 use Rattle.layout.specs.Layout as row
 use Rattle.layout.specs.Layout.{accepted, refused_by}
-use Rattle.layout.specs.Says.{answers}
+use Rattle.layout.specs.Says.{answers_by}
 use Rattle.received.specs.declared.Change.{Change}
 
 -- ---- what is left by value: fields, mark, and the answer or the refusal
@@ -35,8 +36,11 @@ pub record Outcome : Type 0 where
 abbrev pub left : Contact → Mark → row.Answer Answer → Outcome
 left c m a = record { contact = c; mark = m; answer = a }
 
-abbrev pub outcome_of : Left → Outcome
-outcome_of r = left r.contact r.mark (answers r.answer)
+abbrev pub outcome_by : {R : Type 0} → (number : R → ℕ) → Left R → Outcome
+outcome_by number r = left r.contact r.mark (answers_by number r.answer)
+
+abbrev pub outcome_of : Left Question → Outcome
+outcome_of = outcome_by number_of
 
 -- ---- cover, contains, covers
 abbrev pub covered_in : Contact → (above : List ℕ) → Received
@@ -77,7 +81,7 @@ row_says (writer.wrote n) = accepted (answer.Wrote n)
 row_says (writer.refuses q) = refused_by q
 
 -- fields and mark stay, the answer is what a writer's would be, and the output as that writer leaves it
-pub record WrittenBy (c : Contact) (m : Mark) (say : writer.Written → row.Answer Answer) (w : writer.Left) (r : Left) (out : List ℕ) : Type 0 where
+pub record WrittenBy (c : Contact) (m : Mark) (say : writer.Written → row.Answer Answer) (w : writer.Left) (r : Left Question) (out : List ℕ) : Type 0 where
   pub answer : outcome_of r ≡ left c m (say w.answer)
   pub output : out ≡ w.out
 

@@ -3,16 +3,16 @@
 #![tactic(auto)]
 
 ghost use Rattle.std.specs.Prelude.{◌≡◌};
-ghost use Rattle.layout.specs.Says.{answers};
+ghost use Rattle.layout.specs.Says.{answers_by, answers};
 ghost use Rattle.contact.specs.Contact.{read_in, held_in, SameLists};
 ghost use Rattle.contact_image.specs.Row.{writes_contact};
 ghost use Rattle.numbers.specs.Ranges.{is_range};
 ghost use Rattle.calls_step.specs.Step.{renumbered};
-ghost use Rattle.calls_open.specs.Calls.{left, outcome_of, contains_says, covers_says, covered_by, cover_leaves, cover_list, take_leaves, line_says, row_says, WrittenBy, line_left, opened_by, open_leaves, open_lists};
+ghost use Rattle.calls_open.specs.Calls.{left, outcome_by, outcome_of, contains_says, covers_says, covered_by, cover_leaves, cover_list, take_leaves, line_says, row_says, WrittenBy, line_left, opened_by, open_leaves, open_lists};
 
 use calls_step::Mark;
 use contact::{Contact, ListsMut, ListsRef};
-use layout::Question;
+use layout::{Numbered, Question};
 use received::{Change, Received, ReceivedMut};
 use rows::ContactId;
 use store::Entry;
@@ -31,16 +31,16 @@ pub enum Answer {
 
 // What a call leaves by value. What it leaves in lent lists stands there.
 #[derive(Clone, Copy)]
-pub struct Left {
+pub struct Left<R = Question> {
     pub contact: Contact,
     pub mark: Mark,
-    pub answer: Result<Answer, Question>,
+    pub answer: Result<Answer, R>,
 }
 
 // Fields and mark as they were handed in, and an answer.
 // Kept: the new form is no plainer: contact and mark come as a call's two values, and Left has both; lists and output are lent to calls that use them only.
-pub fn answered(contact: Contact, mark: Mark, answer: Result<Answer, Question>) -> Left
-    ensures { outcome_of result ≡ left contact mark (answers answer) }
+pub fn answered<R: Numbered>(contact: Contact, mark: Mark, answer: Result<Answer, R>) -> Left<R>
+    ensures { outcome_by R.number result ≡ left contact mark (answers_by R.number answer) }
 {
     Left {
         contact,

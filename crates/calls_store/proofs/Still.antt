@@ -8,6 +8,7 @@ use mathlib.Core.Path.{◌≡◌, refl, sym, ap, ◌∙◌}
 use lib.Dec.{T}
 use Rattle.std.specs.Prelude.{Option as Optional, Some, Result, Ok, Err, is_some, is_ok}
 use lib.ListN.{length, take}
+use Rattle.layout.specs.declared.question.Question.{Question}
 use Rattle.layout.specs.Questions.{LISTS, PEER_ACKED, UNACKED, ABOVE, EXPIRED}
 use Rattle.layout.specs.Layout.{Answer, accepted, refused_by, read_row}
 use Rattle.layout.specs.Write as write
@@ -69,12 +70,12 @@ module _ (c : Contact) (l : Lists) (ty : ContactTyped c) (lt : ListsTyped l) whe
       go false counts y read p = absurd (false≢true p)
 
 -- ---- a store is granted if every question is a yes
-all-granted : (run : List ℕ) (es : List Entry) (omitted : Omitted) (end : Result Granted Refusal) → restored_says end ≡ questioned run es omitted
+all-granted : (run : List ℕ) (es : List Entry) (omitted : Omitted) (end : Result Granted (Refusal Question)) → restored_says end ≡ questioned run es omitted
     → is_ok end ≡ going (asked_omitted run es (is_omitted omitted) (omitted_seen omitted))
 all-granted run es omitted end is =
     said end ∙ ap is_granted is ∙ go (asked_omitted run es (is_omitted omitted) (omitted_seen omitted)) (next_in (seen_omitted run es (is_omitted omitted) (omitted_seen omitted)) es) (slots_below es (length es))
   where
-    said : (r : Result Granted Refusal) → is_ok r ≡ is_granted (restored_says r)
+    said : (r : Result Granted (Refusal Question)) → is_ok r ≡ is_granted (restored_says r)
     said (Ok g) = refl
     said (Err r) = refl
 
@@ -90,7 +91,7 @@ module _ (run : List ℕ) (es : List Entry) (id : ContactId) (c : Contact) (l : 
   abbrev input : Input
   input = record { mark = Fresh; run = run; entries = es; contact = c; lists = l; out = [] }
 
-  still-is : (writable : Bool) (sought : Optional Entry) (omitted : Omitted) (end : Result Granted Refusal) (count : ℕ) (among r : Bool)
+  still-is : (writable : Bool) (sought : Optional Entry) (omitted : Omitted) (end : Result Granted (Refusal Question)) (count : ℕ) (among r : Bool)
       → Writable c l writable → sought ≡ sought_in es k → omitted ≡ Some (record { contact = id; sent_msgno = c.sent_msgno }) → restored_says end ≡ questioned run es omitted → count ≡ c.unacked
       → among ≡ queued_found k (take count l.unacked) es
       → r ≡ (writable && (is_some sought && (is_ok end && not among)))
@@ -119,7 +120,7 @@ module _ (run : List ℕ) (es : List Entry) (id : ContactId) (c : Contact) (l : 
           (λ f. refl)
 
   -- ---- whatever it is asked of
-  pub passes-is : (asking : Asking) (writable : Bool) (sought : Optional Entry) (omitted : Omitted) (end : Result Granted Refusal) (count : ℕ) (among r : Bool)
+  pub passes-is : (asking : Asking) (writable : Bool) (sought : Optional Entry) (omitted : Omitted) (end : Result Granted (Refusal Question)) (count : ℕ) (among r : Bool)
       → WritableFor asking c l writable → omitted ≡ omitted_for asking id c → restored_says end ≡ questioned run es omitted → count ≡ count_for asking c
       → among ≡ queued_found k (take count l.unacked) es
       → r ≡ yes_for asking writable (is_some sought) (is_ok end) among

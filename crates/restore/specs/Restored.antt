@@ -1,6 +1,7 @@
 -- What restore answers, and the questions with a contact's row left out.
 -- Assumes nothing.
 use Rattle.std.specs.Prelude.{ℕ, List, Bool, true, false, cond, length, eqb, Result, Ok, Err}
+use Rattle.layout.specs.declared.question.Question.{Question}
 use Rattle.layout.specs.Questions.{number_of, ORDER}
 use Rattle.store.specs.declared.Entry.{Entry}
 use Rattle.store.specs.declared.Refusal.{Refusal}
@@ -16,7 +17,7 @@ pub data Restored : Type 0 where
   Refused : (number place : ℕ) → Restored
 
 -- ... in code
-abbrev pub restored_says : Result code.Granted Refusal → Restored
+abbrev pub restored_says : Result code.Granted (Refusal Question) → Restored
 restored_says (Ok g) = Granted g.next_contact g.next_slot
 restored_says (Err r) = Refused (number_of r.question) r.place
 

@@ -7,6 +7,7 @@ use native.Mathlib.Omega.{arith}
 use native.Mathlib.Nat.{min-eq_left}
 use lib.ListN.{length, take}
 use Rattle.std.specs.Prelude.{Result, Ok, Err}
+use Rattle.layout.specs.declared.question.Question.{Question}
 use Rattle.layout.specs.Questions.{number_of}
 use Rattle.layout.specs.Write.{Left, stored}
 use Rattle.numbers.specs.Decimal.{fields_text}
@@ -46,7 +47,7 @@ module _ (run : List ℕ) (es : List Entry) where
           text-refused run es r ∙ (λ i. LETTER_R ∷ fields_text (number_is i ∷ place_is i ∷ []))
 
 -- ---- what restore answered of the entries of n lines
-module _ (run records : List ℕ) (n : ℕ) (few : n ≤ ENTRIES) (r : Result yes.Granted no.Refusal) (is : restored_says r ≡ answered (restore (store_of run (entries_from (min n ENTRIES) records)))) where
+module _ (run records : List ℕ) (n : ℕ) (few : n ≤ ENTRIES) (r : Result yes.Granted (no.Refusal Question)) (is : restored_says r ≡ answered (restore (store_of run (entries_from (min n ENTRIES) records)))) where
   restored : restored_says r ≡ answered (restore (store_of run (entries_from n records)))
   restored = is ∙ ap (λ (m : ℕ). answered (restore (store_of run (entries_from m records)))) (min-eq_left few)
 
@@ -54,7 +55,7 @@ module _ (run records : List ℕ) (n : ℕ) (few : n ≤ ENTRIES) (r : Result ye
       → text_of run (entries_from n records) ≡ lines_from run (entries_from n records) (entries_from n records) ++ last_line (count_from run (entries_from n records)) (entries_from n records) g.next_slot
   table-granted e = granted-text run (entries_from n records) (sym restored ∙ ap restored_says e)
 
-  pub table-refused : {f : no.Refusal} {q m : ℕ} → r ≡ Err f → q ≡ number_of f.question → m ≡ q → text_of run (entries_from n records) ≡ LETTER_R ∷ fields_text (m ∷ f.place ∷ [])
+  pub table-refused : {f : no.Refusal Question} {q m : ℕ} → r ≡ Err f → q ≡ number_of f.question → m ≡ q → text_of run (entries_from n records) ≡ LETTER_R ∷ fields_text (m ∷ f.place ∷ [])
   table-refused {f} e q m = refused-text run (entries_from n records) (sym restored ∙ ap restored_says e) ∙ (λ i. LETTER_R ∷ fields_text (sym (m ∙ q) i ∷ f.place ∷ []))
 
 -- ---- what the reader answered
