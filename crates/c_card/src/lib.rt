@@ -37,7 +37,7 @@ pub fn zero_or<R: Numbered>(written: Result<usize, R>) -> u32
 {
     match written {
         Ok(_) => 0,
-        Err(refusal) => u32::from(refusal.number()),
+        Err(question) => u32::from(question.number()),
     }
 }
 
