@@ -37,7 +37,7 @@ abbrev pub left : Contact → Mark → row.Answer Answer → Outcome
 left c m a = record { contact = c; mark = m; answer = a }
 
 abbrev pub outcome_by : {R : Type 0} → (number : R → ℕ) → Left R → Outcome
-outcome_by number r = left r.contact r.mark (answers_by number r.answer)
+outcome_by number r = record { contact = r.contact; mark = r.mark; answer = answers_by number r.answer }
 
 abbrev pub outcome_of : Left Question → Outcome
 outcome_of = outcome_by number_of
