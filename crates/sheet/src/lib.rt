@@ -373,6 +373,18 @@ pub fn step(s: State, b: u8, run: &mut [u8], records: &mut [u64]) -> State
     take_other(s, b)
 }
 
+// Whether a byte leaves all that is held as it was: behind a refusal every byte does, and in a line that waits all but LF and comma.
+#[tactic(auto, unfolding(crate::specs::Machine::stepped, crate::specs::Machine::other_step))]
+fn stays(s: State, b: u8) -> bool
+    ensures { (run records : List ℕ) → result ≡ true → stepped b (held s run records) ≡ held s run records }
+{
+    match s.phase {
+        REFUSED => true,
+        WAIT => b != LF && b != COMMA,
+        _ => false,
+    }
+}
+
 // Pairs of digits where the reader stands between pairs of a blob; none elsewhere.
 fn pairs_in(s: State, rest: &[u8]) -> usize
     ensures value { result ≡ cond (eqb s.phase machine.HIGH) (hex_pairs rest.now) 0 }
@@ -418,6 +430,10 @@ pub fn read_chunk(state: State, chunk: &[u8], run: &mut [u8], records: &mut [u64
     let mut rest = chunk;
     // Kept: the new form is no plainer: a turn takes one byte or as many as stand in pairs, which it finds itself and no iterator counts
     while let Some((b, behind)) = rest.split_first() {
+        if stays(s, *b) {
+            rest = behind;
+            continue;
+        }
         let n = 2 * pairs_in(s, rest);
         if 0 < n {
             s = take_pairs(s, &rest[..n], run);
