@@ -37,7 +37,8 @@ pub fn sealed_queued(len: usize) -> bool
     is_bucket(len - TAG_LEN)
 }
 
-// Whether a carried row's sealed text may be this long.
+// Whether a carried row's sealed text may be this long. A row that is read and written again is asked twice; inlined, the second answer is known.
+#[inline(always)]
 pub fn sealed_carried(len: usize) -> bool
     ensures { result ≡ sealed_carried len }
 {
