@@ -3,10 +3,10 @@
 use Prim.Native.Nat.{ℕ}
 use mathlib.Core.List.{List}
 use mathlib.Core.Bool.{Bool, true, false}
-use mathlib.Core.Path.{◌≡◌}
+use mathlib.Core.Path.{◌≡◌, ap, ◌∙◌}
 use borrow.Author.Tests.{leb-true}
 use Rattle.layout.specs.Questions.{LISTS}
-use Rattle.layout.specs.Layout.{accepted, refused_by, read_row}
+use Rattle.layout.specs.Layout.{Answer, accepted, refused_by, read_row}
 use Rattle.layout.specs.RowLaws.{Bytes}
 use Rattle.layout.proofs.Front.{number-lawful}
 use Rattle.rows.specs.Values as value
@@ -16,23 +16,21 @@ use Rattle.contact_lists.proofs.Ends.{listed-fits}
 use Rattle.numbers.specs.Lists.{room_for}
 use Rattle.contact.specs.Check.{contact_from, counts_at, Offsets}
 use Rattle.contact.specs.Contact as spec
-use Rattle.contact.specs.Contact.{Lists, lengths_of, contact_of, long_enough, filled, reads, Fillable}
+use Rattle.contact.specs.Contact.{Lists, Left, lengths_of, contact_of, long_enough, filled, opened, reads, Fillable}
 use Rattle.contact.specs.declared.ContactAt.{ContactAt}
 use Rattle.contact.proofs.Counts.{five, in-51, in-46, in-2}
 
-module _ (version : ℕ) (row : List ℕ) (l : Lists) where
-  pub not-read : {q : ℕ} → read_row (contact version) row ≡ refused_by q → reads version row l ≡ record { answer = refused_by q; lists = l }
-  unfolding spec.reads
-  not-read e = rw e
+-- a is the row's answer, and x what it leaves
+pub opened-is : (version : ℕ) (row : List ℕ) (l : Lists) {a : Answer value.Contact} → a ≡ read_row (contact version) row → {x : Left} → x ≡ opened a l → x ≡ reads version row l
+unfolding spec.reads
+opened-is version row l e left = left ∙ ap (λ a. opened a l) e
 
-  pub too_short : {v : value.Contact} → read_row (contact version) row ≡ accepted v → long_enough v l ≡ false → reads version row l ≡ record { answer = refused_by LISTS; lists = l }
-  unfolding spec.reads
-  too_short e h = rw (e, h)
+module _ (v : value.Contact) (l : Lists) where
+  pub too_short : long_enough v l ≡ false → opened (accepted v) l ≡ record { answer = refused_by LISTS; lists = l }
+  too_short h = rw h
 
-  pub is_read : {v : value.Contact} → read_row (contact version) row ≡ accepted v → long_enough v l ≡ true
-      → reads version row l ≡ record { answer = accepted (contact_of v); lists = filled v l }
-  unfolding spec.reads
-  is_read e h = rw (e, h)
+  pub is_filled : long_enough v l ≡ true → opened (accepted v) l ≡ record { answer = accepted (contact_of v); lists = filled v l }
+  is_filled h = rw h
 
 -- ---- 36, asked of the counts
 module _ (row : List ℕ) (by : Bytes row) (at : ContactAt) (p : Offsets row at) (l : Lists) where

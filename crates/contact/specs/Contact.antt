@@ -7,7 +7,7 @@ use denote.Triple.Both.{Both}
 use Rattle.std.specs.Prelude as code
 use Rattle.layout.specs.declared.question.Question.{Question}
 use Rattle.layout.specs.Questions.{LISTS}
-use Rattle.layout.specs.Says.{answers}
+use Rattle.layout.specs.Says.{answers, answer_says}
 use Rattle.layout.specs.Veil.{zeros}
 use Rattle.layout.specs.Layout.{Answer, accepted, refused_by, read_row, group, present}
 use Rattle.rows.specs.Values as value
@@ -187,6 +187,10 @@ leaves r l = record { answer = answers r; lists = l }
 abbrev pub opened : Answer value.Contact → Lists → Left
 opened (accepted v) l = cond (long_enough v l) (record { answer = accepted (contact_of v); lists = filled v l }) (record { answer = refused_by LISTS; lists = l })
 opened (refused_by q) l = record { answer = refused_by q; lists = l }
+
+-- the same of a row that was read, whose lists alone are filled
+abbrev pub fills : value.Contact → code.Result (Unit {0}) Question → Lists → Left
+fills v r l = record { answer = answer_says (λ u. contact_of v) r; lists = l }
 
 unfoldable pub reads : ℕ → List ℕ → Lists → Left
 reads version row l = opened (read_row (contact version) row) l

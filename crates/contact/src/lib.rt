@@ -3,16 +3,17 @@
 
 ghost use Rattle.std.specs.Prelude.{◌≡◌, ◌/◌, ◌<◌};
 ghost use Rattle.layout.specs.Read.{first};
-ghost use Rattle.layout.specs.Layout.{read_row};
+ghost use Rattle.layout.specs.Layout.{accepted, read_row};
+ghost use Rattle.layout.specs.RowLaws.{Bytes};
 ghost use Rattle.rows.specs.Answers.{verdict_of};
 ghost use Rattle.rows.specs.Rows as layouts;
 ghost use Rattle.numbers.specs.Lists.{room_for};
 ghost use Rattle.card.specs.Card.{card_of};
 ghost use Rattle.contact_parts.specs.Offsets.{ChainedLists, NumbersLists, chained_from, numbers_from, CardOffsets, card_in, pending_from, send_from};
 ghost use Rattle.contact.specs.Consistent.{chains_refusal, numbers_refusal, refusal_in};
-ghost use Rattle.layout.specs.Says.{answers, made};
+ghost use Rattle.layout.specs.Says.{answers, answer_says, made};
 ghost use Rattle.contact.specs.Check.{contact_at, contact_from, counts_at, PendingRuns, SendRuns, Filling};
-ghost use Rattle.contact.specs.Contact.{pending_keys_of, send_part_of, contact_of, zero_contact, lengths_of, read_in, held_in, SameLists, filled, Fillable, leaves, reads};
+ghost use Rattle.contact.specs.Contact.{pending_keys_of, send_part_of, contact_of, zero_contact, lengths_of, read_in, held_in, SameLists, filled, Fillable, leaves, reads, fills, opened};
 
 use card::Card;
 use contact_parts::{ChainedAt, KeysAt, NumbersAt, PairedAt};
@@ -104,6 +105,16 @@ pub struct ContactAt {
     pub keys: KeysAt,
     pub chained: ChainedAt,
     pub numbers: NumbersAt,
+}
+
+// A contact row of which every answer was a yes: what a contact and the items of its lists are copied from.
+// So the questions are asked first, and places for a contact are cleared only where there is one.
+#[derive(Clone, Copy)]
+pub struct CheckedRow<'a> {
+    pub row: &'a [u8],
+    pub at: ContactAt,
+    ghost bytes: { Bytes row.now },
+    ghost read: { accepted at ≡ made (contact_at 3) (read_row (layouts.contact 3) row.now) },
 }
 
 // Questions 54 and 17 to 20, of chains and skipped keys that were read.
@@ -250,12 +261,38 @@ impl Contact {
     pub fn decode(version: u32, row: &[u8], lists: &mut ListsMut<'_>) -> Result<Contact, Question>
         ensures { (leaves result (held_in lists.new) ≡ reads version row.now (held_in lists.old)) × SameLists lists.old lists.new }
     {
+        let checked = CheckedRow::check(version, row)?;
+        checked.fill(lists)?;
+        Ok(checked.contact())
+    }
+}
+
+impl<'a> CheckedRow<'a> {
+    // The questions of a contact row.
+    pub fn check(version: u32, row: &'a [u8]) -> Result<CheckedRow<'a>, Question>
+        ensures { answer_says (λ c. contact_from c.row.now c.at) result ≡ read_row (layouts.contact version) row.now }
+    {
         let at = check_contact(version, row)?;
-        if !long_enough(at, lists.read()) {
+        Ok(CheckedRow { row, at })
+    }
+
+    // Question 36, and then the items copied into the lent lists; places past them stay, as do all where a list is too short.
+    pub fn fill(self, lists: &mut ListsMut<'_>) -> Result<(), Question>
+        ensures { let v = contact_from self.entry.row.now self.entry.at in
+            (fills v result (held_in lists.new) ≡ opened (accepted v) (held_in lists.old)) × SameLists lists.old lists.new }
+    {
+        if !long_enough(self.at, lists.read()) {
             return Err(Question::Lists);
         }
-        fill_lists(row, at, lists);
-        Ok(contact_from(row, at))
+        fill_lists(self.row, self.at, lists);
+        Ok(())
+    }
+
+    // Its contact, but for the items of its lists.
+    pub fn contact(self) -> Contact
+        ensures { result ≡ contact_of (contact_from self.entry.row.now self.entry.at) }
+    {
+        contact_from(self.row, self.at)
     }
 }
 

@@ -10,11 +10,13 @@ ghost use Rattle.layout.specs.Says.{made, written_says, leaves};
 ghost use Rattle.layout.specs.Questions.{number_of};
 ghost use Rattle.queued_row.proofs.RoundTrip as queued_trip;
 ghost use Rattle.courier_row.proofs.RoundTrip as courier_trip;
-ghost use Rattle.contact.specs.Contact.{read_in, held_in, SameLists};
+ghost use Rattle.contact.specs.Check.{contact_from};
+ghost use Rattle.contact.specs.Contact.{contact_of, read_in, held_in, SameLists};
+ghost use Rattle.contact_image.specs.Row.{writes_contact};
 ghost use Rattle.rewrite.specs.Rewrite as spec;
 ghost use Rattle.rewrite.specs.Rewrite.{without_room, rewrites};
 
-use contact::{Contact, ListsMut, ListsRef};
+use contact::{CheckedRow, ListsMut, ListsRef};
 use courier_row::Held;
 use layout::Question;
 use queued_row::Outgoing;
@@ -85,6 +87,18 @@ pub fn rewrite_contact(
     if out.len() < row.len() {
         return Err(without_room(version, row, lists.read()));
     }
-    let contact = Contact::decode(version, row, lists)?;
-    contact_row::write_contact(contact, lists.read(), out)
+    let checked = CheckedRow::check(version, row)?;
+    checked.fill(lists)?;
+    write_again(checked, lists.read(), out)
+}
+
+// The contact of a checked row written. Apart, since a function clears the places of its locals first: here the contact's, which a refusal has no use for.
+fn write_again(
+    checked: CheckedRow<'_>,
+    lists: ListsRef<'_>,
+    out: &mut [u8],
+) -> Result<usize, Question>
+    ensures { leaves result out.new ≡ writes_contact (contact_of (contact_from checked.entry.row.now checked.entry.at)) (read_in lists.entry) out.old }
+{
+    contact_row::write_contact(checked.contact(), lists, out)
 }

@@ -4,6 +4,7 @@ use mathlib.Core.Path.{refl, ap, ◌∙◌}
 use Rattle.layout.specs.Write.{refuses}
 use Rattle.layout.proofs.At.{typed}
 use Rattle.contact.specs.Contact.{held_in}
+use Rattle.contact.proofs.Read.{opened-is}
 use Rattle.rewrite.specs.Rewrite.{leaves}
 use Rattle.rewrite.proofs.Contact.{no_room, refused, granted}
 use Rattle.rewrite.proofs.rewrite_contact.Goals as goal
@@ -16,13 +17,21 @@ returns-then-out-row c =
       (refl, refl, refl, refl, refl),
     )
 
-pub returns-in_err-contact : goal.returns-in_err-contact
-returns-in_err-contact c =
-    let no : c.from_residual.result ≡ Err c.in_err-contact.field-0.0 = search rules in
-    rw no (refused c.args.version c.args.row.now _ c.args.out.now c.if-out-row.false c.in_err-contact.ensures.0, c.in_err-contact.ensures.1)
+pub returns-in_err-checked : goal.returns-in_err-checked
+returns-in_err-checked c =
+    let no : c.from_residual.result ≡ Err c.in_err-checked.field-0.0 = search rules in
+    let read = opened-is c.args.version c.args.row.now _ c.in_err-checked.ensures refl in
+    rw no (refused c.args.version c.args.row.now _ c.args.out.now c.if-out-row.false read, (refl, refl, refl, refl, refl))
+
+pub returns-in_err-fill : goal.returns-in_err-fill
+returns-in_err-fill c =
+    let no : c.from_residual-in_err-fill.result ≡ Err c.in_err-fill.field-0.0 = search rules in
+    let read = opened-is c.args.version c.args.row.now _ c.in_ok-checked.ensures c.in_err-fill.ensures.0 in
+    rw no (refused c.args.version c.args.row.now _ c.args.out.now c.if-out-row.false read, c.in_err-fill.ensures.1)
 
 pub returns : goal.returns
-returns c = (
-  granted c.args.version c.args.row.now _ c.args.out.now c.if-out-row.false (typed c.args.row.now c.type_inv.row) c.in_ok-contact.ensures.0 (rw c.read-2.ensures at c.write_contact.ensures),
-  c.in_ok-contact.ensures.1,
-)
+returns c =
+    let read = opened-is c.args.version c.args.row.now _ c.in_ok-checked.ensures c.in_ok-fill.ensures.0 in (
+      granted c.args.version c.args.row.now _ c.args.out.now c.if-out-row.false (typed c.args.row.now c.type_inv.row) read (rw c.read-2.ensures at c.write_again.ensures),
+      c.in_ok-fill.ensures.1,
+    )
