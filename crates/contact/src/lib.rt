@@ -108,7 +108,7 @@ pub struct ContactAt {
 }
 
 // A contact row of which every answer was a yes: what a contact and the items of its lists are copied from.
-// So the questions are asked first, and places for a contact are cleared only where there is one.
+// Whoever has one has asked the questions, and only then clears places for a contact, of which a refusal has no use.
 #[derive(Clone, Copy)]
 pub struct CheckedRow<'a> {
     pub row: &'a [u8],
@@ -258,12 +258,14 @@ impl Contact {
     }
 
     // Reads the row into the struct and the lent lists. A refusal changes no list.
+    // Apart in the machine's code too: else every call of a store would clear this contact's places, whichever call it is.
+    #[inline(never)]
     pub fn decode(version: u32, row: &[u8], lists: &mut ListsMut<'_>) -> Result<Contact, Question>
         ensures { (leaves result (held_in lists.new) ≡ reads version row.now (held_in lists.old)) × SameLists lists.old lists.new }
     {
         let checked = CheckedRow::check(version, row)?;
         checked.fill(lists)?;
-        Ok(checked.contact())
+        Ok(contact_from(checked.row, checked.at))
     }
 }
 
@@ -364,6 +366,8 @@ fn send_from(row: &[u8], at: ChainedAt) -> Send
 }
 
 // The contact at the places that check_contact found; its lists' items are filled apart.
+// Inlined, so that its fields are stored where the caller wants them, and the whole is not copied there.
+#[inline(always)]
 fn contact_from(row: &[u8], at: ContactAt) -> Contact
     requires { Filling row.now at }
     ensures { result ≡ contact_of (contact_from row.now at) }

@@ -92,7 +92,7 @@ pub fn rewrite_contact(
     write_again(checked, lists.read(), out)
 }
 
-// The contact of a checked row written. Apart, since a function clears the places of its locals first: here the contact's, which a refusal has no use for.
+// The contact of a checked row, written. Apart, since a function first clears the places of its locals: here the contact's.
 fn write_again(
     checked: CheckedRow<'_>,
     lists: ListsRef<'_>,

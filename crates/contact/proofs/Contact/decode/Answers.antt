@@ -3,6 +3,7 @@ use Rattle.std.proofs.Common.{rules, ◌≡◌, Err}
 use mathlib.Core.Path.{refl, ◌∙◌}
 use Rattle.layout.specs.Layout.{accepted}
 use Rattle.contact.specs.Contact.{held_in}
+use Rattle.contact.proofs.Checked.{runs-inside}
 use Rattle.contact.proofs.Read.{opened-is}
 use Rattle.contact.proofs.Contact.decode.Goals as goal
 
@@ -16,9 +17,12 @@ returns-in_err-fill c =
     let no : c.from_residual-in_err-fill.result ≡ Err c.in_err-fill.field-0.0 = search rules in
     rw no (opened-is c.args.version c.args.row.now _ c.in_ok-checked.ensures c.in_err-fill.ensures.0, c.in_err-fill.ensures.1)
 
+pub contact_from-requires : goal.contact_from-requires
+contact_from-requires c = runs-inside c.in_ok-checked.checked
+
 pub returns : goal.returns
 returns c = (
   opened-is c.args.version c.args.row.now _ c.in_ok-checked.ensures
-      ((λ i. record { answer = accepted (c.contact.ensures i); lists = held_in c.fill.new.lists }) ∙ c.in_ok-fill.ensures.0),
+      ((λ i. record { answer = accepted (c.contact_from.ensures i); lists = held_in c.fill.new.lists }) ∙ c.in_ok-fill.ensures.0),
   c.in_ok-fill.ensures.1,
 )
