@@ -78,10 +78,7 @@ fn told_by<R: Numbered>(left: Left) -> Left<R>
     Left {
         contact: left.contact,
         mark: left.mark,
-        answer: match left.answer {
-            Ok(answer) => Ok(answer),
-            Err(refusal) => Err(R::from_question(refusal)),
-        },
+        answer: left.answer.map_err(|refusal| R::from_question(refusal)),
     }
 }
 

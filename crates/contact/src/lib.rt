@@ -265,6 +265,7 @@ impl Contact {
     {
         let checked = CheckedRow::check(version, row)?;
         checked.fill(lists)?;
+        // as `contact` does, which is not inlined
         Ok(contact_from(checked.row, checked.at))
     }
 }

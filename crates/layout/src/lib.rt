@@ -1,4 +1,4 @@
-// The layout language is a specification (specs/); its code is the questions, by name.
+// The layout language is a specification (specs/); its code is the questions, by name, and what says one by its number.
 #![tactic(auto)]
 
 pub use numbered::Numbered;

@@ -55,7 +55,7 @@ pub fn put_array<const N: usize>(out: &mut [u8], at: usize, src: &[u8; N]) -> us
     requires { at + N ≤ length out.old }
     ensures { (result ≡ at + N) × Wrote out.old at src.now out.new result }
 {
-    // Kept: copy_from_slice is no plainer, and behind it the compiler keeps each array in memory: a courier row's veil took twice the instructions.
+    // Kept: behind copy_from_slice the compiler keeps each array in memory: a courier row's veil took twice the instructions.
     for (i, byte) in src.iter().enumerate() {
         out[at + i] = *byte;
     }

@@ -1,4 +1,4 @@
-// Entries as a lent slice of structs: one is copied out by value, one is stored, and one is looked for. Everything else takes an entry by value.
+// Entries as a lent slice of structs: one is copied out by value, one is stored, and one is looked for.
 #![tactic(auto)]
 
 ghost use Rattle.std.specs.Prelude.{◌≡◌, ◌-◌, length, set};

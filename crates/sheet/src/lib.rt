@@ -373,7 +373,7 @@ pub fn step(s: State, b: u8, run: &mut [u8], records: &mut [u64]) -> State
     take_other(s, b)
 }
 
-// Whether a byte leaves all that is held as it was: behind a refusal every byte does, and in a line that waits all but LF and comma.
+// True only where a byte leaves all that is held as it was: behind a refusal, and in a line that waits for all but LF and comma.
 #[tactic(auto, unfolding(crate::specs::Machine::stepped, crate::specs::Machine::other_step))]
 fn stays(s: State, b: u8) -> bool
     ensures { (run records : List ℕ) → result ≡ true → stepped b (held s run records) ≡ held s run records }

@@ -44,7 +44,7 @@ abbrev pub rounds : List Round → ℕ → Asked → Asked
 rounds [] n a = a
 rounds (r ∷ rs) n a = rounds rs n (turns r 0 n a)
 
--- what code answers, which hands nothing on: an error is the first no
+-- what code answers: an error is the first no, by its number
 abbrev pub asked_by : {R : Type 0} → (number : R → ℕ) → Result (Unit {0}) (Refusal R) → Asked
 asked_by number (Ok u) = Going
 asked_by number (Err r) = Refused (number r.question) r.place

@@ -1,4 +1,4 @@
-// A loop that lends two `&mut` slices again in each turn, until the product has one. `sheet_entries::fill_from` lends one.
+// A loop over lent entries that lends two `&mut` slices again in each turn, one of them a list of entries, which no program does yet.
 #![tactic(auto)]
 
 ghost use Rattle.std.specs.Prelude.{◌≡◌, map, min, length, set};
